@@ -2,6 +2,7 @@
 import signal
 import time
 import unittest
+from typing import List
 from unittest import mock
 
 from rdbg.rooms import web_follower
@@ -18,13 +19,38 @@ class Long(OnPage):
     def test_the_room_ends(self) -> None:
         with web_room() as room:
             self.visit(room)
+            self.assertGreater(len(self.enabled("#top", "button")), 10)
+            self.browser.key("s")
+            self.browser.key("s")
+            self.at(2)
             room.end_well()
             self.browser.until("document.querySelector('#connection').textContent !== ''")
             self.assertEqual("The room has ended.", self.browser.text("#connection"))
             self.said("the room has ended: ")
-            self.click("#tick")
-            self.said("tick -> the room can't be reached")
-            self.spares_errors = True  # (the browser says so as well)
+            self.assertEqual("1", self.value("document.querySelector('#count').value"))
+            sends = "button, input, select"
+            self.assertGreater(len(self.enabled("body", sends)), 10)
+            self.assertEqual([], self.enabled("#top", sends))
+            said = self.browser.texts("#talk li")
+            for key in ("s", "k", "b", "r", "f", "l"):
+                self.browser.key(key)
+            for selector in ("#tick", "#steps button", "#take", "#rename button"):
+                self.click(selector)
+            self.assertEqual(said, self.browser.texts("#talk li"))
+            self.browser.key("ArrowLeft")
+            self.assertIn("State at place 1:", self.browser.text("#state-title"))
+            self.browser.key("End")
+            self.assertIn("State at place 2:", self.browser.text("#state-title"))
+            self.browser.key("?")
+            self.assertTrue(self.value("document.querySelector('#help').open"))
+
+    def enabled(self, within: str, selector: str) -> List[str]:
+        """The elements that can be used."""
+        found = f"[...document.querySelectorAll('{within} :is({selector})')]"
+        texts: List[str] = self.value(
+            f"{found}.filter((it) => !it.matches(':disabled')).map((it) => it.outerHTML)"
+        )
+        return texts
 
     def test_a_room_that_is_killed(self) -> None:
         with web_room() as room:

@@ -3,7 +3,8 @@ import time
 import unittest
 from typing import Any
 
-from tests.web_rooms import OnPage, session, web_room
+from tests.chromium import Browser
+from tests.web_rooms import COMING, OnPage, come_in, say_name, session, web_room
 
 
 class Runs(OnPage):
@@ -60,6 +61,67 @@ class Runs(OnPage):
             self.browser.until("document.querySelector('#wheel').textContent.startsWith('You')")
             self.click("#tick")
             self.at(1)
+
+
+class People(OnPage):
+    """Each browser is somebody of its own."""
+
+    def test_two_browsers_of_one_address_are_two_people(self) -> None:
+        with web_room() as room, Browser() as other:
+            self.visit(room, "ada")
+            self.click("#take")
+            self.browser.until("document.querySelector('#wheel').textContent.startsWith('You')")
+            self.fill("#condition", "tick > 0")
+            self.click("#watch")
+            self.browser.until("document.querySelector('#watches').textContent !== ''")
+            self.browser.visit("about:blank")
+            # (the other one is asked who comes, and has nothing of who was there before)
+            self.assertTrue(come_in(other, room.address, "bo"))
+            self.assertEqual(
+                ["ada (session 1), away, has the wheel", "bo (session 2), you"],
+                other.texts("#people li"),
+            )
+            self.assertEqual("", other.text("#watches"))
+            self.assertEqual(
+                "ada has the wheel, and is away: your moves are refused.", other.text("#wheel")
+            )
+            # (who was there has it all again, and isn't asked)
+            self.assertFalse(come_in(self.browser, room.address, "eve"))
+            self.browser.until("document.querySelector('#wheel').textContent.startsWith('You')")
+            self.browser.until("document.querySelector('#watches').textContent.includes('fails')")
+            self.assertEqual([], other.errors)
+
+    def test_a_name_that_is_let_in(self) -> None:
+        with web_room() as room, session(room, "left"):
+            self.browser.visit(room.address)
+            for name, why in (
+                ("left", "left is here already"),
+                ("Ada!", "'Ada!' can't be a name"),
+                ("", "'' can't be a name"),
+            ):
+                self.browser.until(f"document.querySelector({COMING!r}) !== null")
+                say_name(self.browser, name)
+                shown = "document.querySelector('#come .why').textContent"
+                self.browser.until(f"{shown}.startsWith({why!r})")
+            self.browser.key("Escape")
+            self.browser.until(f"document.querySelector({COMING!r}) !== null")
+            self.assertTrue(self.value("document.querySelector('#tick').matches(':disabled')"))
+            say_name(self.browser, "ada")
+            self.browser.until("document.querySelector('#people').textContent.includes('ada')")
+            self.at(0)
+
+    def test_a_kept_name_that_is_here(self) -> None:
+        with web_room() as room:
+            self.visit(room, "ada")
+            self.browser.visit("about:blank")
+            with session(room, "ada"):
+                # (as where one browser has the page twice)
+                self.browser.visit(room.address)
+                self.browser.until(f"document.querySelector({COMING!r}) !== null")
+                self.assertEqual("ada is here already", self.browser.text("#come .why"))
+                say_name(self.browser, "bo")
+                self.browser.until("document.querySelector('#people').textContent.includes('bo')")
+                self.at(0)
 
 
 if __name__ == "__main__":

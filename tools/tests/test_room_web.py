@@ -319,6 +319,44 @@ class Lines(unittest.TestCase):
                 )
                 self.assertEqual({"reply": "ok at 1"}, said(here, "line", page=key, line="tick"))
 
+    def test_who_says_no_name_has_nothing_of_who_is_away(self) -> None:
+        with served(4) as here, page(here, "left") as (left, _):
+            with page(here) as (_, key):
+                said(here, "line", page=key, line="wheel take")
+                said(here, "line", page=key, line="watch tick > 0")
+            left.expect("notice", "web is away, with the wheel")
+            with page(here) as (raw, key):
+                who = raw.expect("who", "web2")
+                self.assertEqual(("web2", {}), (who["name"], who["watches"]))
+                self.assertEqual(
+                    {"reply": "no Held 2"}, said(here, "line", page=key, line="step 0")
+                )
+                self.assertEqual(
+                    {"reply": "watches -"}, said(here, "line", page=key, line="show watches")
+                )
+
+    def test_moves_for_which_a_page_asks(self) -> None:
+        with served(4) as here, page(here) as (raw, key):
+            said(here, "line", page=key, line="forward 300")
+            raw.expect("run", "'done': 300")
+            end = time.monotonic() + PATIENCE
+            while here.follower.values()["toCome"] and time.monotonic() < end:
+                time.sleep(0.01)
+            for place in ("", "-1", "1.5", "\u00b2", "\u0663", "9" * 3_000, "x", "4294967296"):
+                for name in ("before", "behind"):
+                    answer = said(here, name, **{"page": key, name: place})
+                    self.assertIn("is no place", answer["refused"], place[:9])
+            for name, place in (("before", "0"), ("behind", "300"), ("before", "301")):
+                self.assertEqual({}, said(here, name, **{"page": key, name: place}))
+            first = here.follower.values()["blocks"][0]["first"]  # type: ignore[index]
+            found: Any = said(here, "before", page=key, before=str(first))
+            self.assertEqual(first, found["last"])
+            behind: Any = said(here, "behind", page=key, behind="299")
+            self.assertEqual((299, 300), (behind["cut"], behind["last"]))
+            self.assertIn(
+                "has left the room", said(here, "before", page="x", before="1")["refused"]
+            )
+
     def test_the_room_ends(self) -> None:
         room = Room.open(load(LOST), sessions=4)
         here = web.serve(room, 0)
@@ -443,7 +481,7 @@ class Hostile(unittest.TestCase):
                 raws[0].connection.close()
                 raws[1].expect("notice", "web is away")
                 with page(here) as (raw, _):
-                    self.assertEqual("web", raw.expect("who")["name"])
+                    self.assertEqual("web4", raw.expect("who")["name"])
 
     def test_a_page_that_never_reads(self) -> None:
         with mock.patch.object(web.Handler, "timeout", 1.0), served(4) as here:

@@ -11,11 +11,15 @@ from rdbg.shell.opening import begin
 from rdbg.shell.target import Target
 from rdbg.source import load
 from tests.browsing import Browsing
+from tests.chromium import Browser
 from tests.pages import Asked, Reader
 from tests.paths import EXAMPLES
 from tests.rooms import LOST, Process
 
 ENDED = (0, "")
+# Where a page asks who comes, and how one knows that it is let in.
+COMING = "#come[open]"
+IS_HERE = "document.documentElement.dataset.connected === 'yes'"
 
 
 class WebRoom(Process):
@@ -98,6 +102,26 @@ def slow(seconds: float) -> Iterator[None]:
         yield
 
 
+def come_in(browser: Browser, address: str, name: str) -> bool:
+    """Opens a room's page, and waits until it shows the target. Where one is asked for a name, this
+    is it. Answers whether one was asked."""
+    browser.visit(address)
+    is_asked = f"document.querySelector({COMING!r}) !== null"
+    browser.until(f"{is_asked} || {IS_HERE}")
+    was_asked = bool(browser.value(is_asked))
+    if was_asked:
+        say_name(browser, name)
+    browser.until(f"{IS_HERE} && document.querySelector('#about').textContent !== ''")
+    return was_asked
+
+
+def say_name(browser: Browser, name: str) -> None:
+    """Types a name where one is asked who comes."""
+    browser.value(f"document.querySelector({COMING!r} + ' input').select()")
+    browser.call("Input.insertText", text=name)
+    browser.key("Enter")
+
+
 class OnPage(Browsing):
     """Tests of a room's page."""
 
@@ -110,15 +134,13 @@ class OnPage(Browsing):
             self.assertEqual([], self.browser.errors)
         self.browser.visit("about:blank")
 
-    def visit(self, room: WebRoom) -> None:
+    def visit(self, room: WebRoom, name: str = "web") -> None:
         """Opens the page, and waits until it shows the target."""
-        self.visit_address(room.address)
+        self.visit_address(room.address, name)
 
-    def visit_address(self, address: str) -> None:
-        """The same at an address."""
-        self.browser.visit(address)
-        self.browser.until("document.documentElement.dataset.connected === 'yes'")
-        self.browser.until("document.querySelector('#about').textContent !== ''")
+    def visit_address(self, address: str, name: str = "web") -> None:
+        """The same at an address. Where one is asked for a name, this is it."""
+        come_in(self.browser, address, name)
 
     def value(self, expression: str) -> Any:
         """The value of an expression on the page."""

@@ -1,5 +1,6 @@
 """The pages that are open, each with a member of the room and with what it is still to be told."""
 import collections
+import itertools
 import json
 import secrets
 import socket
@@ -152,7 +153,7 @@ class Pages:
 
     def __init__(self, room: Room) -> None:
         self._room = room
-        self._guard = threading.Lock()
+        self._guard, self._naming = threading.Lock(), threading.Lock()
         self._open: Dict[str, Page] = {}
 
     def tell(self, kind: str, values: Values) -> None:
@@ -165,7 +166,7 @@ class Pages:
                 page.tell(kind, text)
 
     def open(self, name: Optional[str]) -> Page:
-        """A page comes, by a name, or by the first that is free. Raises `Refusal`."""
+        """A page comes, by a name, or by one that nobody has. Raises `Refusal`."""
         page = Page()
         with self._guard:
             if len(self._open) >= MOST_PAGES:
@@ -180,16 +181,14 @@ class Pages:
         return page
 
     def _join(self, name: Optional[str], hear: Callable[[str], None]) -> Member:
-        """Joins by a name. One that isn't asked for has a number where it is taken."""
+        """Joins by a name. Who says none gets one that is nobody's, here or away: with a number,
+        where others have it without."""
         if name is not None:
             return self._room.join(name, hear)
-        for number in range(1, MOST_PAGES + 1):
-            try:
-                return self._room.join(NAME if number == 1 else f"{NAME}{number}", hear)
-            except Refusal:
-                if number == MOST_PAGES:
-                    raise
-        raise AssertionError
+        with self._naming:
+            taken = {it.name for it in self._room.people()}
+            names = (NAME if at == 1 else f"{NAME}{at}" for at in itertools.count(1))
+            return self._room.join(next(it for it in names if it not in taken), hear)
 
     def of(self, key: str) -> Page:
         """The page of a key. Raises `Refusal` where it isn't open."""

@@ -8,10 +8,11 @@ const SCALE = 64;
 const LOOKS = /^\s*show(\s|$)/;
 const MOVES = ["run", "more", "now", "trims"];
 
-// The name that a page has, for when it is loaded anew; none where the browser keeps nothing.
+// The name by which this page was here before it was loaded anew, or by which somebody was in this
+// browser before; none where there is none, or where the browser keeps nothing.
 function keptName() {
   try {
-    return sessionStorage.getItem("name");
+    return sessionStorage.getItem("name") || localStorage.getItem("name");
   } catch (error) {
     return null;
   }
@@ -20,8 +21,37 @@ function keptName() {
 function keepName(name) {
   try {
     sessionStorage.setItem("name", name);
+    localStorage.setItem("name", name);
   } catch (error) {
-    // (then the page has another name once it is loaded anew)
+    // (then the page asks for a name once it is loaded anew)
+  }
+}
+
+// Asks who comes.
+class Coming {
+  constructor(dialog, come) {
+    this.dialog = dialog;
+    this.input = dialog.querySelector("input");
+    this.isAsking = false;
+    dialog.querySelector("form").addEventListener("submit", (event) => {
+      event.preventDefault();
+      come(this.input.value.trim());
+    });
+    // (Escape closes it, but nobody is here without a name)
+    dialog.addEventListener("close", () => this.isAsking && dialog.showModal());
+  }
+
+  // Asks, and says why the last name isn't let in, if one was said.
+  ask(why) {
+    this.dialog.querySelector(".why").textContent = why;
+    this.isAsking = true;
+    if (!this.dialog.open) this.dialog.showModal();
+    this.input.select();
+  }
+
+  end() {
+    this.isAsking = false;
+    this.dialog.close();
   }
 }
 
@@ -32,12 +62,23 @@ class Line {
     this.name = keptName();
     this.refusals = 0;
     this.patience = AGAIN_AFTER;
+  }
+
+  // Comes by the name that was kept; false where there is none.
+  begin() {
+    if (this.name) this.open();
+    return Boolean(this.name);
+  }
+
+  // Comes by a name that was typed.
+  come(name) {
+    this.name = name;
+    this.refusals = MOST_REFUSALS;
     this.open();
   }
 
   open() {
-    const query = this.name ? `?name=${encodeURIComponent(this.name)}` : "";
-    this.events = new EventSource(`events${query}`);
+    this.events = new EventSource(`events?name=${encodeURIComponent(this.name)}`);
     for (const kind of ["you", "who", "notice", "refused", "end", ...MOVES]) {
       this.events.addEventListener(kind, ({ data }) => this.take(kind, JSON.parse(data)));
     }
@@ -48,7 +89,7 @@ class Line {
     if (kind === "you") this.beThere(values);
     if (kind === "who") keepName((this.name = values.name));
     if (kind === "end" || kind === "refused") this.close();
-    if (kind === "refused" && this.name) this.comeAgain();
+    if (kind === "refused" && this.refusals < MOST_REFUSALS) this.comeAgain();
     else this.hear(kind, values);
   }
 
@@ -58,11 +99,10 @@ class Line {
     this.patience = AGAIN_AFTER;
   }
 
-  // The name may be that of this page before it was loaded anew, which goes in a moment; or it is
-  // somebody else's, and another one is to be had.
+  // The name that was kept may be that of this page before it was loaded anew, which goes in a
+  // moment.
   comeAgain() {
     this.refusals += 1;
-    if (this.refusals > MOST_REFUSALS) this.name = null;
     setTimeout(() => this.open(), AGAIN_AFTER / MOST_REFUSALS);
   }
 
@@ -219,7 +259,8 @@ class RoomPage extends Viewer {
     const { done, undone, missing, lost } = this.run;
     const texts = [`the target is at ${done}`];
     if (undone) texts.push(`${counted(undone, "move")} taken back`);
-    if (missing) texts.push(`${counted(missing, "earlier move")} still to come`);
+    const how = this.room.isHere ? "still to come" : "missing";
+    if (missing) texts.push(`${counted(missing, "earlier move")} ${how}`);
     if (lost) texts.push(lost);
     byId("about").textContent = texts.join("; ");
   }
@@ -249,13 +290,18 @@ class RoomOnPage {
     this.people = new People(byId("people"), byId("wheel"));
     this.watches = new Watches(byId("watches"), (text) => this.tell(text));
     this.line = new Line((kind, it) => this.hear(kind, it));
+    this.coming = new Coming(byId("come"), (name) => this.line.come(name));
+    this.isHere = false;
     this.listen();
+    if (!this.line.begin()) this.coming.ask("");
   }
 
   hear(kind, values) {
     if (MOVES.includes(kind)) this.takeMoves(kind, values);
     if (kind === "who") this.takeWho(values);
     if (kind === "notice") this.takeNotice(values);
+    if (kind === "you") this.coming.end();
+    if (kind === "refused") this.coming.ask(values);
     const texts = {
       you: "",
       end: "The room has ended.",
@@ -271,6 +317,14 @@ class RoomOnPage {
     shown.textContent = text;
     shown.hidden = !text;
     document.documentElement.dataset.connected = text ? "no" : "yes";
+    this.setHere(!text);
+  }
+
+  // Whether lines are answered: else nothing that says some can be used.
+  setHere(isHere) {
+    this.isHere = isHere;
+    for (const it of document.querySelectorAll(".says")) it.disabled = !isHere;
+    this.page?.say();
   }
 
   takeMoves(kind, values) {
@@ -297,6 +351,7 @@ class RoomOnPage {
 
   // Says a line, and what is answered; of one that all are told, the notice tells it.
   async tell(line) {
+    if (!this.isHere) return;
     const { reply, refused, ended } = await this.line.say("line", line);
     const no = refused ?? ended ?? (reply.startsWith("no ") ? this.refusalWords(reply) : null);
     if (no !== null) this.talk.say("refused", `${line} -> ${no}`);
