@@ -1,14 +1,26 @@
-"""Runs to the first of several stops, and ways back to the last: exact both ways."""
-import dataclasses
-from typing import Callable, List, Optional, Sequence
+"""Runs to the first of several stops, and ways back to the last: exact both ways.
 
-from rdbg.adapter.stops import Begins, Stop, first_of, met_here
+Where a stop is met among moves that are known is remembered (`known`), so that these are made again,
+or taken back, without a look. Moves that were taken back, and aren't known, are looked at one by one,
+a few of them; beyond these a run makes them anew, where it makes the same.
+"""
+import dataclasses
+from typing import Any, Callable, List, Optional, Sequence
+
+from rdbg import replies
+from rdbg.adapter.known import Facts
+from rdbg.adapter.messages import Wrong
+from rdbg.adapter.stops import Begins, Stop, met_here
 from rdbg.shell.goals import is_stuck
 from rdbg.shell.interrupt import Interrupted
-from rdbg.shell.walk import Walk
+from rdbg.shell.target import Target, Unable, read
+from rdbg.shell.walk import MOST_PIECE, Walk
 
 # Stops are looked for within so many moves, then within so many times more, up to this.
 FIRST_WINDOW, WIDER, MOST_WINDOW = 64, 8, 65_536
+# So many moves that were taken back are looked at one by one at first; so many of those that a run
+# would make again; and so many of others.
+FIRST_LOOKED, LOOKED_OF_RUNS, LOOKED = 16, 64, 8_192
 
 
 @dataclasses.dataclass(frozen=True)
@@ -29,11 +41,27 @@ class Runner:
     def __init__(
         self, walk: Walk, stops: Callable[[], List[Stop]], between: Callable[[], None]
     ) -> None:
-        self.walk, self._stops, self._between = walk, stops, between
+        self.walk, self._ask, self._between = walk, stops, between
+        self.facts = Facts.of(walk.target)
+        if not walk.target.is_own:
+            self.facts.forget()
+        # Where the run was last, and up to where there were moves when it began.
+        self._here = self._end = walk.place
+
+    def _stops(self) -> List[Stop]:
+        """The stops, once something else was done meanwhile."""
+        self._between()
+        return prepared(self.walk, self._ask())
 
     def _met(self) -> Outcome:
         """What is met here."""
-        return Outcome("met", met_here(self.walk, self._stops()))
+        walk, facts, here = self.walk, self.facts, self.walk.place
+        stops = prepared(walk, self._ask())
+        unknown = [stop for stop in stops if stop.begin(facts, here) == here]
+        met = met_here(walk, unknown) if unknown else []
+        for stop in unknown:
+            stop.learn(facts, here - 1, here, [here] if stop in met else [])
+        return Outcome("met", [stop for stop in stops if stop.places(facts, here - 1, here)])
 
     def begin(self, limit: int) -> Outcome:
         """From the start on: to the first place where a stop is met, the start among them."""
@@ -43,95 +71,212 @@ class Runner:
     def forwards(self, limit: int) -> Outcome:
         """To the first place where a stop is met: through the moves that were taken back, which are
         made again, and then on, with so many new moves at the most."""
-        here = self.walk.place
+        walk = self.walk
+        self._here, walk.wall = walk.place, ""
+        self._end = self._here + walk.target.places().undone
         try:
-            undone = self.walk.target.places().undone
-            if undone:
-                found = self._again(here, here + undone)
-                if found is not None:
-                    return found
-                here = self.walk.place
-            return self._on(limit)
+            return self._again() or self._on(limit)
         except Interrupted:
-            self.walk.goto(self._here if self._here >= here else here)
+            self._keep()
+            walk.goto(self._here)
             return Outcome("paused")
+        except (Unable, Wrong):
+            self._keep()
+            raise
 
-    _here = 0
-
-    def _again(self, start: int, end: int) -> Optional[Outcome]:
-        """To the first stop among moves that were taken back; to their end, and none, where there
-        is no stop."""
-        low, size = start, FIRST_WINDOW
+    def _again(self) -> Optional[Outcome]:
+        """To the first stop among moves that were taken back; none where there is no stop, or
+        where a run makes those that are left."""
+        walk, facts, low, end = self.walk, self.facts, self._here, self._end
+        looked, size = 0, FIRST_LOOKED
         while low < end:
             self._here = low
-            self._between()
-            high = min(end, low + size)
-            found = first_of(self.walk, self._stops(), low, high)
+            stops = self._stops()
+            sure = min([end, *(stop.end(facts, low) for stop in stops)])
+            found = first_of(stops, facts, low, sure)
             if found is not None:
-                self.walk.goto(found)
+                walk.goto(found)
                 return self._met()
-            self.walk.goto(high)
-            low, size = high, min(size * WIDER, MOST_WINDOW)
+            walk.goto(sure)
+            if sure > low:
+                low = sure
+                continue
+            is_of_run = facts.would_come_again(low, end)
+            if is_of_run and looked >= LOOKED_OF_RUNS:
+                return None
+            high = min(end, low + size)
+            self._learn(stops, low, high, looked < LOOKED)
+            looked, size = looked + high - low, min(2 * size, MOST_WINDOW)
         return None
 
+    def _learn(self, stops: Sequence[Stop], low: int, high: int, is_each: bool) -> None:
+        """Learns where stops are met behind `low`, where this is, up to `high`, among moves that
+        were taken back; by a look behind each, where there is room in the history. Ends there."""
+        walk, facts = self.walk, self.facts
+        unknown = [stop for stop in stops if stop.end(facts, low) < high]
+        lasting = [stop for stop in unknown if isinstance(stop, Begins)]
+        was = [stop.look(walk.target) for stop in lasting]
+        plain = [stop.plain for stop in unknown if stop not in lasting]
+        views = views_of(walk.target, plain)
+        if is_each and walk.target.can_afford((1 + len(views)) * (high - low + 1)):
+            look_each(walk, plain, views, high)
+        else:
+            for stop in plain:
+                walk.goto(high)
+                stop.learn(facts, low, high, stop.all_last(walk, low))
+        walk.goto(high)
+        for stop, was_so in zip(lasting, was):
+            self._begun(stop, low, was_so)
+
+    def _begun(self, stop: Begins, low: int, was_so: bool) -> Optional[int]:
+        """The place behind `low` up to here where something has begun that lasts. Stays here."""
+        walk, facts, here = self.walk, self.facts, self.walk.place
+        place: Optional[int] = None
+        if not was_so and stop.look(walk.target):
+            place = stop.began(walk, low)
+            walk.goto(here)
+        stop.learn(facts, low, here, [] if place is None else [place])
+        return place
+
     def _on(self, limit: int) -> Outcome:
-        """To the first stop by moves that weren't made yet."""
-        walk, start, size = self.walk, self.walk.place, FIRST_WINDOW
-        walk.wall = ""
+        """To the first stop by moves that weren't made yet, so many at the most. Before them come
+        those that were taken back, and that a run makes anew."""
+        walk, size = self.walk, FIRST_WINDOW
         while True:
             self._here = here = walk.place
-            self._between()
-            left = limit - (here - start)
+            stops = self._stops()
+            left, is_old = self._end + limit - here, here < self._end
             if left < 1:
                 return Outcome("limit")
-            if is_stuck(walk.target) and not any("tick" in it.text for it in self._stops()):
+            if not is_old and is_stuck(walk.target) and not any("tick" in it.text for it in stops):
                 return Outcome("stuck")
-            found = self._first(self._stops(), min(size, left))
+            window = min(size, self._end - here if is_old else left)
+            found = self._first(stops, window)
             if found is not None:
                 walk.settle(here, found)
+                self._keep()
                 return self._met()
-            made = self._reach(here + min(size, left))
-            if not made:
+            walk.wall = ""
+            walk.reach(here + window)
+            if walk.place < here + window:
                 return Outcome("wall", wall=walk.wall)
             size = min(size * WIDER, MOST_WINDOW)
 
-    def _reach(self, place: int) -> bool:
-        """Goes to a place ahead; whether there are as many moves."""
-        self.walk.reach(place)
-        return self.walk.place == place
+    def _keep(self) -> None:
+        """Makes the moves once more that were there behind those of this run, and takes them back:
+        so they can be made again."""
+        walk, here = self.walk, self.walk.place
+        there = here + walk.target.places().undone
+        if there < self._end:
+            walk.goto(there)
+            while walk.place < self._end:
+                piece = min(MOST_PIECE, self._end - walk.place)
+                walk.target.ask(f"forward {piece}", replies.Moved)
+            walk.goto(here)
 
     def _first(self, stops: Sequence[Stop], limit: int) -> Optional[int]:
         """The first place of so many moves where a stop is met. Ends anywhere among them."""
-        start, found = self.walk.place, None
+        walk, start, end = self.walk, self.walk.place, self.walk.place + limit
+        found: Optional[int] = None
+        lasting = [stop for stop in stops if isinstance(stop, Begins)]
+        was = [stop.look(walk.target) for stop in lasting]
         for stop in stops:
-            if limit > 0 and not isinstance(stop, Begins):
-                self.walk.reach(start)
-                place = stop.next(self.walk, limit)
+            if end > start and stop not in lasting:
+                place = self._next(stop, start, end)
                 if place is not None:
-                    found, limit = place, place - start - 1
-        self.walk.reach(start + limit if found is None else found)
+                    found, end = place, place - 1
+        walk.reach(end if found is None else found)
         # (what stays so once it is so hasn't begun where it isn't so at the end)
-        for stop in stops:
-            if isinstance(stop, Begins) and stop.look(self.walk.target):
-                place = stop.began(self.walk, start)
-                if place is not None:
-                    found = place
-                    self.walk.reach(place)
+        for each, was_so in zip(lasting, was):
+            place = self._begun(each, start, was_so)
+            if place is not None:
+                found = place
+                walk.reach(place)
         return found
+
+    def _next(self, stop: Stop, start: int, end: int) -> Optional[int]:
+        """The first place behind `start` up to `end` where one stop is met."""
+        walk, facts = self.walk, self.facts
+        if stop.end(facts, start) >= end:
+            return first_of([stop], facts, start, end)
+        walk.wall = ""
+        walk.reach(start)
+        place = stop.next(walk, end - start)
+        if place is not None:
+            stop.learn(facts, start, place, [place])
+        elif not walk.wall:
+            stop.learn(facts, start, end, [])
+        return place
 
     def backwards(self) -> Outcome:
         """Back to the last place before this one where a stop is met, or to the start."""
         walk, start = self.walk, self.walk.place
         found: Optional[int] = None
         try:
-            for stop in self._stops():
+            # (those that are seen from here come first)
+            for stop in sorted(self._stops(), key=lambda it: not isinstance(it, Begins)):
                 self._between()
-                place = stop.last(walk)
-                walk.goto(start)
-                if place is not None and (found is None or place > found):
-                    found = place
+                place = self._last(stop, start, found)
+                found = found if place is None else place
         except Interrupted:
             walk.goto(start)
             return Outcome("paused")
         walk.goto(walk.target.base if found is None else found)
         return Outcome("start") if found is None else self._met()
+
+    def _last(self, stop: Stop, start: int, least: Optional[int]) -> Optional[int]:
+        """The last place before `start`, and behind `least`, where one stop is met."""
+        walk, facts = self.walk, self.facts
+        least = facts.floor if least is None else least
+        if start - 1 <= least:
+            return None
+        low = stop.begin(facts, start - 1)
+        known = stop.places(facts, max(low, least), start - 1)
+        if known or low <= least:
+            return known[-1] if known else None
+        walk.goto(low + 1)
+        place = stop.last(walk)
+        if place is None:
+            stop.learn(facts, facts.floor, low, [])
+        else:
+            stop.learn(facts, place - 1, low, [place])
+        return place if place is not None and place > least else None
+
+
+def prepared(walk: Walk, stops: List[Stop]) -> List[Stop]:
+    """Stops of which all is known that has to be before a run from here."""
+    for stop in stops:
+        stop.prepare(walk)
+    return stops
+
+
+def first_of(stops: Sequence[Stop], facts: Facts, low: int, high: int) -> Optional[int]:
+    """The first place behind `low` up to `high` where one of some stops is known to be met."""
+    firsts = [places[0] for places in (it.places(facts, low, high) for it in stops) if places]
+    return min(firsts) if firsts else None
+
+
+def views_of(target: Target, stops: Sequence[Stop]) -> List[str]:
+    """The lines by which one looks for stops."""
+    return list(dict.fromkeys(view for stop in stops for view in stop.views(target)))
+
+
+def look_each(walk: Walk, stops: Sequence[Stop], views: Sequence[str], high: int) -> None:
+    """Learns where stops are met behind this place up to one among the moves that were taken back,
+    by a look behind each. Ends there."""
+    low, target = walk.place, walk.target
+    of = [stop.views(target) for stop in stops]
+    answers = iter(target.tell_all([*views, *(["redo 1", *views] * (high - low))]))
+    before: List[Any] = []
+    places: List[List[int]] = [[] for _ in stops]
+    for place in range(low, high + 1):
+        if place > low:
+            read(next(answers))
+        told = {view: read(next(answers)) for view in views}
+        after = [stop.seen([told[view] for view in each]) for stop, each in zip(stops, of)]
+        for at, stop in enumerate(stops):
+            if before and stop.is_met_by(before[at], after[at]):
+                places[at].append(place)
+        before = after
+    for stop, found in zip(stops, places):
+        stop.learn(Facts.of(target), low, high, found)

@@ -4,22 +4,26 @@
 where they began came through, or behind it.
 """
 import dataclasses
-from typing import Any, Callable, List, Optional, Sequence
+from typing import Any, Callable, Hashable, List, Optional, Sequence, Tuple
 
 from rdbg import replies
+from rdbg.adapter.known import Facts
 from rdbg.adapter.messages import Wrong
+from rdbg.adapter.sweeps import Backwards, Onwards
 from rdbg.looks import Key, content_of
 from rdbg.shell import goals
 from rdbg.shell.changes import Changes
 from rdbg.shell.conditions import AMOUNTS, Condition
 from rdbg.shell.goals import IS_SO, Lasting, latest, nearest
-from rdbg.shell.target import Target
+from rdbg.shell.target import Target, read
 from rdbg.shell.walk import Walk
 
 # So many places are looked at one by one before one asks rdbg for the last where it was otherwise.
 NEAR = 4
 # So many hits are counted at the most.
-MOST_HITS = 10_000
+MOST_HITS = 100_000
+# Whether so many places where a stop is met are enough.
+Enough = Callable[[int], bool]
 
 
 class Stop:
@@ -27,9 +31,27 @@ class Stop:
 
     text = ""
 
+    @property
+    def plain(self) -> "Stop":
+        """It, or the one whose hits it counts."""
+        return self
+
+    @property
+    def key(self) -> Hashable:
+        """What it has in common with all that are met at the same places."""
+        return type(self).__name__, self.text
+
+    def views(self, target: Target) -> List[str]:
+        """The lines whose replies say what of the target it hangs on."""
+        raise NotImplementedError
+
+    def seen(self, answers: Sequence[Any]) -> Any:
+        """What these replies say of that."""
+        raise NotImplementedError
+
     def look(self, target: Target) -> Any:
         """What of the target it hangs on."""
-        raise NotImplementedError
+        return self.seen([read(target.tell(view)) for view in self.views(target)])
 
     def is_met_by(self, before: Any, after: Any) -> bool:
         """Whether a move meets it, by what it hangs on before and after."""
@@ -47,13 +69,56 @@ class Stop:
         """Whether it is met at the first place, to which no move leads."""
         return False
 
-    def passes(self, walk: Walk) -> bool:
-        """Whether it is met here, where what it hangs on has met it."""
-        return True
-
     def is_met(self, walk: Walk) -> bool:
         """Whether the move to this place has met it. Stays where it is."""
         return bool(met_here(walk, [self]))
+
+    def all_next(self, walk: Walk, limit: int, is_enough: Enough) -> Tuple[List[int], int]:
+        """All places behind this one, at most so many moves on, where it is met, up to where they
+        are enough; and up to where they are all."""
+        end, found = walk.place + limit, []  # type: int, List[int]
+        while walk.place < end:
+            walk.interrupt.check()
+            place = self.next(walk, end - walk.place)
+            if place is None:
+                return found, walk.place if walk.wall else end
+            found.append(place)
+            walk.reach(place)
+            if is_enough(len(found)):
+                break
+        return found, walk.place
+
+    def all_last(self, walk: Walk, low: int) -> List[int]:
+        """All places behind `low` up to this one where it is met."""
+        found = [walk.place] if self.is_met(walk) else []
+        while walk.place > low:
+            walk.interrupt.check()
+            place = self.last(walk)
+            if place is None or place <= low:
+                break
+            found.append(place)
+            not_too_many(self, found)
+            walk.goto(place)
+        return found
+
+    def prepare(self, walk: Walk) -> None:
+        """Learns what has to be known before a run from here. Stays where it is."""
+
+    def end(self, facts: Facts, place: int) -> int:
+        """How far on from a place it is known where it is met."""
+        return facts.met(self.key).known.end(place)
+
+    def begin(self, facts: Facts, place: int) -> int:
+        """From where on up to a place it is known where it is met."""
+        return facts.met(self.key).known.begin(place)
+
+    def places(self, facts: Facts, low: int, high: int) -> List[int]:
+        """Where it is met behind `low` up to `high`, as far as that is known."""
+        return facts.met(self.key).between(low, high)
+
+    def learn(self, facts: Facts, low: int, high: int, places: Sequence[int]) -> None:
+        """Takes note that behind `low` up to `high` it is met at these places alone."""
+        facts.met(self.key).learn(low, high, places)
 
 
 class Becomes(Stop):
@@ -64,8 +129,15 @@ class Becomes(Stop):
         self.condition, self.text = condition, text or condition.text
         self._goal, self.is_at_start = goals.Becomes(condition), is_at_start
 
-    def look(self, target: Target) -> bool:
-        return self._goal.is_so(target)
+    @property
+    def key(self) -> Hashable:
+        return "becomes", self.condition, self.is_at_start
+
+    def views(self, target: Target) -> List[str]:
+        return [self.condition.view]
+
+    def seen(self, answers: Sequence[Any]) -> bool:
+        return self.condition.holds(answers[0])
 
     def is_met_by(self, before: bool, after: bool) -> bool:
         return after and not before
@@ -88,6 +160,23 @@ class Becomes(Stop):
             return 0 if self.is_at_start and not walk.target.base else None
         return other + 1
 
+    def all_next(self, walk: Walk, limit: int, is_enough: Enough) -> Tuple[List[int], int]:
+        sweep = Onwards(walk, self.condition, limit)
+        while not sweep.is_done and not is_enough(len(sweep.found)):
+            walk.interrupt.check()
+            sweep.go()
+        return sweep.found, sweep.place
+
+    def all_last(self, walk: Walk, low: int) -> List[int]:
+        sweep = Backwards(walk, self.condition, low)
+        while not sweep.is_done:
+            walk.interrupt.check()
+            sweep.go()
+            not_too_many(self, sweep.found)
+        if sweep.holds and sweep.place == 0 and self.is_at_start and low < 0:
+            sweep.found.append(0)
+        return sweep.found
+
 
 class Amount(Stop):
     """A number of the target's changes, or the phase of a task. `watched` are the words of a
@@ -99,12 +188,17 @@ class Amount(Stop):
         name = rest[0] if rest else ""
         self._shape = Condition(kind, name, int(rest[1]) if rest[1:] else 0)
 
-    def look(self, target: Target) -> Any:
-        reply = replies.read(target.tell(self._shape.view))
+    @property
+    def key(self) -> Hashable:
+        return "amount", self._shape
+
+    def views(self, target: Target) -> List[str]:
+        return [self._shape.view]
+
+    def seen(self, answers: Sequence[Any]) -> Any:
         if self._shape.kind == "phase":
-            assert isinstance(reply, replies.Task)
-            return reply.phase.word
-        return AMOUNTS[self._shape.kind](reply, self._shape.index)
+            return answers[0].phase.word
+        return AMOUNTS[self._shape.kind](answers[0], self._shape.index)
 
     def is_met_by(self, before: Any, after: Any) -> bool:
         return bool(before != after)
@@ -134,9 +228,15 @@ class Content(Stop):
         self._goal = Changes(target, *key)
         self.text = self._goal.text
 
-    def look(self, target: Target) -> Any:
-        reply: Any = replies.read(target.tell(self._goal.view))
-        return content_of(reply)
+    @property
+    def key(self) -> Hashable:
+        return "content", self._goal.view
+
+    def views(self, target: Target) -> List[str]:
+        return [self._goal.view]
+
+    def seen(self, answers: Sequence[Any]) -> Any:
+        return content_of(answers[0])
 
     def is_met_by(self, before: Any, after: Any) -> bool:
         return bool(before != after)
@@ -153,6 +253,15 @@ class Begins(Stop):
 
     def __init__(self, text: str) -> None:
         self.text, self._goal = text, Lasting(text, True)
+
+    def views(self, target: Target) -> List[str]:
+        return ["show cores", *(f"show task {name}" for name in target.names.tasks)]
+
+    def seen(self, answers: Sequence[Any]) -> bool:
+        cores, *tasks = answers
+        if self.text == "failed":
+            return any(it.phase.word == "failed" for it in tasks)
+        return not any(cores.running) and all(it.phase.deadline is None for it in tasks)
 
     def look(self, target: Target) -> bool:
         return IS_SO[self.text](target)
@@ -192,8 +301,12 @@ class Phases(Stop):
     def __init__(self, text: str, task: str, goal: goals.Goal) -> None:
         self.text, self._task, self._goal = text, task, goal
 
-    def look(self, target: Target) -> replies.Phase:
-        return target.ask(f"show task {self._task}", replies.Task).phase
+    def views(self, target: Target) -> List[str]:
+        return [f"show task {self._task}"]
+
+    def seen(self, answers: Sequence[Any]) -> replies.Phase:
+        phase: replies.Phase = answers[0].phase
+        return phase
 
     def is_met_by(self, before: replies.Phase, after: replies.Phase) -> bool:
         if self.text.startswith("sleeps"):
@@ -214,26 +327,34 @@ class Where(Stop):
         self._stop, self._condition = stop, condition
         self.text = f"{stop.text}, {condition.text}"
 
-    def look(self, target: Target) -> Any:
-        return self._stop.look(target)
+    @property
+    def key(self) -> Hashable:
+        return self._stop.key, self._condition
 
-    def is_met_by(self, before: Any, after: Any) -> bool:
-        return self._stop.is_met_by(before, after)
+    def views(self, target: Target) -> List[str]:
+        return [*self._stop.views(target), self._condition.view]
+
+    def seen(self, answers: Sequence[Any]) -> Tuple[Any, bool]:
+        return self._stop.seen(answers[:-1]), self._condition.holds(answers[-1])
+
+    def is_met_by(self, before: Tuple[Any, bool], after: Tuple[Any, bool]) -> bool:
+        return after[1] and self._stop.is_met_by(before[0], after[0])
 
     def is_met_at_start(self, walk: Walk) -> bool:
-        return self._stop.is_met_at_start(walk) and self.passes(walk)
+        return self._stop.is_met_at_start(walk) and self._holds(walk)
 
-    def passes(self, walk: Walk) -> bool:
-        return self._condition.holds(replies.read(walk.target.tell(self._condition.view)))
+    def _holds(self, walk: Walk) -> bool:
+        return self._condition.holds(read(walk.target.tell(self._condition.view)))
 
     def next(self, walk: Walk, limit: int) -> Optional[int]:
         end = walk.place + limit
         while walk.place < end:
+            walk.interrupt.check()
             place = self._stop.next(walk, end - walk.place)
             if place is None:
                 return None
             walk.reach(place)
-            if self.passes(walk):
+            if self._holds(walk):
                 return place
             # (it isn't met before the condition holds again)
             if walk.until(self._condition.text, end - place) is None:
@@ -249,7 +370,7 @@ class Where(Stop):
             if place is None:
                 return None
             walk.goto(place)
-            if self.passes(walk):
+            if self._holds(walk):
                 return place
             if walk.back_until(self._condition.text) is None:
                 return None
@@ -258,59 +379,89 @@ class Where(Stop):
 
 
 class Counted(Stop):
-    """A stop that counts only at some of the times that it is met, numbered from the start on."""
+    """A stop that counts only at some of the times that it is met, numbered from the start on. What
+    is known of it is what is known of the other one, back to the start."""
 
     def __init__(self, stop: Stop, text: str, counts: Callable[[int], bool]) -> None:
-        self._stop, self._counts = stop, counts
+        self.stop, self._counts = stop, counts
         self.text = f"{stop.text}, hit {text}"
 
-    def _places(self, walk: Walk, with_here: bool) -> List[int]:
-        """The places where it was met, from the start to here. Stays where it is."""
-        here = walk.place
-        found: List[int] = [here] if with_here and self._stop.is_met(walk) else []
-        while True:
-            walk.interrupt.check()
-            place = self._stop.last(walk)
-            if place is None:
-                break
-            found.append(place)
-            walk.goto(place)
-            if len(found) > MOST_HITS:
-                walk.goto(here)
-                raise Wrong(f"more than {MOST_HITS} hits of {self._stop.text} aren't counted")
-        walk.goto(here)
-        return found[::-1]
+    @property
+    def plain(self) -> Stop:
+        return self.stop
 
-    def look(self, target: Target) -> Any:
-        return self._stop.look(target)
+    def prepare(self, walk: Walk) -> None:
+        learn_back(walk, self.stop)
 
-    def is_met_by(self, before: Any, after: Any) -> bool:
-        return self._stop.is_met_by(before, after)
+    def begin(self, facts: Facts, place: int) -> int:
+        begin = self.stop.begin(facts, place)
+        return begin if begin <= facts.floor else place
 
-    def is_met_at_start(self, walk: Walk) -> bool:
-        return self._stop.is_met_at_start(walk) and self._counts(1)
+    def end(self, facts: Facts, place: int) -> int:
+        is_counted = self.stop.begin(facts, place) <= facts.floor
+        return self.stop.end(facts, place) if is_counted else place
 
-    def passes(self, walk: Walk) -> bool:
-        return self._stop.passes(walk) and self._counts(len(self._places(walk, True)))
+    def _hits(self, facts: Facts, place: int) -> int:
+        """How often the other one was met up to a place."""
+        return len(self.stop.places(facts, self.stop.begin(facts, place), place))
+
+    def places(self, facts: Facts, low: int, high: int) -> List[int]:
+        hits = self._hits(facts, low)
+        numbered = enumerate(self.stop.places(facts, low, high), hits + 1)
+        return [place for number, place in numbered if self._counts(number)]
+
+    def learn(self, facts: Facts, low: int, high: int, places: Sequence[int]) -> None:
+        """Nothing: which of the hits count says nothing of the others."""
 
     def next(self, walk: Walk, limit: int) -> Optional[int]:
-        end, hits = walk.place + limit, len(self._places(walk, True))
-        while walk.place < end:
-            place = self._stop.next(walk, end - walk.place)
-            if place is None:
-                return None
-            walk.reach(place)
-            hits += 1
-            if self._counts(hits):
-                return place
-        return None
+        start, facts = walk.place, Facts.of(walk.target)
+        self.prepare(walk)
+        hits = self._hits(facts, start)
+        is_enough = Reached(lambda number: self._counts(hits + number))
+        places, end = self.stop.all_next(walk, limit, is_enough)
+        self.stop.learn(facts, start, end, [place for place in places if place <= end])
+        return next(iter(self.places(facts, start, end)), None)
 
     def last(self, walk: Walk) -> Optional[int]:
-        places = self._places(walk, False)
-        for hits in range(len(places), 0, -1):
-            if self._counts(hits):
-                return places[hits - 1]
-        return None
+        self.prepare(walk)
+        facts = Facts.of(walk.target)
+        return next(reversed(self.places(facts, facts.floor, walk.place - 1)), None)
+
+
+class Reached:
+    """Whether one of so many hits counts, when asked for ever more of them."""
+
+    def __init__(self, counts: Callable[[int], bool]) -> None:
+        self._counts, self._asked = counts, 0
+        self._is_so = False
+
+    def __call__(self, count: int) -> bool:
+        numbers = range(self._asked + 1, count + 1)
+        self._is_so = self._is_so or any(self._counts(number) for number in numbers)
+        self._asked = count
+        return self._is_so
+
+
+def not_too_many(stop: Stop, found: Sequence[int]) -> None:
+    """Raises `Wrong` where a stop is met too often to be counted."""
+    if len(found) > MOST_HITS:
+        raise Wrong(f"more than {MOST_HITS} hits of {stop.text} aren't counted")
+
+
+def learn_back(walk: Walk, stop: Stop) -> None:
+    """Learns where a stop is met from the start up to here. Stays where it is."""
+    here, facts = walk.place, Facts.of(walk.target)
+    if stop.begin(facts, here) <= facts.floor:
+        return
+    try:
+        place = stop.begin(facts, here)
+        while place > facts.floor:
+            walk.goto(place)
+            low = facts.met(stop.key).known.before(place, facts.floor)
+            stop.learn(facts, low, place, stop.all_last(walk, low))
+            place = stop.begin(facts, here)
+    finally:
+        walk.goto(here)
 
 
 def met_here(walk: Walk, stops: Sequence[Stop]) -> List[Stop]:
@@ -323,38 +474,4 @@ def met_here(walk: Walk, stops: Sequence[Stop]) -> List[Stop]:
     before = [stop.look(walk.target) for stop in stops]
     walk.goto(place)
     seen = zip(stops, before, after)
-    met = [stop for stop, was, now in seen if stop.is_met_by(was, now)]
-    return [stop for stop in met if stop.passes(walk)]
-
-
-def last_up_to(walk: Walk, stop: Stop, place: int) -> Optional[int]:
-    """The last place up to one where a stop is met."""
-    walk.goto(place)
-    return place if stop.is_met(walk) else stop.last(walk)
-
-
-def first_between(walk: Walk, stop: Stop, low: int, high: int) -> Optional[int]:
-    """The first place behind `low` up to `high` where a stop is met, among those there are."""
-    first = last_up_to(walk, stop, high)
-    if first is None or first <= low:
-        return None
-    while first - low > 1:
-        walk.interrupt.check()
-        middle = (low + first) // 2
-        place = last_up_to(walk, stop, middle)
-        if place is not None and place > low:
-            first = place
-        else:
-            low = middle
-    return first
-
-
-def first_of(walk: Walk, stops: Sequence[Stop], low: int, high: int) -> Optional[int]:
-    """The first place behind `low` up to `high` where one of some stops is met."""
-    found: Optional[int] = None
-    for stop in stops:
-        if high > low:
-            place = first_between(walk, stop, low, high)
-            if place is not None:
-                found, high = place, place - 1
-    return found
+    return [stop for stop, was, now in seen if stop.is_met_by(was, now)]

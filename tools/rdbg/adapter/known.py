@@ -1,0 +1,122 @@
+"""What is known of the moves of a target: where stops are met among them, and which of them a run
+would make the same again. It is kept for as long as these moves are what they were."""
+import bisect
+from typing import Dict, Hashable, List, Sequence, Tuple
+
+from rdbg.shell.target import SINGLE, Target
+
+# Words by which a run makes moves.
+RUNS = ("forward", "until")
+
+
+class Stretches:
+    """Stretches of moves, each from behind a place up to another, in order and apart."""
+
+    def __init__(self) -> None:
+        self._all: List[Tuple[int, int]] = []
+
+    def add(self, low: int, high: int) -> None:
+        """Adds the moves behind `low` up to `high`."""
+        if low >= high:
+            return
+        near = [it for it in self._all if it[0] <= high and it[1] >= low]
+        apart = [it for it in self._all if it not in near]
+        low = min([low, *(it[0] for it in near)])
+        high = max([high, *(it[1] for it in near)])
+        self._all = sorted([*apart, (low, high)])
+
+    def cut(self, place: int) -> None:
+        """Drops what is behind a place."""
+        if self._all and self._all[-1][1] > place:
+            self._all = [(low, min(high, place)) for low, high in self._all if low < place]
+
+    def end(self, place: int) -> int:
+        """How far a stretch leads on from a place: no further than there, where none does."""
+        return next((high for low, high in self._all if low <= place < high), place)
+
+    def begin(self, place: int) -> int:
+        """From where a stretch leads to a place: from there, where none does."""
+        return next((low for low, high in self._all if low < place <= high), place)
+
+    def before(self, place: int, least: int) -> int:
+        """Where the last stretch ends that does before a place: at `least` where none does."""
+        return max([least, *(high for _, high in self._all if high < place)])
+
+
+class Met:
+    """At which places one stop is met, where that is known."""
+
+    def __init__(self) -> None:
+        self.known = Stretches()
+        self._places: List[int] = []
+
+    def learn(self, low: int, high: int, places: Sequence[int]) -> None:
+        """Takes note that behind `low` up to `high` it is met at these places alone."""
+        self.known.add(low, high)
+        there = self._places
+        first, last = bisect.bisect_right(there, low), bisect.bisect_right(there, high)
+        there[first:last] = sorted(places)
+
+    def between(self, low: int, high: int) -> List[int]:
+        """Where it is met behind `low` up to `high`, as far as that is known."""
+        there = self._places
+        return there[bisect.bisect_right(there, low) : bisect.bisect_right(there, high)]
+
+    def cut(self, place: int) -> None:
+        """Forgets what is behind a place."""
+        self.known.cut(place)
+        del self._places[bisect.bisect_right(self._places, place) :]
+
+
+class Facts:
+    """What is known of one target's moves. It hears each line, and so when they become others."""
+
+    def __init__(self, target: Target) -> None:
+        self._target, self._told = target, target.session.on_line
+        target.session.on_line = self._seen
+        self._met: Dict[Hashable, Met] = {}
+        self._runs = Stretches()
+
+    @classmethod
+    def of(cls, target: Target) -> "Facts":
+        """Those of a target, which are the same for all who ask."""
+        there = getattr(target.session.on_line, "__self__", None)
+        return there if isinstance(there, cls) and there._target is target else cls(target)
+
+    @property
+    def floor(self) -> int:
+        """Behind which place one can know whether a stop is met: the start is behind -1."""
+        return self._target.base or -1
+
+    def met(self, key: Hashable) -> Met:
+        """Where a stop is met."""
+        return self._met.setdefault(key, Met())
+
+    def forget(self) -> None:
+        """Forgets all, where others may have moved the target."""
+        self._met.clear()
+        self._runs = Stretches()
+
+    def would_come_again(self, low: int, high: int) -> bool:
+        """Whether a run from `low` makes just the moves that lead to `high`."""
+        return self._runs.end(low) >= high
+
+    def _seen(self, line: str, reply: str) -> None:
+        before = self._target.place
+        if self._told is not None:
+            self._told(line, reply)
+        word = line.split(" ", 1)[0]
+        if not reply.startswith("ok at "):
+            return
+        if word in SINGLE:
+            self._cut(before)
+        elif word in RUNS:
+            # (from here a run makes the moves that a run has made here)
+            self._cut(self._runs.end(before))
+            self._runs.add(before, self._target.place)
+
+    def _cut(self, place: int) -> None:
+        """Forgets what was known of moves that are others now."""
+        self._runs.cut(place)
+        for met in self._met.values():
+            met.cut(place)
