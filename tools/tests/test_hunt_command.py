@@ -45,6 +45,38 @@ class Said(unittest.TestCase):
         written_lines = pathlib.Path("found.commands").read_text().splitlines()
         self.assertEqual("watches 0:holds", replayed(LOST, written_lines)[-2])
 
+    def test_a_file_has_no_find_of_an_earlier_hunt(self) -> None:
+        file = pathlib.Path("found.commands")
+        for words in (
+            QUICK,
+            ("--states", "5", *QUICK),
+            ("--exhaustive", "--moves", "5", "--workers", "1"),
+        ):
+            file.write_text("step 0\n")
+            self.assertEqual(0, said(LOST, "reg poller 7 = 1", *words, "-o", str(file))[0])
+            self.assertEqual("", file.read_text())
+        # (words that are refused leave it as it is, and none is made where there was none)
+        file.write_text("step 0\n")
+        self.assertEqual(2, said(LOST, "stuk", "-o", str(file))[0])
+        self.assertEqual("step 0\n", file.read_text())
+        file.unlink()
+        self.assertEqual(0, said(LOST, "reg poller 7 = 1", *QUICK, "-o", str(file))[0])
+        self.assertFalse(file.exists())
+
+    def test_it_is_emptied_before_the_search(self) -> None:
+        file = pathlib.Path("found.commands")
+        file.write_text("step 0\n")
+        with program([], "rdbg: no memory\n", 1):
+            self.assertEqual(2, said(LOST, "stuck", "-o", str(file))[0])
+        self.assertEqual("", file.read_text())
+
+    def test_the_usage_has_one_goal(self) -> None:
+        status, lines, _ = said("--help")
+        self.assertEqual(0, status)
+        usage = " ".join(" ".join(lines).split())
+        self.assertIn("FILE GOAL looks for", usage)
+        self.assertNotIn("GOAL [GOAL ...]", usage)
+
     def test_none_found_says_what_was_tried(self) -> None:
         status, lines, errors = said(LOST, "reg poller 7 = 1", *QUICK)
         self.assertEqual((0, []), (status, lines))
@@ -122,13 +154,44 @@ class Statuses(unittest.TestCase):
         self.assertEqual(2, status)
         self.assertRegex(errors[1], r"tried: every order of \d moves; 2\d states")
 
+    def test_goals_that_are_none_are_told_as_the_prompt_tells_them(self) -> None:
+        for goal, why in (
+            ("stuk", "near it is `stuck`"),
+            ("Differs", "near it is `differs`"),
+            ("count jobs>0", "spaces stand round an operator: `count jobs > 0`"),
+            ("count jobs >= 1", ">= 1 is > 0: `count jobs > 0`"),
+            ("count jobs == 1", "== is =: `count jobs = 1`"),
+            ("count job > 0", "there is no queue 'job'; near it is `jobs`"),
+            ("phase workr run", "there is no task 'workr'; near it is `worker`"),
+            ("note worker 1 = 0", "there is one notification entry, from 0 on"),
+            ("count jobs > 0 and pc worker = 1", "a condition has no `and`: hunt for one of them"),
+            ("count jobs > 0 or stuck", "a condition has no `or`: hunt for one of them at a time"),
+            ("not phase worker run", "a condition has no `not`: turn it round"),
+            ("count jobs", "behind `count jobs` comes =, < or >"),
+            ("count jobs > 0 5", "'5' is too much"),
+            ("worker pc = 3", "a condition begins with what is looked at: `pc worker = 3`"),
+            ("jobs", "a goal is stuck, failed, differs, or a condition (count, bytes"),
+            ("w0", "a hunt has no watches"),
+            ("", "a goal is stuck, failed, differs, or a condition"),
+        ):
+            with self.subTest(goal):
+                status, lines, errors = said(LOST, goal)
+                self.assertEqual((2, [], 1), (status, lines, len(errors)))
+                self.assertIn(f"rdbg hunt: '{goal}' is no goal", errors[0])
+                self.assertIn(why, errors[0])
+
+    def test_two_goals(self) -> None:
+        status, _, errors = said(LOST, "stuck", "failed")
+        self.assertEqual(2, status)
+        self.assertIn("'failed' is too much: a hunt has one goal, and stuck is one", errors[0])
+        # (the words of one may be apart)
+        self.assertEqual(1, said(LOST, "reg", "poller", "0", "=", "1", *QUICK)[0])
+
     def test_words_that_cant_be(self) -> None:
+        most = 4 * len(os.sched_getaffinity(0))
         for words, why in (
             ([LOST, "stuk"], "'stuk' is no goal"),
-            ([LOST, "count jobs>0"], "spaces round its operator"),
-            ([LOST, "count job > 0"], "job isn't a queue; near it is jobs"),
             ([LOST, "reg worker 8 = 0"], "registers are 0 to 7"),
-            ([LOST, "note worker 1 = 0"], "notification entries are counted from 0"),
             (["none.json", "stuck"], "cannot read none.json"),
             ([LOST, "stuck", "--part", "3/2"], "K/N with K of 1 to N"),
             ([LOST, "stuck", "--within", "0"], "a number of seconds"),
@@ -138,6 +201,9 @@ class Statuses(unittest.TestCase):
             ([LOST, "stuck", "--smallest", "--all", "2"], "it takes no --all"),
             ([LOST, "differs", "--smallest"], "none of differs"),
             ([LOST, "stuck", "-o", "/none/found.commands"], "cannot write /none/found.commands"),
+            ([LOST, "stuck", "-o", LOST], f"-o {LOST} is the application itself"),
+            ([LOST, "stuck", "--workers", "0"], "1 to 1000000, not '0'"),
+            ([LOST, "stuck", "--workers", str(most + 1)], f"takes 1 to {most} here, and not"),
             ([LOST], "the following arguments are required"),
         ):
             with self.subTest(why):

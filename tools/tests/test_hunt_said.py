@@ -89,7 +89,8 @@ class Past(Asked):
         self.assertIn("every order there is", errors[1])
 
     def test_an_interrupt(self) -> None:
-        for words in ([], ["--exhaustive"]):
+        searches: List[List[str]] = [[], ["--exhaustive"]]
+        for words in searches:
             with self.subTest(words):
                 isr = ["--isr", "notify a 0 1 inc"]
                 self.assertEqual(0, self.none(WAITS, *words)[0])

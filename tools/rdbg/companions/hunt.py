@@ -10,7 +10,7 @@ from typing import IO, Callable, Iterator, List, Optional, Sequence, Tuple, Unio
 from rdbg import commands
 from rdbg.companions.sh import bounded, read
 from rdbg.failure import Failure
-from rdbg.hunting import goals, report
+from rdbg.hunting import goals, report, wrong
 from rdbg.hunting.crew import Crew, TimeUp
 from rdbg.hunting.exhaustive import Exhaustive
 from rdbg.hunting.finds import Found
@@ -27,10 +27,13 @@ EPILOG = (
     " The lines of what is found, which rdbg replays by itself, go to standard output, and what is"
     " said of them to standard error; with -o to OUT, and to standard output. The status is 0 where"
     " none is found, 1 where one is, 2 where it can't be told, 130 after Ctrl-C. With --expect none"
-    " it is 2, too, where not all was tried; with --expect found 0 where one is found, 1 where not."
+    " it is 2, too, where not all was tried, or orders go on past the limit of moves and nobody gave"
+    " --moves; with --expect found 0 where one is found, 1 where not."
 )
 MOVES, AHEAD, SURPRISES, STATES = 100, 4, 2, 1_000_000
-MOST_AHEAD, MOST_PARTS = 1_000, 1_000_000
+MOST_AHEAD = 1_000
+# So many processes may there be for each processor.
+MOST_WORKERS = 4
 NONE_FOUND, FOUND, CANT, STOPPED = 0, 1, 2, 130
 # How far it is is said after so many seconds, and then as often: at a terminal, and elsewhere.
 PATIENCE, ELSEWHERE = 2.0, 60.0
@@ -58,11 +61,27 @@ def seconds(text: str) -> float:
     return value
 
 
+class OneGoal(argparse.HelpFormatter):
+    """Shows several words that are one thing as that thing, once."""
+
+    def _format_args(self, action: argparse.Action, default_metavar: str) -> str:
+        if action.nargs == "+" and isinstance(action.metavar, str):
+            return action.metavar
+        return super()._format_args(action, default_metavar)
+
+
 def parser() -> argparse.ArgumentParser:
     """The words of the command line."""
-    made = argparse.ArgumentParser(prog="rdbg hunt", description=SUMMARY, epilog=EPILOG)
+    made = argparse.ArgumentParser(
+        prog="rdbg hunt", description=SUMMARY, epilog=EPILOG, formatter_class=OneGoal
+    )
     made.add_argument("file", metavar="FILE", help="the application, JSON or in lines (.fw)")
-    made.add_argument("goal", metavar="GOAL", nargs="+", help="what an order is to come to")
+    made.add_argument(
+        "goal",
+        metavar="GOAL",
+        nargs="+",
+        help="what an order is to come to; its words may be apart",
+    )
     made.add_argument("-o", dest="output", metavar="OUT", help="where the lines of a find go")
     count = bounded(1)
     made.add_argument(
@@ -88,7 +107,7 @@ def parser() -> argparse.ArgumentParser:
     made.add_argument("--part", type=part, metavar="K/N", help="one of N parts of the tries")
     made.add_argument("--expect", choices=["none", "found"], help="what the status is 0 for")
     made.add_argument("--within", type=seconds, metavar="SECONDS", help="a limit of time")
-    made.add_argument("--workers", type=count, metavar="N", help="processes (all processors)")
+    made.add_argument("--workers", type=count, metavar="N", help="processes (one a processor)")
     made.add_argument(
         "--states", type=count, default=STATES, metavar="N", help=f"states kept ({STATES:,})"
     )
@@ -106,15 +125,26 @@ def check_words(given: argparse.Namespace) -> None:
         raise Failure("--smallest is of one find; it takes no --all", CANT)
     if given.ahead is not None and given.ahead > MOST_AHEAD:
         raise Failure(f"--ahead takes 1 to {MOST_AHEAD}, and not {given.ahead}", CANT)
+    most = MOST_WORKERS * processors()
+    if given.workers is not None and given.workers > most:
+        raise Failure(f"--workers takes 1 to {most} here, and not {given.workers}", CANT)
 
 
-def check_output(path: Optional[str]) -> None:
-    """Raises `Failure` where a file can't be written, before anything is looked for."""
+def processors() -> int:
+    """How many processors there are for it."""
+    return len(os.sched_getaffinity(0))
+
+
+def empty(path: Optional[str], source: str) -> None:
+    """Empties the file where lines go, before anything is looked for, so that none of an earlier
+    hunt stand there where nothing is found. Raises `Failure` where it can't be written."""
     if path is None or path == STANDARD:
         return
     was_there = os.path.lexists(path)
     try:
-        with open(path, "a", encoding="utf-8"):
+        if was_there and os.path.samefile(path, source):
+            raise Failure(f"-o {path} is the application itself, which would be lost", CANT)
+        with open(path, "w", encoding="utf-8"):
             pass
     except OSError as error:
         raise Failure(f"cannot write {path}: {error.strerror}", CANT) from None
@@ -126,7 +156,10 @@ def hunted(given: argparse.Namespace) -> Hunted:
     """What is hunted through."""
     source = read(given.file)
     assert source is not None and source.application is not None
-    goal = goals.read(given.goal, source.application)
+    try:
+        goal = goals.read(given.goal, source.application)
+    except goals.NoGoal as none:
+        raise Failure(wrong.why(none.words, source), CANT) from None
     may_come = tuple(interrupts(given.isr, source.application))
     surprises = (*kinds(given.ahead or AHEAD), *may_come)
     moves, is_given = given.moves or MOVES, given.moves is not None
@@ -163,7 +196,7 @@ def progress(hunt: Hunt) -> Callable[[], None]:
 def run(given: argparse.Namespace, it: Hunted) -> Tuple[Hunt, str]:
     """The search when it has ended, and why, if not by itself."""
     end = None if given.within is None else time.monotonic() + given.within
-    workers = given.workers or len(os.sched_getaffinity(0))
+    workers = given.workers or processors()
     with Crew(it, workers, end) as crew:
         hunt = begin(given, it, crew)
         crew.on_answer = progress(hunt)
@@ -233,7 +266,7 @@ def main(words: Sequence[str]) -> int:
         it = hunted(given)
         if given.smallest and it.goal.compares:
             raise Failure("--smallest is of goals that are met, and none of differs", CANT)
-        check_output(given.output)
+        empty(given.output, given.file)
         hunt, ended = run(given, it)
         if hunt.finds:
             say_found(given, it, hunt)

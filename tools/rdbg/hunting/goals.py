@@ -1,11 +1,10 @@
 """Goals of a hunt: whether a state is one, and how `forward` comes to one from where it is."""
 from typing import Dict, List, Optional, Sequence, Set, Tuple
 
-from rdbg import commands, replies
+from rdbg import replies
 from rdbg.application import Application
 from rdbg.failure import Failure
 from rdbg.looks import Look, Names
-from rdbg.near import nearest
 from rdbg.shell import conditions
 from rdbg.shell.conditions import Condition
 from rdbg.shell.goals import IS_SO
@@ -23,9 +22,20 @@ KINDS: Dict[str, str] = {
     "note": "task",
     "phase": "task",
 }
+# Goals that are no conditions.
+DIFFERS = "differs"
+OWN = (*IS_SO, DIFFERS)
 REGISTERS = 8
 AWAKE = ("run", "again", "given")
 End = Tuple[str, ...]
+
+
+class NoGoal(Failure):
+    """Words that are no goal."""
+
+    def __init__(self, words: Sequence[str]) -> None:
+        super().__init__(f"'{' '.join(words)}' is no goal", 2)
+        self.words = words
 
 
 def is_stuck(look: Look) -> bool:
@@ -129,7 +139,7 @@ class Differs(Goal):
     compares = True
 
     def __init__(self, application: Application) -> None:
-        super().__init__("differs")
+        super().__init__(DIFFERS)
         self._names = Names.of(application)
         self._uses = {
             task.name: {word for it in task.code for word in it.words()[1:]}
@@ -182,45 +192,26 @@ class Differs(Goal):
         return True
 
 
-def known(application: Application, kind: str) -> List[str]:
-    """The names of a kind that an application has."""
-    if kind == "task":
-        return [task.name for task in application.tasks]
-    return [name for other, name in application.objects() if other == kind]
-
-
-def check(condition: Condition, application: Application) -> None:
-    """Raises `Failure` where a condition names what isn't there."""
-    kind = KINDS.get(condition.kind)
-    if kind is None:
-        return
-    names = known(application, kind)
-    form = commands.KIND_SYMBOLS[kind]
-    thing = commands.SYMBOLS[form].noun
-    if condition.name not in names:
-        near = nearest(condition.name, names)
-        hint = f"; near it is {near}" if near else ""
-        raise Failure(f"{condition.text}: {condition.name} isn't {thing}{hint}", 2)
-    if condition.kind == "reg" and condition.index >= REGISTERS:
-        raise Failure(f"{condition.text}: registers are 0 to {REGISTERS - 1}", 2)
-    if condition.kind == "note" and condition.index >= application.notes:
-        raise Failure(f"{condition.text}: notification entries are counted from 0", 2)
+def is_there(condition: Condition, application: Application) -> bool:
+    """Whether an application has what a condition names."""
+    kind, names = KINDS.get(condition.kind), Names.of(application)
+    if kind == "task" and condition.name not in names.tasks:
+        return False
+    if kind not in (None, "task") and (kind, condition.name) not in names.objects:
+        return False
+    most = {"reg": REGISTERS, "note": application.notes}.get(condition.kind)
+    return most is None or condition.index < most
 
 
 def read(words: Sequence[str], application: Application) -> Goal:
-    """The goal that these words are. Raises `Failure` where they are none."""
+    """The goal that these words are. Raises `NoGoal` where they are none."""
     parts = " ".join(words).split()
     text = " ".join(parts)
     if text in IS_SO:
         return Stays(text)
-    if text == "differs":
+    if text == DIFFERS:
         return Differs(application)
     condition = conditions.read(parts)
-    if condition is None:
-        raise Failure(
-            f"'{text}' is no goal: stuck, failed, differs, or a condition (docs/COMMANDS.md)"
-            " with spaces round its operator",
-            2,
-        )
-    check(condition, application)
+    if condition is None or not is_there(condition, application):
+        raise NoGoal(parts)
     return Holds(condition)
