@@ -76,6 +76,9 @@ class Save(Folder):
             self.assertIn("stays as it is", said(shell, f"save {self.app}")[0])
             self.assertIn("cannot write", said(shell, f"save {self.folder}/no/x.commands")[0])
             self.assertIn("to which file", said(shell, "save")[0])
+            long, nul = said(shell, f"save {'x' * 300}"), said(shell, "save a\0b")
+            self.assertIn("cannot write xxx", long[0])
+            self.assertEqual(nul, ["# cannot write 'a\\x00b': no file has such a name"])
         self.assertEqual(self.app.read_text(), LOST.read_text())
 
     def test_no_moves(self) -> None:

@@ -1,4 +1,5 @@
 """The moves that were made as a list, as a file of commands, and on an edited file."""
+import os
 import pathlib
 import re
 from typing import TYPE_CHECKING, List, Optional, Sequence, Tuple
@@ -76,7 +77,7 @@ def save(shell: "Shell", words: Sequence[str]) -> None:
     if len(words) != 1:
         raise Unable("save to which file? `save found.commands`")
     file = pathlib.Path(words[0])
-    if file.exists() and file.suffix != ENDING:
+    if os.path.exists(file) and file.suffix != ENDING:
         raise Unable(f"{file} is there, and doesn't end in {ENDING}: it stays as it is")
     with shell.wheel():
         lines = lines_of(shell)
@@ -85,6 +86,8 @@ def save(shell: "Shell", words: Sequence[str]) -> None:
         file.write_text("".join(f"{line}\n" for line in lines), encoding="ascii")
     except OSError as error:
         raise Unable(f"cannot write {file}: {error.strerror}") from None
+    except ValueError:
+        raise Unable(f"cannot write {str(file)!r}: no file has such a name") from None
     shell.say(f"{len(lines)} moves are in {file}")
     if shell.target.application is None:
         shell.say("the application's file isn't known here, so they weren't tried")
