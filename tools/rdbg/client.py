@@ -93,6 +93,10 @@ class Incoming:
         self._whole.extend(line + b"\n" for line in whole)
         return bool(content)
 
+    def wait_at_most(self, seconds: Optional[float]) -> None:
+        """Says how long something that comes is waited for."""
+        self._connection.settimeout(seconds)
+
     def readline(self) -> bytes:
         """The next line with its end; without one at the end of all."""
         while not self._whole:
@@ -179,11 +183,14 @@ class Session:
         return cls.start([program(), "run", *app, *more])
 
     @classmethod
-    def attach(cls, port: int, name: Optional[str] = None) -> "Session":
-        """One more session at a server of this machine, at a room's by a name. Raises `Failure`
-        where none listens, or the name isn't let in."""
+    def attach(
+        cls, port: int, name: Optional[str] = None, seconds: Optional[float] = None
+    ) -> "Session":
+        """One more session at a server of this machine, at a room's by a name. Each answer is
+        waited for so many seconds, or for ever. Raises `Failure` where none listens, or the name
+        isn't let in."""
         try:
-            connection = socket.create_connection((LOCAL, port))
+            connection = socket.create_connection((LOCAL, port), seconds)
         except OSError as error:
             is_free = isinstance(error, ConnectionRefusedError)
             why = "nobody listens there" if is_free else error.strerror
@@ -333,6 +340,11 @@ class Session:
             yield
         finally:
             self.note("# did")
+
+    def wait_at_most(self, seconds: Optional[float]) -> None:
+        """Says how long an answer is waited for, at a port; for ever where it is none."""
+        if isinstance(self._answers, PortLines):
+            self._answers.wait_at_most(seconds)
 
     def waited_for(self) -> Optional[int]:
         """What becomes readable once a notice comes, at a port."""

@@ -17,7 +17,7 @@ from tests.chromium import Browser
 from tests.pages import page_of, tutorials
 from tests.paths import EXAMPLES
 from tests.rooms import LOST
-from tests.web_rooms import session, web_room
+from tests.web_rooms import come_in, session, web_room
 
 WIDTH, HEIGHT = 1360, 860
 
@@ -51,7 +51,7 @@ def room_pictures(browser: Browser, folder: pathlib.Path) -> Iterator[pathlib.Pa
         shown = (
             "document.querySelector('#state-title').textContent.startsWith('State at place {}:')"
         )
-        browser.visit(room.address)
+        come_in(browser, room.address, "web")
         ada.tell("wheel take")
         ada.tell("until count jobs > 0 50")
         browser.until(shown.format(5))

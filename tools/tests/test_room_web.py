@@ -326,7 +326,7 @@ class Lines(unittest.TestCase):
                 said(here, "line", page=key, line="watch tick > 0")
             left.expect("notice", "web is away, with the wheel")
             with page(here) as (raw, key):
-                who = raw.expect("who", "web2")
+                who = raw.expect("who")
                 self.assertEqual(("web2", {}), (who["name"], who["watches"]))
                 self.assertEqual(
                     {"reply": "no Held 2"}, said(here, "line", page=key, line="step 0")

@@ -4,6 +4,7 @@ import re
 import socket
 import subprocess
 import tempfile
+import time
 from typing import IO, Iterator, List, Optional
 
 from rdbg.client import LOCAL, Session, program
@@ -14,8 +15,11 @@ from rdbg.source import Source
 
 # So many sessions serve lets in, one after the other, and no more.
 MOST_SESSIONS = 64
-# A port that was free can be taken before serve listens there: another one is tried so often.
-TRIES = 5
+# A port that was free can be taken before serve listens there, and others can come to serve first:
+# another one is tried so often, or for so many seconds.
+TRIES, SECONDS = 5, 5.0
+# A session that has come is answered within so many seconds.
+PATIENCE = 5.0
 TAKEN = "cannot listen"
 
 
@@ -43,7 +47,7 @@ class Host:
     def start(cls, source: Source, limits: Limits, count: int = MOST_SESSIONS) -> "Host":
         """Starts it on an application as it was read. Ctrl-C at the terminal doesn't reach it.
         Raises `Failure` where it can't be started."""
-        said = ""
+        said, until = "", time.monotonic() + SECONDS
         with as_read(source) as path:
             for _ in range(TRIES):
                 port = free_port()
@@ -57,11 +61,13 @@ class Host:
                 except Failure as failure:
                     host.kill()
                     said = f"another came to port {port} first: {failure}"
+                    if time.monotonic() > until:
+                        break
                     continue
                 except BaseException:
                     host.kill()
                     raise
-                if TAKEN not in said:
+                if TAKEN not in said or time.monotonic() > until:
                     break
         raise Failure(said or "rdbg serve ended at once")
 
@@ -87,11 +93,12 @@ class Host:
 
     def _take(self, port: int, count: int) -> None:
         """Takes all sessions, one after the other, so that their numbers are known. Raises
-        `Failure` where somebody else was let in."""
+        `Failure` where somebody else was let in, or nothing is answered."""
         for _ in range(count):
-            session = Session.attach(port)
+            session = Session.attach(port, seconds=PATIENCE)
             self._sessions.append(session)
             greet(session)
+            session.wait_at_most(None)
 
     def session(self, number: int) -> Session:
         """The session of a number."""

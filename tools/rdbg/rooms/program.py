@@ -1,6 +1,7 @@
 """The program of a room: what it is asked and what it has answered, where its target is, and who has
 the wheel."""
 import threading
+import time
 from typing import Callable, Dict, List, Optional, Sequence
 
 from rdbg import replies
@@ -20,6 +21,9 @@ from rdbg.source import Source
 HISTORY = 250_000
 # With so little of the history left, the room looks no more by itself: one part of so many.
 SCARCE = 10
+# Where no new program can be had then, it is tried again after so many seconds.
+AGAIN = 1.0
+FULL = "no HistoryFull"
 
 
 class Program:
@@ -40,6 +44,8 @@ class Program:
         self._used = 2 * len(self.sessions)
         # (programs before this one, whose history was full: each ends in a thread)
         self._ending: List[threading.Thread] = []
+        # (when a new one is tried to be had again, where that failed)
+        self._again = 0.0
 
     @property
     def place(self) -> int:
@@ -138,23 +144,34 @@ class Program:
         more = [f".. {made - count} moves before these"] if made > count else []
         return more + self.sight.rows(looks)
 
+    def is_scarce(self) -> bool:
+        """Whether so little of the history is left, that a new program should go on."""
+        return self.left() * SCARCE < self.limits.history
+
     def renew(self, seats: Sequence[Seat], ended: Callable[[Audit], None]) -> bool:
         """Goes on with a new program that is where this one is, and whose history has only what
-        leads there; false where that can't be had, or would soon be full again. The old one ends
-        meanwhile; its audit is told to `ended`, from another thread."""
+        leads there; false where that would soon be full again, or where it was tried just now. The
+        old one ends meanwhile; its audit is told to `ended`, from another thread. Raises `Failure`
+        where the new one can't be had."""
+        if time.monotonic() < self._again:
+            return False
         watches = sum(len(it.watch_lines()) for it in seats)
         checks = [*self.sight.lines, "show moves", "show wheel"]
         lines = self.journal.lines()
         used = 2 * len(seats) + watches + len(lines) + len(checks) + 1
-        if 2 * used > self.limits.history:
-            return False
+        host = None
         try:
-            was = self._looks(seats[0], checks)
-            host = Host.start(self.source, self.limits, len(seats))
+            if 2 * used <= self.limits.history:
+                host = Host.start(self.source, self.limits, len(seats))
+                was = self._looks(seats[0], checks)
+                self._bring_here(host, lines, seats, dict(zip(checks, was)))
         except Failure:
-            return False
-        if not self._is_brought_here(host, lines, seats, checks, was):
-            host.kill()
+            if host is not None:
+                host.kill()
+            self._again = time.monotonic() + AGAIN
+            raise
+        if host is None:
+            self._again = time.monotonic() + AGAIN
             return False
         old, self._host, self._used = self._host, host, used
         thread = threading.Thread(target=lambda: ended(old.close()))
@@ -162,21 +179,23 @@ class Program:
         thread.start()
         return True
 
-    def _is_brought_here(
-        self, host: Host, lines: List[str], seats: Sequence[Seat], checks: List[str], was: List[str]
-    ) -> bool:
-        """Brings a new program where this one is; whether it did all it was told, and shows what
-        this one shows."""
-        try:
-            answers = host.tell_all(1, lines)
-            for seat in seats:
-                answers += host.tell_all(seat.number, seat.watch_lines())
-            if self.holder is not None:
-                answers += host.tell_all(self.holder, ["wheel take"])
-            is_same = host.tell_all(1, checks) == was
-        except Ended:
-            return False
-        return is_same and not any(it.startswith("no ") for it in answers)
+    def _bring_here(
+        self, host: Host, lines: List[str], seats: Sequence[Seat], was: Dict[str, str]
+    ) -> None:
+        """Brings a new program where this one is. Raises `Failure` where it doesn't do what it is
+        told, or shows something else than this one does. (One whose history is full shows nothing
+        any more: then the same moves have to do.)"""
+        answers = host.tell_all(1, lines)
+        for seat in seats:
+            answers += host.tell_all(seat.number, seat.watch_lines())
+        if self.holder is not None:
+            answers += host.tell_all(self.holder, ["wheel take"])
+        refused = [it for it in answers if it.startswith("no ")]
+        if refused:
+            raise Failure(f"the new rdbg answered {refused[0]}")
+        for line, reply in zip(was, host.tell_all(1, list(was))):
+            if reply != was[line] != FULL:
+                raise Failure(f"the new rdbg shows {reply}, and the old one {was[line]}")
 
     def wait(self) -> None:
         """Waits until the programs before this one have ended."""

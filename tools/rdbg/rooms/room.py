@@ -5,10 +5,11 @@ import time
 from typing import Callable, Deque, Dict, List, NamedTuple, Optional, Set
 
 from rdbg.commands import MOST_BYTES, Command
+from rdbg.failure import Failure
 from rdbg.rooms import remarks
 from rdbg.rooms.doings import Doing
 from rdbg.rooms.host import MOST_SESSIONS, Audit, Ended, Host
-from rdbg.rooms.program import HISTORY, SCARCE, Program
+from rdbg.rooms.program import FULL, HISTORY, SCARCE, Program
 from rdbg.rooms.seats import Refusal, Seat, Seats, check
 from rdbg.rooms.sight import is_single
 from rdbg.rooms.talk import Talk
@@ -23,7 +24,7 @@ __all__ = ["Ended", "Member", "Refusal", "Room"]
 # nor ask the room anything.
 Hear = Callable[[str], None]
 TOO_LONG, NO_COMMAND = "no LineTooLong", "no Syntax"
-HELD, FULL = "no Held", "no HistoryFull"
+HELD = "no Held"
 # Of a run the last so many moves are told.
 FEW = 5
 # So many remarks of one are answered in a second.
@@ -122,7 +123,8 @@ class Room:
         self._followers: List[Callable[[str, str], None]] = []
         # (the sessions that have asked for the wheel since anybody came or left)
         self._asked: Set[int] = set()
-        self._warned = 0
+        # (how often it was said that the history is nearly full, and whether why it stays so)
+        self._warned, self._is_told_why = 0, False
         self._audits: List[Audit] = []
         self._keep("room", "#", f"opens {source.path}")
 
@@ -363,14 +365,27 @@ class Room:
         if reply == FULL:
             member.hear("# the history is full: what was seen is still answered, nothing else is")
         left, limit = self._program.left(), self._program.limits.history
-        if self._warned == len(NEARLY) or left * NEARLY[self._warned] >= limit:
+        if self._program.is_scarce() and self._renew():
             return
-        if self._program.renew(self._seats.all, self._has_ended):
-            self._warned = 0
-            self.tell("the history was nearly full: a new rdbg goes on from here, all is as it was")
-            return
-        self._warned += 1
-        self.tell(f"the history has room for {left} more lines; what moves did isn't told any more")
+        if self._warned < len(NEARLY) and left * NEARLY[self._warned] < limit:
+            self._warned += 1
+            self.tell(
+                f"the history has room for {left} more lines; what moves did isn't told any more"
+            )
+
+    def _renew(self) -> bool:
+        """Goes on with a new program, and answers whether that could be had."""
+        try:
+            if not self._program.renew(self._seats.all, self._has_ended):
+                return False
+        except Failure as failure:
+            if not self._is_told_why:
+                self.tell(f"no new rdbg goes on yet, which is tried again: {failure}")
+            self._is_told_why = True
+            return False
+        self._warned, self._is_told_why = 0, False
+        self.tell("the history was nearly full: a new rdbg goes on from here, all is as it was")
+        return True
 
     def _has_ended(self, audit: Audit) -> None:
         """A program whose history was full has ended."""

@@ -1,0 +1,119 @@
+"""A room whose history is nearly full, and others who come to the new program's sessions first."""
+import contextlib
+import socket
+import threading
+import unittest
+from typing import Any, Iterator, List, Tuple
+from unittest import mock
+
+from rdbg.client import LOCAL, Session
+from rdbg.rooms import host, program
+from rdbg.rooms.host import Host
+from rdbg.rooms.room import Member, Room
+from rdbg.shell.target import Limits
+from rdbg.source import load
+from tests.rooms import LOST
+
+PATIENCE = 30.0
+
+
+@contextlib.contextmanager
+def taken(most: int) -> Iterator[List[int]]:
+    """As long as somebody else comes to the sessions of each program that a room starts, of so
+    many; it counts them."""
+    found: List[int] = []
+    take = Host._take
+
+    def late(self: Host, port: int, count: int) -> None:
+        if len(found) == most:
+            return take(self, port, count)
+        found.append(port)
+        with socket.create_connection((LOCAL, port)) as other:
+            other.sendall(b"show cores\n")
+            other.recv(100)
+            take(self, port, count)
+
+    with mock.patch.object(Host, "_take", late):
+        yield found
+
+
+@contextlib.contextmanager
+def nearly_full(history: int) -> Iterator[Tuple[Member, List[str], Session]]:
+    """Somebody at a room whose history has so many entries, what is heard there, and a program
+    without a limit beside it."""
+    here = Room.open(load(LOST), Limits(1_000, history), sessions=3)
+    heard: List[str] = []
+    with Session.run(LOST) as alone:
+        yield here.join("left", heard.append), heard, alone
+    assert all(it.is_good for it in here.close())
+
+
+class Renewal(unittest.TestCase):
+    """A new program goes on, whoever connects meanwhile."""
+
+    def setUp(self) -> None:
+        again = mock.patch.object(program, "AGAIN", 0.0)
+        again.start()
+        self.addCleanup(again.stop)
+
+    def go_on(self, member: Member, alone: Session, count: int) -> None:
+        """Does so many lines, of which none is refused."""
+        for at in range(count):
+            for line in ("tick", "back 1", f"poke reg worker 3 {at}", "back 1"):
+                self.assertEqual(alone.tell(line), member.ask(line), f"{line}, {at}")
+
+    def test_others_come_first_for_a_while(self) -> None:
+        with nearly_full(400) as (left, heard, alone):
+            left.ask("watch tick > 3"), alone.tell("watch tick > 3")
+            left.ask("wheel take")
+            with taken(6 * host.TRIES) as found:
+                self.go_on(left, alone, 150)
+            self.assertEqual(6 * host.TRIES, len(found))
+            for line in ("show moves", "show watches", "show task worker"):
+                self.assertEqual(alone.tell(line), left.ask(line))
+            told = [it for it in heard if "no new rdbg goes on yet, which is tried again" in it]
+            self.assertEqual(1, len(told), heard)
+            self.assertRegex(told[0], r"another came to port \d+ first: ")
+            self.assertTrue([it for it in heard if "a new rdbg goes on from here" in it], heard)
+            self.assertNotIn("no HistoryFull", heard)
+
+    def test_others_come_first_until_the_history_is_full(self) -> None:
+        with nearly_full(200) as (left, heard, alone):
+            with taken(10_000):
+                lines = 0
+                while left.ask("tick") != "no HistoryFull":
+                    lines += 1
+                    self.assertLess(lines, 300)
+            for _ in range(lines):
+                alone.tell("tick")
+            # (the line that finds it full has a new one go on)
+            left.ask("tick")
+            self.assertEqual(alone.tell("show cores"), left.ask("show cores"))
+            self.go_on(left, alone, 5)
+
+    def test_one_that_says_nothing_is_not_waited_for(self) -> None:
+        attach = Session.attach
+        attached: List[Session] = []
+
+        def silent(port: int, *given: Any, **named: Any) -> Session:
+            place = listener.getsockname()[1] if len(attached) == 2 else port
+            attached.append(attach(place, *given, **named))
+            return attached[-1]
+
+        found: List[Room] = []
+        with socket.socket() as listener, mock.patch.object(host, "PATIENCE", 0.3):
+            listener.bind((LOCAL, 0))
+            listener.listen()
+            with mock.patch.object(Session, "attach", silent):
+                thread = threading.Thread(
+                    target=lambda: found.append(Room.open(load(LOST), sessions=3)), daemon=True
+                )
+                thread.start()
+                thread.join(PATIENCE)
+        self.assertEqual(1, len(found))
+        self.assertEqual("ok at 1", found[0].join("left", lambda notice: None).ask("step 1"))
+        self.assertTrue(all(it.is_good for it in found[0].close()))
+
+
+if __name__ == "__main__":
+    unittest.main()
