@@ -93,10 +93,6 @@ class Incoming:
         self._whole.extend(line + b"\n" for line in whole)
         return bool(content)
 
-    def wait_at_most(self, seconds: Optional[float]) -> None:
-        """Says how long something that comes is waited for."""
-        self._connection.settimeout(seconds)
-
     def readline(self) -> bytes:
         """The next line with its end; without one at the end of all."""
         while not self._whole:
@@ -116,6 +112,10 @@ class PortLines(Incoming):
     def fileno(self) -> int:
         """What can be waited for; -1 once it is closed."""
         return self._connection.fileno()
+
+    def wait_at_most(self, seconds: Optional[float]) -> None:
+        """Says how long something that comes is waited for."""
+        self._connection.settimeout(seconds)
 
     def close(self) -> None:
         """Closes the connection."""

@@ -8,7 +8,7 @@ import socket
 import subprocess
 import tempfile
 import unittest
-from typing import Iterator, Optional, Tuple
+from typing import Iterator, List, Optional, Tuple
 from unittest import mock
 
 from rdbg.client import Session, program
@@ -221,7 +221,8 @@ class Ports(unittest.TestCase):
         with socket.socket() as free:
             free.bind(("127.0.0.1", 0))
             port = free.getsockname()[1]
-        for more in ([], ["--name", "ada"], [LOST]):
+        words: List[List[str]] = [[], ["--name", "ada"], [LOST]]
+        for more in words:
             errors = io.StringIO()
             with contextlib.redirect_stderr(errors):
                 self.assertEqual(main(["sh", "--port", str(port), *more]), 2)
