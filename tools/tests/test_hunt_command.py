@@ -63,6 +63,15 @@ class Said(unittest.TestCase):
         self.assertEqual(0, said(LOST, "reg poller 7 = 1", *QUICK, "-o", str(file))[0])
         self.assertFalse(file.exists())
 
+    def test_the_application_is_no_place_for_it(self) -> None:
+        text = pathlib.Path(LOST).read_text()
+        written(".", text)
+        words = ["application.json", "stuck", *QUICK, "-o", "./application.json"]
+        status, _, errors = said(*words)
+        self.assertEqual(2, status)
+        self.assertIn("-o ./application.json is the application itself", errors[0])
+        self.assertEqual(text, pathlib.Path("application.json").read_text())
+
     def test_it_is_emptied_before_the_search(self) -> None:
         file = pathlib.Path("found.commands")
         file.write_text("step 0\n")
@@ -201,7 +210,6 @@ class Statuses(unittest.TestCase):
             ([LOST, "stuck", "--smallest", "--all", "2"], "it takes no --all"),
             ([LOST, "differs", "--smallest"], "none of differs"),
             ([LOST, "stuck", "-o", "/none/found.commands"], "cannot write /none/found.commands"),
-            ([LOST, "stuck", "-o", LOST], f"-o {LOST} is the application itself"),
             ([LOST, "stuck", "--workers", "0"], "1 to 1000000, not '0'"),
             ([LOST, "stuck", "--workers", str(most + 1)], f"takes 1 to {most} here, and not"),
             ([LOST], "the following arguments are required"),

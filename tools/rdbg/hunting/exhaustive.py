@@ -12,6 +12,7 @@ from typing import Dict, List, Optional, Sequence, Set, Tuple
 
 from rdbg.hunting.crew import Crew
 from rdbg.hunting.goals import End
+from rdbg.hunting.orders import FIRST_INTERRUPT
 from rdbg.hunting.search import Find, Full
 from rdbg.hunting.standing import Standing
 from rdbg.hunting.states import Key, end_of
@@ -46,6 +47,8 @@ class Exhaustive:
         self.standing = Standing(hunted.application)
         crew.on_stood = self.standing.came
         self._wanted, self._states = finds, states
+        # Whether a handler would have taken more moves than an order may have.
+        self._is_short = False
         self._ends: Set[End] = set()
         self._seen: Set[Key] = set()
         # States that are more than a move behind one, by the number of moves that lead there.
@@ -59,7 +62,8 @@ class Exhaustive:
     def goes_on(self) -> bool:
         """Whether orders go on past the limit of moves, which nobody asked for."""
         is_limit = self.depth.moves == self.hunted.moves
-        return is_limit and self.depth.goes_on and not self.hunted.are_moves_given
+        goes_on = is_limit and self.depth.goes_on or self._is_short
+        return goes_on and not self.hunted.are_moves_given
 
     def run(self) -> None:
         """Goes through all orders, those with fewer moves first. Raises `TimeUp`, and `Full`."""
@@ -71,16 +75,17 @@ class Exhaustive:
             layer = self._next(layer)
             if self.is_done():
                 return
-            if not layer and not self._later:
-                self.depth.is_all = True
-                return
             self.depth.moves += 1
+            if not layer and not self._later:
+                self.depth.is_all = not self._is_short
+                return
 
     def _next(self, layer: Sequence[bytes]) -> List[bytes]:
         """The orders that come to a state that is new, with one move more than these."""
         found: List[bytes] = []
         place = self.depth.moves + 1
         self.depth.goes_on = False
+        self._is_short |= any(map(self._lacks_moves, layer))
         chunks = [layer[at : at + CHUNK] for at in range(0, len(layer), CHUNK)]
         for chunk, families in self.crew.do(Worker.expand, ((it, (it,)) for it in chunks)):
             for path, children in zip(chunk, families):
@@ -97,6 +102,12 @@ class Exhaustive:
                 raise Full
         later = self._later.pop(place, [])
         return [*found, *(way for way, child in later if self._is_new(way, child))]
+
+    def _lacks_moves(self, path: bytes) -> bool:
+        """Whether a handler that can come behind an order would take more moves than there are."""
+        left = self.hunted.moves - self.depth.moves
+        handlers = (it for it in self.hunted.interrupts if it.comes.count > left)
+        return any(path.count(FIRST_INTERRUPT + it.comes.handler) < it.times for it in handlers)
 
     def _is_new(self, path: bytes, child: Child) -> bool:
         """Whether an order comes to a state that is new, and others lead on from there. Keeps it

@@ -320,6 +320,9 @@ class Search:
             batch = Batch(chunk.end - chunk.first)
             for entry in entries:
                 order = chunk.node.order.ahead(entry.offset).then(entry.surprise)
+                if entry.key is None:
+                    self.goes_on = not self._are_moves_given
+                    continue
                 if self._was_seen(entry.key, order.place, seen):
                     batch.again += 1
                     continue

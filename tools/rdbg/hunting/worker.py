@@ -60,11 +60,12 @@ class Hunted:
 
 @dataclasses.dataclass(frozen=True)
 class Entry:
-    """A state behind a surprise, which came so many moves behind an order."""
+    """A state behind a surprise, which came so many moves behind an order; none where the surprise
+    would take more moves than an order may have."""
 
     offset: int
     surprise: Surprise
-    key: Key
+    key: Optional[Key]
     is_so: bool
 
 
@@ -191,15 +192,18 @@ class Worker:
                         continue
                     for surprise in ladder:
                         entry = self._entry(base, offset, surprise, most)
-                        if entry is None:
+                        if entry is not None:
+                            found.append(entry)
+                        if entry is None or entry.key is None:
                             break
-                        found.append(entry)
         return found
 
     def _entry(self, base: Order, offset: int, surprise: Surprise, most: int) -> Optional[Entry]:
         """The state behind a surprise, if it can come."""
         order = base.then(surprise)
-        views = self._stand(order, self.views) if order.place <= most else None
+        if order.place > most:
+            return Entry(offset, surprise, None, False)
+        views = self._stand(order, self.views)
         if views is None:
             return None
         key, look = self._seen(views, order.place, order.came)
