@@ -1,9 +1,10 @@
 """Hunts for the tests: on an example or a file, by the modules or by the companion's words."""
 import contextlib
+import dataclasses
 import io
 import pathlib
 import re
-from typing import List, Optional, Sequence, Tuple
+from typing import FrozenSet, List, Optional, Sequence, Tuple
 
 from rdbg.client import Session
 from rdbg.hunting import goals
@@ -55,6 +56,46 @@ def searched(it: Hunted, limits: Limits, workers: int = 1) -> Tuple[Search, List
         search.on_try = on_try
         search.run()
     return search, tried
+
+
+@dataclasses.dataclass(frozen=True)
+class BySurprises:
+    """A search by surprises, by what a user gives."""
+
+    file: str
+    goal: str
+    moves: int
+    ahead: int
+    surprises: int
+    handlers: Tuple[str, ...] = ()
+
+
+@dataclasses.dataclass(frozen=True)
+class Went:
+    """What a search tried, each order by its lines; and of each find how many surprises and moves it
+    has, and what it comes to."""
+
+    tried: List[Tuple[str, ...]]
+    finds: List[Tuple[int, int, Tuple[str, ...]]]
+
+    @property
+    def ends(self) -> FrozenSet[Tuple[str, ...]]:
+        """What its finds come to."""
+        return frozenset(end for _, _, end in self.finds)
+
+
+def went(
+    it: BySurprises,
+    finds: int = 1,
+    part: Tuple[int, int] = (1, 1),
+    smallest: bool = False,
+    workers: int = 1,
+) -> Went:
+    """What a search, or a part of it, tried and found."""
+    what = hunted(it.file, it.goal, it.moves, it.ahead, handlers=it.handlers)
+    limits = Limits(it.surprises, ROOM, finds, *part, smallest)
+    search, tried = searched(what, limits, workers)
+    return Went(tried, [(len(find.order.told), find.met, find.end) for find in search.finds])
 
 
 def every_order(it: Hunted, finds: int = 1, workers: int = 1) -> Exhaustive:

@@ -155,6 +155,17 @@ class Instructions(Asked):
         for seed in range(6):
             self.check(seed, 1, 5, "notify a 0 1 inc", "send q 41; notify a 0 2 set")
 
+    def test_long_orders(self) -> None:
+        status, errors = self.none(COUNTS, "--surprises", "0", "--moves", "300000")
+        self.assertFalse([line for line in errors if "no order came to" in line])
+        # (a loop is five instructions and five ticks: behind 70,000 of them it counts one more, and
+        # jumps)
+        late = """{"profile": 1, "cores": 1, "tasks": [{"name": "a", "priority": 1,
+        "code": ["add r1 1", "move r2 r1", "add r2 4294897295", "jumpz r2 5", "jump 0", "end"]}]}"""
+        words = ["--surprises", "0", "--moves"]
+        self.assertIn(("a", 5), self.named(self.none(late, *words, "600000")[1]))
+        self.assertNotIn(("a", 5), self.named(self.none(late, *words, "700100")[1]))
+
     def test_behind_a_jump(self) -> None:
         levels = ["--ahead", "2", "--moves", "20", "--surprises"]
         _, errors = self.none(JUMPS, *levels, "0")

@@ -18,7 +18,7 @@ GOALS = (
     *("reg a 1 = 0", "reg a 1 = 1", "reg a 0 = 1", "pc a = 0", "pc a > 1", "count q = 0", "count q > 0"),
     *("phase a run", "phase a ended", "phase a wait", "note a 0 < 1", "reg a 1 > 2", STUCK, FAILED),
 )  # fmt: skip
-SEEDS = range(8)
+SEEDS = range(6)
 MOVES, AHEAD, SURPRISES = 6, 2, 2
 RING, SEND, BOTH = "notify a 0 1 inc", "send q 41", "send q 42; notify a 0 2 set"
 

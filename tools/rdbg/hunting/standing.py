@@ -26,6 +26,12 @@ def following(task: Task, pc: int) -> Iterator[int]:
         yield pc + 1
 
 
+def further(application: Application, at: At) -> List[At]:
+    """Those behind one, of an application."""
+    task = application.task(at[0])
+    return [] if task is None else [(task.name, pc) for pc in following(task, at[1])]
+
+
 class Standing:
     """The instructions of an application that no order has come to."""
 

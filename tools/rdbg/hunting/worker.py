@@ -13,11 +13,11 @@ from rdbg.failure import Failure
 from rdbg.hunting.goals import End, Goal, is_stuck
 from rdbg.hunting.interrupts import AnInterrupt
 from rdbg.hunting.orders import FIRST_INTERRUPT, TICK, Order, chosen, way, with_move
-from rdbg.hunting.standing import At
+from rdbg.hunting.standing import At, further
 from rdbg.hunting.states import Key, end_of, key_of, with_came
 from rdbg.hunting.surprises import Came, Kind, Ladder, Surprise
 from rdbg.looks import Look, Names
-from rdbg.replies import Cores, Task
+from rdbg.replies import Cores
 from rdbg.shell.interrupt import Interrupt
 from rdbg.shell.opening import begin
 from rdbg.shell.target import Limits, read
@@ -117,7 +117,6 @@ class Worker:
         self.hunted, self.goal = hunted, hunted.goal
         self.names = Names.of(hunted.application)
         self.views = self.names.lines()
-        self._tasks = [f"show task {name}" for name in self.names.tasks]
         self._walk: Optional[Walk] = None
         self._now = Order()
         self._stood: Set[At] = set()
@@ -235,22 +234,26 @@ class Worker:
         looks = [[*back, f"until pc {task} = {pc} {made}"] for task, pc in asked.border if made]
         answers = target.tell_all([*views, *(line for look in looks for line in look), *back])
         if any(answer.endswith(" met") for answer in answers[len(views) :]):
-            self._look_through(order, made)
+            self._look_for(order, asked.border, made)
         if not views:
             return None
         key, look = self._seen(answers[: len(views)], 0, order.came)
         return key if self._goes_on(look, order.came) else None
 
-    def _look_through(self, order: Order, count: int) -> None:
-        """Looks where tasks stand in so many states behind an order, and goes back to its end."""
+    def _look_for(self, order: Order, border: Sequence[At], count: int) -> None:
+        """Looks to which of these instructions tasks come in so many moves behind an order, and to
+        which of those that follow them; and goes back to its end."""
         self.walk.goto(0)
         self._now = Order()
         self._stand(order, [])
-        for answer in self.walk.target.tell_all(["forward 1", *self._tasks] * count):
-            value = read(answer)
-            if isinstance(value, Task):
-                self._stood.add((value.name, value.pc))
-        self.walk.goto(order.place)
+        left = list(border)
+        for name, pc in left:  # (which grows)
+            if self.walk.until(f"pc {name} = {pc}", count) is not None:
+                self._stood.add((name, pc))
+                left += [
+                    it for it in further(self.hunted.application, (name, pc)) if it not in left
+                ]
+            self.walk.goto(order.place)
 
     def _goes_on(self, look: Look, came: Came) -> bool:
         """Whether more can happen behind a state than that ticks pass, or the goal asks for these."""
