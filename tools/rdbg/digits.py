@@ -2,10 +2,8 @@
 
 `str.isdigit` is true of others, as of `\u00b2`, and `int` refuses a few thousand digits.
 """
-import re
 from typing import Optional
 
-DIGITS = re.compile("[0-9]+")
 # A number of a line has no more of them (docs/FORMATS.md).
 LONGEST = 10
 # More of them, without the zeros in front, are more than any number that is taken.
@@ -14,7 +12,7 @@ MOST_DIGITS = 20
 
 def is_digits(text: str) -> bool:
     """Whether a text is digits alone, of ASCII, and one at the least."""
-    return DIGITS.fullmatch(text) is not None
+    return text.isascii() and text.isdigit()
 
 
 def natural(text: str, most: int, least: int = 0) -> Optional[int]:

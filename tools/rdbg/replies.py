@@ -7,10 +7,12 @@ import dataclasses
 import re
 from typing import Any, Callable, Dict, List, Optional, Tuple, Union
 
+from rdbg.digits import MOST_DIGITS, is_digits
 from rdbg.failure import Failure
 
 NOBODY = "-"
 MAX = "max"
+IS_NAME = re.compile(r"[a-z][a-z0-9_]{0,15}")
 
 
 class Refused(Exception):
@@ -194,7 +196,7 @@ Reply = Union[
 
 def number(text: str) -> int:
     """A decimal number."""
-    if not re.fullmatch(r"[0-9]{1,20}", text):
+    if len(text) > MOST_DIGITS or not is_digits(text):
         raise ValueError(text)
     return int(text)
 
@@ -208,7 +210,7 @@ def bit(text: str) -> int:
 
 def name(text: str) -> str:
     """A name of the application."""
-    if not re.fullmatch(r"[a-z][a-z0-9_]{0,15}", text):
+    if not IS_NAME.fullmatch(text):
         raise ValueError(text)
     return text
 
@@ -220,7 +222,7 @@ def or_nobody(read: Callable[[str], Any]) -> Callable[[str], Any]:
 
 def listed(read: Callable[[str], Any]) -> Callable[[str], Tuple[Any, ...]]:
     """Reads a list; `-` is the empty one."""
-    return lambda text: () if text == NOBODY else tuple(read(each) for each in text.split(","))
+    return lambda text: () if text == NOBODY else tuple(map(read, text.split(",")))
 
 
 def content(text: str) -> bytes:
@@ -398,7 +400,7 @@ def read(line: str) -> Reply:
         if found:
             try:
                 texts = found.groups()
-                return form.make(*(each(text) for each, text in zip(form.fields, texts)))
+                return form.make(*[each(text) for each, text in zip(form.fields, texts)])
             except ValueError:
                 continue
     raise Unreadable(line)

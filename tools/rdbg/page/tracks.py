@@ -14,14 +14,16 @@ class Values:
 
     def __init__(self) -> None:
         self.listed: List[Value] = []
-        self._numbers: Dict[str, int] = {}
+        self._numbers: Dict[object, int] = {}
 
     def number(self, value: Value) -> int:
         """The number of a value."""
-        text = json.dumps(value)
-        number = self._numbers.get(text)
+        # (most are plain, and their text would take long)
+        is_plain = value is None or isinstance(value, (int, str))
+        key = (type(value), value) if is_plain else json.dumps(value)
+        number = self._numbers.get(key)
         if number is None:
-            number = self._numbers[text] = len(self.listed)
+            number = self._numbers[key] = len(self.listed)
             self.listed.append(value)
         return number
 

@@ -5,7 +5,7 @@ at in pieces, by programs side by side.
 """
 import dataclasses
 import functools
-from typing import Iterator, List, Optional, Sequence, Tuple
+from typing import Callable, Iterator, List, Optional, Sequence, Tuple
 
 from rdbg.effects import Move
 from rdbg.failure import Failure
@@ -59,6 +59,11 @@ class Run:
     def begin(self) -> Target:
         """A program of its own, at boot."""
         return begin(self.source, self.limits)
+
+    @property
+    def ways(self) -> int:
+        """How many lines it takes to go back to moves, and forth again, at the most."""
+        return 2 * self.limits.moves // LEAST_PIECE
 
 
 @dataclasses.dataclass(frozen=True)
@@ -114,8 +119,7 @@ class Part:
 
 def room_for_moves(run: Run, target: Target, told: int) -> int:
     """How many moves the history has room to look at, once so many lines were told."""
-    ways = 2 * run.limits.moves // LEAST_PIECE
-    left = run.limits.history - told - RESERVE - ways - trail.lines_for(0, target.names)
+    left = run.limits.history - told - RESERVE - run.ways - trail.lines_for(0, target.names)
     return min(MOST_MOVES, left // (trail.lines_for(1, target.names) + 1))
 
 
@@ -181,22 +185,53 @@ def walk_through(walk: Walk, first: int, last: int) -> Part:
     return Part(before, tuple(moves), tuple(looks))
 
 
-def part_of(run: Run, piece: Piece) -> Part:
-    """Looks at a piece, in a program of its own."""
-    target = run.begin()
-    with target.session:
-        for _ in target.session.tell_all(it.text for it in run.lines[: piece.told]):
+class Looker:
+    """Looks at pieces of a run, one after the other. Its program, which has been told the lines up to
+    one piece, is kept for the next as long as its history has room."""
+
+    def __init__(self, run: Run) -> None:
+        self._run = run
+        self._target: Optional[Target] = None
+        self._told = 0
+
+    def __enter__(self) -> Callable[[Piece], Part]:
+        return self.part
+
+    def __exit__(self, *error: object) -> None:
+        if self._target is not None:
+            self._target.session.kill()
+
+    def part(self, piece: Piece) -> Part:
+        """What there is to see of a piece."""
+        target = self._ready(piece)
+        for _ in target.session.tell_all(
+            it.text for it in self._run.lines[self._told : piece.told]
+        ):
             pass
+        self._told = piece.told
         return look_through(target, piece.first, piece.last)
+
+    def _ready(self, piece: Piece) -> Target:
+        """The program as it is, where it has room for a piece, or a new one."""
+        target = self._target
+        if target is not None:
+            count = piece.last - piece.first + 1
+            needed = piece.told - self._told + trail.lines_for(count, target.names)
+            if piece.told >= self._told and target.can_afford(needed + self._run.ways):
+                return target
+            target.session.kill()
+        self._target, self._told = self._run.begin(), 0
+        return self._target
 
 
 def parts(run: Run, pieces: Sequence[Piece], workers: int) -> Iterator[Part]:
     """Looks at the pieces, so many at a time, and yields each in its order. Of those that are
     looked at no more are kept than there are workers."""
     if workers < 2 or len(pieces) < 2:
-        yield from (part_of(run, piece) for piece in pieces)
+        with Looker(run) as look:
+            yield from map(look, pieces)
     else:
-        yield from side_by_side(functools.partial(part_of, run), pieces, workers)
+        yield from side_by_side(functools.partial(Looker, run), pieces, workers)
 
 
 def part_at(target: Target, first: Optional[int], last: Optional[int]) -> Tuple[Part, int]:

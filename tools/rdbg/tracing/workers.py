@@ -8,7 +8,7 @@ import multiprocessing
 import multiprocessing.connection
 import multiprocessing.process
 import signal
-from typing import Callable, Iterator, List, Sequence, TypeVar
+from typing import Callable, ContextManager, Iterator, List, Sequence, TypeVar
 
 from rdbg.failure import Failure
 
@@ -17,8 +17,12 @@ Answer = TypeVar("Answer")
 Pipe = multiprocessing.connection.Connection
 
 
+# What does jobs as long as a block goes on.
+Begin = Callable[[], ContextManager[Callable[[Job], Answer]]]
+
+
 def serve(
-    work: Callable[[Job], Answer], jobs: Sequence[Job], answers: Pipe, others: Sequence[Pipe]
+    begin: Begin[Job, Answer], jobs: Sequence[Job], answers: Pipe, others: Sequence[Pipe]
 ) -> None:
     """Does jobs until all are done, or nobody takes the answers any more. Ctrl-C is left to the
     process that started this one, and so are the pipes of the others, which it has too."""
@@ -27,16 +31,16 @@ def serve(
         pipe.close()
     with contextlib.suppress(OSError):
         try:
-            for job in jobs:
-                answers.send((work(job), None))
+            with begin() as work:
+                for job in jobs:
+                    answers.send((work(job), None))
         except Exception as error:
             answers.send((None, error))
 
 
-def side_by_side(
-    work: Callable[[Job], Answer], jobs: Sequence[Job], count: int
-) -> Iterator[Answer]:
-    """The answers to jobs, by so many processes. What one of them raises is raised here."""
+def side_by_side(begin: Begin[Job, Answer], jobs: Sequence[Job], count: int) -> Iterator[Answer]:
+    """The answers to jobs, by so many processes, each of which begins by itself. What one of them
+    raises is raised here."""
     context = multiprocessing.get_context("fork")
     processes: List[multiprocessing.process.BaseProcess] = []
     pipes: List[Pipe] = []
@@ -44,7 +48,7 @@ def side_by_side(
         for first in range(min(count, len(jobs))):
             here, there = context.Pipe(duplex=False)
             pipes.append(here)
-            share = (work, jobs[first::count], there, list(pipes))
+            share = (begin, jobs[first::count], there, list(pipes))
             processes.append(context.Process(target=serve, args=share, daemon=True))
             processes[-1].start()
             there.close()
