@@ -18,8 +18,9 @@ LOOKS = ("where", "info tasks", "info jobs", "print r0 worker", "list worker")
 
 
 def filtered(here: Process, *lines: str, name: str = "ada") -> List[str]:
-    """What a filter in a room prints."""
-    words = ["sh", "--port", str(here.port), "--name", name, LOST]
+    """What a filter in a room prints; without a name that of a guest."""
+    named = ["--name", name] if name else []
+    words = ["sh", "--port", str(here.port), LOST, *named]
     ran = subprocess.run(
         [sys.executable, "-B", str(COMPANION), *words],
         input="".join(f"{line}\n" for line in lines),
@@ -99,8 +100,10 @@ class Typed(unittest.TestCase):
         with talk() as file, room("--talk", str(file)) as here:
             for _ in range(3):
                 filtered(here)
+            filtered(here, "", "info jobs", name="")
             here.end()
             self.assertEqual(of("ada", file), [])
+            self.assertEqual([line for line, _ in of("guest1", file)], ["info jobs"])
 
     def test_a_line_that_is_as_long_as_can_be(self) -> None:
         with talk() as file, room("--talk", str(file)) as here:

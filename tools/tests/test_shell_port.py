@@ -221,7 +221,7 @@ class Ports(unittest.TestCase):
         with socket.socket() as free:
             free.bind(("127.0.0.1", 0))
             port = free.getsockname()[1]
-        words: List[List[str]] = [[], ["--name", "ada"], [LOST]]
+        words: Tuple[List[str], ...] = ([], ["--name", "ada"], [LOST])
         for more in words:
             errors = io.StringIO()
             with contextlib.redirect_stderr(errors):

@@ -254,7 +254,8 @@ class Room:
             except Ended:
                 self._keep(member.name, line, "")
                 raise
-            if member.doing is None or not member.doing.has(command_of(line)):
+            is_part = member.doing is not None and member.doing.has(command_of(line))
+            if line.strip() and not is_part:
                 self._keep(member.name, line, reply)
             self._warn(member, reply)
             return reply

@@ -7,7 +7,7 @@ import select
 import threading
 from typing import Callable, Iterator, List, Optional, Sequence, Tuple
 
-from rdbg.client import ROOM_ENDED, Session
+from rdbg.client import Session
 from rdbg.failure import Failure
 
 # A move of a run, told in a line of its own behind the line of the run.
@@ -61,8 +61,7 @@ class Notices:
             found = MOVED.match(notice)
             if found:
                 self._moved(int(found[1]))
-            if not notice.startswith(ROOM_ENDED):  # (which is said at the end of all)
-                self._show(notice)
+            self._show(notice)
 
     def told(self, reply: str) -> Tuple[str, List[str]]:
         """What the line that was answered so last did: in a few words, or a row each for the moves

@@ -7,6 +7,7 @@ import time
 from typing import Iterator, Optional, Sequence
 
 from rdbg import commands
+from rdbg.client import ROOM_ENDED
 from rdbg.looks import Look, Names
 from rdbg.replies import Cores, Refused
 from rdbg.shell import hints, needs, trail, views
@@ -64,9 +65,10 @@ class Shell:
         self.notices.said(reply)
 
     def _notice(self, notice: str) -> None:
-        """Prints a notice of a room."""
-        self._wipe()
-        print(notice, flush=True)
+        """Prints a notice of a room; its last one is said at the end of all."""
+        if not notice.startswith(ROOM_ENDED):
+            self._wipe()
+            print(notice, flush=True)
 
     def progress(self, made: int, of: int, done: str) -> None:
         """Shows at a terminal how far something long is: it stands in one line, and goes away."""
