@@ -191,7 +191,9 @@ class Doings(unittest.TestCase):
 
     def test_what_others_do_meanwhile_is_told_behind_it(self) -> None:
         self.do(self.ada, "# does something", "step 1", "step 1", "show cores")
-        self.assertEqual(self.heard, [])
+        self.bo.ask("watch tick = 3")
+        self.assertEqual(self.heard, ["# bo: watch tick = 3 -> ok watch 0"])
+        self.heard.clear()
         self.bo.ask("tick")
         self.do(self.ada, "step 0", "# did at 9 met: no place that there is | more")
         told = [re.sub(", .*", "", it) for it in self.heard]

@@ -4,7 +4,7 @@ import collections
 import time
 from typing import Callable, Deque, Dict, List, NamedTuple, Optional, Set
 
-from rdbg.commands import MOST_BYTES, Command
+from rdbg.commands import MOST_BYTES, TARGET, Command
 from rdbg.failure import Failure
 from rdbg.rooms import remarks
 from rdbg.rooms.doings import Doing
@@ -326,9 +326,9 @@ class Room:
 
     def _tell_done(self, member: Member, command: Command, lines: List[str]) -> None:
         """Tells all what somebody has done; the others later where it is but a part of something.
-        What they are in the midst of themselves was done before."""
+        Where it moves the target, what they are in the midst of themselves was done before."""
         for other in self._members.values():
-            if other is not member:
+            if other is not member and TARGET in command.form.changes:
                 self._tell_doing(other)
         if member.doing is not None and member.doing.has(command):
             for line in lines:
