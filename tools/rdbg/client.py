@@ -127,8 +127,7 @@ class Session:
 
     `on_line`, where it is set, is told each line with its reply, `on_ask` the lines that are about
     to be sent; `on_notice` each notice, wherever a reply is read, and at once those that came before
-    it was set. At a room `name` and `number`
-    are those by which the room knows the session.
+    it was set. At a room `name` and `number` are those by which the room knows the session.
     """
 
     def __init__(self, lines: IO[bytes], answers: Union[IO[bytes], PortLines], name: str) -> None:
@@ -141,7 +140,8 @@ class Session:
         self.on_ask: Optional[Callable[[Sequence[str]], None]] = None
         self.name: Optional[str] = None
         self.number: Optional[int] = None
-        self._goodbye = ""
+        # (the notice that came last, where nothing came behind it)
+        self._last = ""
         self._on_notice: Optional[Callable[[str], None]] = None
         self._unheard: Deque[str] = collections.deque(maxlen=UNHEARD)
 
@@ -283,6 +283,7 @@ class Session:
             self._hear(reply)
             reply = self._line()
         self._owed -= 1
+        self._last = ""
         return text_of(reply)
 
     def _line(self) -> bytes:
@@ -302,8 +303,7 @@ class Session:
         found = YOU.match(notice)
         if found:
             self.name, self.number = found[1], int(found[2])
-        if notice.startswith(ROOM_ENDED):
-            self._goodbye = notice[len("# ") :]
+        self._last = notice
         if self._on_notice is None:
             self._unheard.append(notice)
         else:
@@ -324,6 +324,7 @@ class Session:
             self._hear(heard)
             heads = (REFUSED, "# you are ", "# here: ", "# at ", f"# {self.name} ")
             is_answered = text_of(heard).startswith(heads)
+        self._last = ""
 
     def note(self, line: str) -> None:
         """Says a line that begins with `#`, and isn't answered, to a room; else it says nothing."""
@@ -367,13 +368,12 @@ class Session:
     def why_ended(self) -> str:
         """Why there are no more replies."""
         if self._process is None:
-            last = self._unheard[-1] if self._unheard else ""
-            if last.startswith(REFUSED):
-                return f"{self._name}: {last[len(REFUSED) :]}"
-            of_room = f"the room has ended: {self._name} has closed the connection"
-            return self._goodbye or (
-                of_room if self.name else f"{self._name} has closed the connection"
-            )
+            closed = f"{self._name} has closed the connection"
+            if self._last.startswith(ROOM_ENDED):
+                return self._last[len("# ") :]
+            if self._last.startswith(REFUSED):
+                return f"{self._name}: {self._last[len(REFUSED) :]}"
+            return f"the room has ended: {closed}" if self.name else closed
         status = self._process.wait()
         said = self.errors().strip().splitlines()
         return said[-1] if said else f"rdbg has ended, with status {status}"

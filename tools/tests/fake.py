@@ -7,7 +7,7 @@ import stat
 import sys
 import tempfile
 import threading
-from typing import Callable, Iterator, Sequence
+from typing import Callable, Iterator, Optional, Sequence
 from unittest import mock
 
 TEXT = """#!{python} -B
@@ -37,18 +37,18 @@ def program(answers: Sequence[str], error: str = "", status: int = 0) -> Iterato
 
 
 @contextlib.contextmanager
-def port(answer: Callable[[str], bytes]) -> Iterator[int]:
+def port(answer: Callable[[str], Optional[bytes]]) -> Iterator[int]:
     """A port at which one connection is answered: to each line it is sent what `answer` says of
-    it, and closed where that is nothing."""
+    it. It is closed where that is none, and behind what ends with a byte 0."""
 
     def serve() -> None:
         with contextlib.suppress(OSError), listener.accept()[0] as connection:
             with connection.makefile("rb") as lines:
                 for line in lines:
                     said = answer(line.decode().rstrip("\n"))
-                    if not said:
+                    connection.sendall((said or b"").rstrip(b"\0"))
+                    if said is None or said.endswith(b"\0"):
                         return
-                    connection.sendall(said)
 
     with socket.socket() as listener:
         listener.bind(("127.0.0.1", 0))

@@ -3,7 +3,7 @@ for its own."""
 import subprocess
 import sys
 import unittest
-from typing import Tuple
+from typing import Optional, Tuple
 
 from tests import fake
 from tests.paths import COMPANION
@@ -20,12 +20,22 @@ KNOWN = {
     "show watches": f"{WILD}\n",
     "tick": f"# bo: {WILD} -> ok at {'9' * 5_000}\nok at {'9' * 5_000}\n",
     "# who": f"{WILD}\n",
+    "show queue jobs": "# no: it doesn't read\n\0",
+    "# wheel": "# no: the wheel is free\n",
+    "show task a": "# bo says: well\n\0",
+    "show task b": "# the room has ended: closed 5\n\0",
 }
+
+
+def answer(line: str) -> Optional[bytes]:
+    """What is answered to a line; what a prompt says around its lines isn't."""
+    said = "" if line.startswith(("# does", "# did")) else KNOWN.get(line)
+    return None if said is None else said.encode()
 
 
 def ran(lines: str) -> Tuple[int, str, str]:
     """The status of a filter that is given these lines, and what it prints."""
-    with fake.port(lambda line: KNOWN.get(line, "").encode()) as port:
+    with fake.port(answer) as port:
         words = [sys.executable, "-B", str(COMPANION), "sh", "--port", str(port), "--name", "ada"]
         done = subprocess.run(
             words,
@@ -64,6 +74,20 @@ class FalsePort(unittest.TestCase):
                 why = "rdbg answered what no reply looks like"
                 self.assertEqual(errors, f"rdbg sh: {why}: '{reply}'\n")
                 self.assertTrue(output.replace("\n", "").isprintable(), repr(output))
+
+    def test_why_a_connection_has_ended(self) -> None:
+        closed = r"the room has ended: the server at port \d+ has closed the connection"
+        ends = {
+            "show queue jobs": r"the server at port \d+: it doesn't read",
+            "# wheel\nquite": closed,
+            "show task a": closed,
+            "show task b": "the room has ended: closed 5",
+        }
+        for lines, why in ends.items():
+            with self.subTest(lines):
+                status, _, errors = ran(f"{lines}\n")
+                self.assertEqual(status, 1)
+                self.assertRegex(errors, f"^rdbg sh: {why}\n$")
 
     def test_a_number_of_five_thousand_digits(self) -> None:
         status, _, errors = ran("tick\n")
