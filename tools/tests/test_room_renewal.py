@@ -52,9 +52,10 @@ class Renewal(unittest.TestCase):
     """A new program goes on, whoever connects meanwhile."""
 
     def setUp(self) -> None:
-        again = mock.patch.object(program, "AGAIN", 0.0)
-        again.start()
-        self.addCleanup(again.stop)
+        for name in ("TRIES", "AGAIN"):
+            patch = mock.patch.object(program, name, 0.0)
+            patch.start()
+            self.addCleanup(patch.stop)
 
     def go_on(self, member: Member, alone: Session, count: int) -> None:
         """Does so many lines, of which none is refused."""
@@ -66,9 +67,9 @@ class Renewal(unittest.TestCase):
         with nearly_full(400) as (left, heard, alone):
             left.ask("watch tick > 3"), alone.tell("watch tick > 3")
             left.ask("wheel take")
-            with taken(6 * host.TRIES) as found:
+            with taken(30) as found:
                 self.go_on(left, alone, 150)
-            self.assertEqual(6 * host.TRIES, len(found))
+            self.assertEqual(30, len(found))
             for line in ("show moves", "show watches", "show task worker"):
                 self.assertEqual(alone.tell(line), left.ask(line))
             told = [it for it in heard if "no new rdbg goes on yet, which is tried again" in it]

@@ -16,8 +16,8 @@ from rdbg.source import Source
 # So many sessions serve lets in, one after the other, and no more.
 MOST_SESSIONS = 64
 # A port that was free can be taken before serve listens there, and others can come to serve first:
-# another one is tried so often, or for so many seconds.
-TRIES, SECONDS = 5, 5.0
+# other ones are tried for so many seconds.
+SECONDS = 10.0
 # A session that has come is answered within so many seconds.
 PATIENCE = 5.0
 TAKEN = "cannot listen"
@@ -44,12 +44,18 @@ class Host:
         self._sessions: List[Session] = []
 
     @classmethod
-    def start(cls, source: Source, limits: Limits, count: int = MOST_SESSIONS) -> "Host":
-        """Starts it on an application as it was read. Ctrl-C at the terminal doesn't reach it.
-        Raises `Failure` where it can't be started."""
-        said, until = "", time.monotonic() + SECONDS
+    def start(
+        cls,
+        source: Source,
+        limits: Limits,
+        count: int = MOST_SESSIONS,
+        seconds: float = SECONDS,
+    ) -> "Host":
+        """Starts it on an application as it was read, and tries so long at the most. Ctrl-C at the
+        terminal doesn't reach it. Raises `Failure` where it can't be started."""
+        until = time.monotonic() + seconds
         with as_read(source) as path:
-            for _ in range(TRIES):
+            while True:
                 port = free_port()
                 words = ["--app", path, "--port", str(port), "--sessions", str(count)]
                 host = cls._begin([program(), "serve", *words, *limits.words()])
@@ -58,18 +64,15 @@ class Host:
                         host._take(port, count)
                         return host
                     said = host.kill()
+                    is_again = TAKEN in said
                 except Failure as failure:
                     host.kill()
-                    said = f"another came to port {port} first: {failure}"
-                    if time.monotonic() > until:
-                        break
-                    continue
+                    said, is_again = f"another came to port {port} first: {failure}", True
                 except BaseException:
                     host.kill()
                     raise
-                if TAKEN not in said or time.monotonic() > until:
-                    break
-        raise Failure(said or "rdbg serve ended at once")
+                if not is_again or time.monotonic() > until:
+                    raise Failure(said or "rdbg serve ended at once")
 
     @classmethod
     def _begin(cls, words: List[str]) -> "Host":

@@ -21,8 +21,9 @@ from rdbg.source import Source
 HISTORY = 250_000
 # With so little of the history left, the room looks no more by itself: one part of so many.
 SCARCE = 10
-# Where no new program can be had then, it is tried again after so many seconds.
-AGAIN = 1.0
+# Then a new program goes on. It is tried to be had for so many seconds, while nobody is answered, and
+# where it can't be had once more after so many.
+TRIES, AGAIN = 0.3, 1.0
 FULL = "no HistoryFull"
 
 
@@ -162,7 +163,7 @@ class Program:
         host = None
         try:
             if 2 * used <= self.limits.history:
-                host = Host.start(self.source, self.limits, len(seats))
+                host = Host.start(self.source, self.limits, len(seats), TRIES)
                 was = self._looks(seats[0], checks)
                 self._bring_here(host, lines, seats, dict(zip(checks, was)))
         except Failure:

@@ -35,7 +35,8 @@ class Coming {
     this.isAsking = false;
     dialog.querySelector("form").addEventListener("submit", (event) => {
       event.preventDefault();
-      come(this.input.value.trim());
+      if (!this.isWaiting) come(this.input.value.trim());
+      this.isWaiting = true;
     });
     // (Escape closes it, but nobody is here without a name)
     dialog.addEventListener("close", () => this.isAsking && dialog.showModal());
@@ -45,6 +46,7 @@ class Coming {
   ask(why) {
     this.dialog.querySelector(".why").textContent = why;
     this.isAsking = true;
+    this.isWaiting = false;
     if (!this.dialog.open) this.dialog.showModal();
     this.input.select();
   }
