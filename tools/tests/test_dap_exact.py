@@ -64,6 +64,14 @@ class Known:
                 cores = range(self.target.application.cores if self.target.application else 1)
                 self.target.tell(f"step {self.chance.choice(cores)}")
 
+    def change(self) -> None:
+        """Other moves from some place on, an edit among them."""
+        self.walk.goto(self.chance.randint(1, PLACES - 1))
+        task = self.chance.choice(list(self.looks[0].tasks))
+        self.target.tell(f"poke reg {task} 0 {self.chance.randint(0, 3)}")
+        self._mixed()
+        self.met.clear()
+
     def _at(self, place: int) -> Look:
         self.walk.goto(place)
         return self.target.look()
@@ -184,6 +192,22 @@ class Exact(unittest.TestCase):
                         stops = [known.stop() for _ in range(known.chance.randint(1, 3))]
                         for _ in range(2):
                             self.both_ways(known, stops)
+
+    def test_once_moves_are_others(self) -> None:
+        for name, path in applications():
+            with self.subTest(name):
+                target = begin(load(path), Limits())
+                with target.session:
+                    known = Known(target, random.Random(name))
+                    plain = [known.plain() for _ in range(3)]
+                    counted = Counted(plain[0], "% 2", HITS["% 2"])
+                    for _ in range(4):
+                        found = [known.places(stop) for stop in plain]
+                        known.met[counted] = set(sorted(found[0])[1::2])
+                        groups: List[List[Stop]] = [plain[1:], [*plain, counted], [counted]]
+                        for stops in groups:
+                            self.both_ways(known, stops)
+                        known.change()
 
     def test_by_new_moves(self) -> None:
         for name, path in applications():

@@ -6,6 +6,7 @@ from typing import Any, Callable, Dict, Iterator, List, Optional, Sequence, Tupl
 from rdbg import replies
 from rdbg.adapter.breakpoints import Breakpoint, Breakpoints
 from rdbg.adapter.hearing import MOVED, Hearing
+from rdbg.adapter.known import Facts
 from rdbg.adapter.messages import Arguments, Values, Wrong, event
 from rdbg.adapter.pausing import Pause
 from rdbg.adapter.running import Outcome, Runner
@@ -24,7 +25,7 @@ from rdbg.shell.views import phase_text
 # Of a run of more moves than MANY the last FEW are told.
 MANY, FEW = 20, 5
 # So many moves a run makes at the most, unless `launch` says another number.
-LIMIT = 10_000
+LIMIT = 200_000
 FAILURE = "exception"
 
 
@@ -91,6 +92,7 @@ class Debugger:
         """Goes on with this shell and its file."""
         first, column = self.text.first_line, self.text.first_column
         self._shell = shell
+        Facts.of(shell.walk)  # (which hears of all moves from here on)
         self.text = Text(shell.source)
         self.text.count_from(first, column)
         self.threads.learn(shell.target.names.tasks)

@@ -1,9 +1,11 @@
 """What is known of the moves of a target: where stops are met among them, and which of them a run
 would make the same again. It is kept for as long as these moves are what they were."""
 import bisect
+import weakref
 from typing import Dict, Hashable, List, Sequence, Tuple
 
 from rdbg.shell.target import SINGLE, Target
+from rdbg.shell.walk import Walk
 
 # Words by which a run makes moves.
 RUNS = ("forward", "until")
@@ -18,6 +20,10 @@ class Stretches:
     def add(self, low: int, high: int) -> None:
         """Adds the moves behind `low` up to `high`."""
         if low >= high:
+            return
+        first, last = self._all[-1] if self._all else (high, high)
+        if first <= low <= last:  # (as mostly)
+            self._all[-1] = (first, max(high, last))
             return
         near = [it for it in self._all if it[0] <= high and it[1] >= low]
         apart = [it for it in self._all if it not in near]
@@ -78,10 +84,11 @@ class Facts:
         self._runs = Stretches()
 
     @classmethod
-    def of(cls, target: Target) -> "Facts":
-        """Those of a target, which are the same for all who ask."""
-        there = getattr(target.session.on_line, "__self__", None)
-        return there if isinstance(there, cls) and there._target is target else cls(target)
+    def of(cls, walk: Walk) -> "Facts":
+        """Those of the target that is walked here, which are the same for all who ask."""
+        if walk not in ALL:
+            ALL[walk] = cls(walk.target)
+        return ALL[walk]
 
     @property
     def floor(self) -> int:
@@ -120,3 +127,7 @@ class Facts:
         self._runs.cut(place)
         for met in self._met.values():
             met.cut(place)
+
+
+# What is known, for as long as somebody walks there.
+ALL: "weakref.WeakKeyDictionary[Walk, Facts]" = weakref.WeakKeyDictionary()

@@ -18,6 +18,8 @@ from rdbg.shell.target import Limits, Target
 from rdbg.source import Source
 
 BUILTIN = "built-in.fw"
+# So many moves may be done at a time, unless `launch` says another number.
+MOVES = 1_000_000
 # Faults of a file that are told at once.
 MOST_FAULTS = 20
 Tell = Callable[[str], None]
@@ -112,7 +114,7 @@ def launch(given: Arguments, pause: Pause, tell: Tell) -> Shell:
     given.flag("stopOnEntry", True)  # (which is asked for later)
     path = file_of(given)
     source = built_in() if path is None else read(path)
-    limits = Limits(count(given, "moves", Limits.moves), count(given, "history", Limits.history, 2))
+    limits = Limits(count(given, "moves", MOVES), count(given, "history", Limits.history, 2))
     words = [program(given.flag("unproved"), tell), "run"]
     target = begin(words, None if path is None else source, source, limits)
     return EditorShell(target, source, pause)

@@ -18,9 +18,10 @@ from rdbg.shell.walk import MOST_PIECE, Walk
 
 # Stops are looked for within so many moves, then within so many times more, up to this.
 FIRST_WINDOW, WIDER, MOST_WINDOW = 64, 8, 65_536
-# So many moves that were taken back are looked at one by one at first; so many of those that a run
-# would make again; and so many of others.
-FIRST_LOOKED, LOOKED_OF_RUNS, LOOKED = 16, 64, 8_192
+# Moves that were taken back are looked at so many at a time, at first and at the most; so many of
+# those that a run would make again, and so many of others.
+FIRST_LOOKED, MOST_LOOKED = 16, 256
+LOOKED_OF_RUNS, LOOKED = 64, 8_192
 
 
 @dataclasses.dataclass(frozen=True)
@@ -42,7 +43,7 @@ class Runner:
         self, walk: Walk, stops: Callable[[], List[Stop]], between: Callable[[], None]
     ) -> None:
         self.walk, self._ask, self._between = walk, stops, between
-        self.facts = Facts.of(walk.target)
+        self.facts = Facts.of(walk)
         if not walk.target.is_own:
             self.facts.forget()
         # Where the run was last, and up to where there were moves when it began.
@@ -105,8 +106,11 @@ class Runner:
             if is_of_run and looked >= LOOKED_OF_RUNS:
                 return None
             high = min(end, low + size)
-            self._learn(stops, low, high, looked < LOOKED)
-            looked, size = looked + high - low, min(2 * size, MOST_WINDOW)
+            is_each = looked < LOOKED
+            self._learn(stops, low, high, is_each)
+            looked, size = looked + high - low, min(
+                2 * size, MOST_LOOKED if is_each else MOST_WINDOW
+            )
         return None
 
     def _learn(self, stops: Sequence[Stop], low: int, high: int, is_each: bool) -> None:
@@ -279,4 +283,4 @@ def look_each(walk: Walk, stops: Sequence[Stop], views: Sequence[str], high: int
                 places[at].append(place)
         before = after
     for stop, found in zip(stops, places):
-        stop.learn(Facts.of(target), low, high, found)
+        stop.learn(Facts.of(walk), low, high, found)

@@ -414,7 +414,7 @@ class Counted(Stop):
         """Nothing: which of the hits count says nothing of the others."""
 
     def next(self, walk: Walk, limit: int) -> Optional[int]:
-        start, facts = walk.place, Facts.of(walk.target)
+        start, facts = walk.place, Facts.of(walk)
         self.prepare(walk)
         hits = self._hits(facts, start)
         is_enough = Reached(lambda number: self._counts(hits + number))
@@ -424,7 +424,7 @@ class Counted(Stop):
 
     def last(self, walk: Walk) -> Optional[int]:
         self.prepare(walk)
-        facts = Facts.of(walk.target)
+        facts = Facts.of(walk)
         return next(reversed(self.places(facts, facts.floor, walk.place - 1)), None)
 
 
@@ -450,7 +450,7 @@ def not_too_many(stop: Stop, found: Sequence[int]) -> None:
 
 def learn_back(walk: Walk, stop: Stop) -> None:
     """Learns where a stop is met from the start up to here. Stays where it is."""
-    here, facts = walk.place, Facts.of(walk.target)
+    here, facts = walk.place, Facts.of(walk)
     if stop.begin(facts, here) <= facts.floor:
         return
     try:
