@@ -106,11 +106,9 @@ class Runner:
             if is_of_run and looked >= LOOKED_OF_RUNS:
                 return None
             high = min(end, low + size)
-            is_each = looked < LOOKED
-            self._learn(stops, low, high, is_each)
-            looked, size = looked + high - low, min(
-                2 * size, MOST_LOOKED if is_each else MOST_WINDOW
-            )
+            self._learn(stops, low, high, looked < LOOKED)
+            looked += high - low
+            size = min(2 * size, MOST_LOOKED if looked < LOOKED else MOST_WINDOW)
         return None
 
     def _learn(self, stops: Sequence[Stop], low: int, high: int, is_each: bool) -> None:
@@ -122,7 +120,8 @@ class Runner:
         was = [stop.look(walk.target) for stop in lasting]
         plain = [stop.plain for stop in unknown if stop not in lasting]
         views = views_of(walk.target, plain)
-        if is_each and walk.target.can_afford((1 + len(views)) * (high - low + 1)):
+        lines = (1 + len(views)) * (high - low + 1)
+        if plain and is_each and walk.target.can_afford(lines):
             look_each(walk, plain, views, high)
         else:
             for stop in plain:
@@ -225,6 +224,9 @@ class Runner:
         except Interrupted:
             walk.goto(start)
             return Outcome("paused")
+        except (Unable, Wrong):
+            walk.goto(start)  # (what is in between may have been made by hand)
+            raise
         walk.goto(walk.target.base if found is None else found)
         return Outcome("start") if found is None else self._met()
 
