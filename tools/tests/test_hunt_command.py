@@ -131,6 +131,13 @@ class Said(unittest.TestCase):
             (1, "found: reg worker 0 = 1, at 7, without a surprise"), (status, errors[0])
         )
 
+    def test_smallest_by_more_processes(self) -> None:
+        # (what was asked for before a find is looked at behind it, where fewer moves are left)
+        for workers in ("1", "2", "4"):
+            words = [path("frames"), "stuck", "--smallest", "--workers", workers]
+            status, _, errors = said(*words)
+            self.assertEqual((1, "found: stuck, at 25, with 1 surprise"), (status, errors[0]))
+
 
 class Statuses(unittest.TestCase):
     """What a build looks at."""
