@@ -1,6 +1,7 @@
 """History, Tab, Enter and Ctrl-C at a pseudo-terminal."""
 import os
 import pathlib
+import signal
 import tempfile
 import unittest
 from typing import Dict
@@ -35,6 +36,13 @@ class AtATerminal(unittest.TestCase):
         self.addCleanup(found.kill)
         self.greeting = found.expect(PROMPT)
         return found
+
+    def test_sigterm_at_the_prompt(self) -> None:
+        terminal = self.terminal(LOST)
+        self.assertIn("# 3", terminal.ask("forward 3"))
+        os.kill(terminal.pid, signal.SIGTERM)
+        self.assertEqual("rdbg sh: ended by SIGTERM\n", terminal.expect(r"SIGTERM\n"))
+        self.assertEqual((143, ""), (terminal.end(), terminal.screen))
 
     def test_a_session(self) -> None:
         terminal = self.terminal(LOST)

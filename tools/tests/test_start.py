@@ -11,8 +11,10 @@ from typing import List, Optional
 from unittest import mock
 
 from rdbg import main
+from rdbg.client import Session
 from tests.paths import COMPANION, EXAMPLES, TOP
 from tests.started import Started, at_import, sleeper
+from tests.test_shell_port import server
 
 LOST = str(EXAMPLES / "lost_item.json")
 TURNS = str(EXAMPLES / "turns.json")
@@ -87,6 +89,18 @@ class Running(unittest.TestCase):
                 started.wait_for(2)
                 self.assertEqual("ok at 1\n", started.ask("step 1\n"))
                 self.check(started, "sh", number)
+
+    def test_a_server_is_left_as_it_was(self) -> None:
+        with server(path=TURNS) as (port, _), Session.attach(port) as other:
+            other.tell("forward 9000")
+            other.tell("back 100")
+            before = other.tell("show moves")
+            started = Started("trace", TURNS, "--port", str(port), "--from", "1")
+            while other.tell("show wheel") == "wheel -":
+                pass
+            self.check(started, "trace", signal.SIGTERM)
+            self.assertEqual("wheel -", other.tell("show wheel"))
+            self.assertEqual(before, other.tell("show moves"))
 
     def test_an_ignored_interrupt_stays_so(self) -> None:
         started = Started("sh", LOST, ignored=signal.SIGINT)
@@ -237,6 +251,12 @@ def seconds(*words: str) -> float:
 
 class Help(unittest.TestCase):
     """The help is there at once."""
+
+    def test_however_it_is_started(self) -> None:
+        for told in (["-I"], ["-B"], ["-S", "-E"]):
+            command = [sys.executable, *told, str(COMPANION), "--help"]
+            said = subprocess.run(command, stdout=subprocess.PIPE, check=True).stdout
+            self.assertIn(b"rdbg trace ..", said)
 
     def test_it_is_quick(self) -> None:
         self.assertLess(seconds("--help"), QUICK)
