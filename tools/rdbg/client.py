@@ -352,7 +352,8 @@ class Session:
         return self._answers.fileno() if isinstance(self._answers, PortLines) else None
 
     def hear_now(self) -> bool:
-        """Hears the notices that have come, while no reply is owed; false at the end."""
+        """Hears the notices that have come, while no reply is owed; false at the end, or where the
+        room has said it."""
         if not isinstance(self._answers, PortLines):
             return False
         try:
@@ -363,7 +364,7 @@ class Session:
             line = self._answers.readline()
             if line.startswith(NOTICE):
                 self._hear(line)
-        return is_there
+        return is_there and not self._last.startswith(ROOM_ENDED)
 
     def why_ended(self) -> str:
         """Why there are no more replies."""

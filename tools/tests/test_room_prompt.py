@@ -101,6 +101,7 @@ class Prompts(unittest.TestCase):
                     here.end(number)
                     said = left.expect(rf"\x1b\[Krdbg sh: the room has ended: {how}.*\n")
                     self.assertEqual(said.count("ended"), 1)
+                    self.assertNotIn("(rdbg", said)
                     self.assertEqual(left.end(), 1)
                     self.assertEqual(left.screen, "")
                 finally:
