@@ -9,6 +9,7 @@ from rdbg.adapter.pausing import Pause
 from rdbg.adapter.running import Runner
 from rdbg.adapter.stops import Amount, Becomes, Begins, Counted, Stop, Where
 from rdbg.shell.conditions import Condition
+from rdbg.shell.interrupt import Interrupted
 from rdbg.shell.opening import begin
 from rdbg.shell.target import Limits, Target
 from rdbg.shell.walk import Walk
@@ -33,6 +34,30 @@ done:
 """
 LOOP, DONE = 5, 9
 ROUNDS = 16_667
+# Tasks that count as far before they change a queue and leave its count, or a set's handles alone.
+QUIET = """cores 1
+queue last length 1 item 1
+queue one length 2 item 1
+queue other length 2 item 1
+set both length 4 members one other
+task writer priority 1
+    set r1 16667
+again:
+    add r1 4294967295
+    jumpz r1 go
+    jump again
+go:
+    data 41
+    over last
+    data 42
+    over last
+    send one 0
+    recv one 0
+    select both 0
+    send other 0
+more:
+    jump more
+"""
 
 
 def far(rounds: int) -> int:
@@ -96,6 +121,22 @@ class Buttons(Held):
             names = [{"name": f"reg counter {at} > 0"} for at in (1, 3, 4, 5, 6)]
             client.ask("setFunctionBreakpoints", breakpoints=names)
             self.there_and_back(client, f"at {far(ROUNDS) + 2}: reg counter 2 changes")
+
+    def test_a_change_that_leaves_how_much_there_is(self) -> None:
+        first = 2 * (1 + 3 * ROUNDS - 1 + 2) - 1
+        self.file.write_text(QUIET)
+        for name, places in (
+            ("last", [first, first + 4]),
+            ("both", [first + 6, first + 10, first + 12]),
+        ):
+            with editor() as client:
+                client.begin(self.file)
+                client.ask("setFunctionBreakpoints", breakpoints=[{"name": f"changes {name}"}])
+                for place in places:
+                    self.timed(client, "continue", f"at {place}: changes {name}")
+                for place in places[-2::-1]:
+                    self.timed(client, "reverseContinue", f"at {place}: changes {name}")
+                self.assertEqual(client.stopped("continue", threadId=2)["reason"][:8], "function")
 
     def test_a_pause_comes_between(self) -> None:
         with editor() as client:
@@ -209,6 +250,22 @@ class Once(unittest.TestCase):
         places = self.target.places()
         self.assertEqual((places.done, places.undone), (self.place, 8_000 - self.place))
         self.walk.goto(8_000)
+
+    def test_a_pause_leaves_them(self) -> None:
+        self.runner().forwards(9_000)
+        for calls in range(1, 12):
+            self.walk.goto(0)
+            left = [calls]
+
+            def between() -> None:
+                left[0] -= 1
+                if not left[0]:
+                    raise Interrupted
+
+            stop = Becomes(Condition("pc", "counter", number=100 + calls))
+            Runner(self.walk, lambda: [stop], between).forwards(0)
+            places = self.target.places()
+            self.assertEqual(places.done + places.undone, 9_000)
 
     def test_an_edit_makes_others_of_them(self) -> None:
         self.runner(self.arrival(4)).forwards(10_000)

@@ -10,9 +10,10 @@ from rdbg import replies
 from rdbg.adapter.known import Facts
 from rdbg.adapter.messages import Wrong
 from rdbg.adapter.sweeps import Backwards, Onwards
+from rdbg.application import Application
 from rdbg.looks import Key, content_of
 from rdbg.shell import goals
-from rdbg.shell.changes import Changes
+from rdbg.shell.changes import AMOUNT_OF, HIDING, Changes
 from rdbg.shell.conditions import AMOUNTS, Condition
 from rdbg.shell.goals import IS_SO, Lasting, latest, nearest
 from rdbg.shell.target import Target, read
@@ -20,6 +21,8 @@ from rdbg.shell.walk import Walk
 
 # So many places are looked at one by one before one asks rdbg for the last where it was otherwise.
 NEAR = 4
+# Instructions that put an item into a queue, and so a handle into its set.
+PUTTING = ("send", "front", "over")
 # So many hits are counted at the most.
 MOST_HITS = 100_000
 # Whether so many places where a stop is met are enough.
@@ -225,8 +228,9 @@ class Content(Stop):
     """What an object holds changes, whoever waits at it."""
 
     def __init__(self, target: Target, key: Key) -> None:
-        self._goal = Changes(target, *key)
+        self._goal, application = Changes(target, *key), target.application
         self.text = self._goal.text
+        self._parts = parts_of(application, *key) if application else []
 
     @property
     def key(self) -> Hashable:
@@ -242,10 +246,56 @@ class Content(Stop):
         return bool(before != after)
 
     def next(self, walk: Walk, limit: int) -> Optional[int]:
-        return self._goal.next(walk, limit)
+        if not self._parts:
+            return self._goal.next(walk, limit)
+        start, end, found = walk.place, walk.place + limit, None
+        for part in self._parts:
+            walk.reach(start)
+            while walk.place < end:
+                walk.interrupt.check()
+                place = part.next(walk, end - walk.place)
+                if place is None:
+                    break
+                walk.reach(place)
+                if self._is_changed(walk, part):
+                    found, end = place, place - 1
+        return found
 
     def last(self, walk: Walk) -> Optional[int]:
-        return self._goal.last(walk)
+        if not self._parts or not walk.target.is_own or walk.target.by_hand:
+            return self._goal.last(walk)
+        start, found = walk.place, -1
+        for part in self._parts:
+            walk.goto(start)
+            place = part.last(walk)
+            while place is not None and place > found:
+                walk.interrupt.check()
+                walk.goto(place)
+                if self._is_changed(walk, part):
+                    found = place
+                    break
+                place = part.last(walk)
+        return None if found < 0 else found
+
+    def _is_changed(self, walk: Walk, part: Stop) -> bool:
+        return isinstance(part, Amount) or self.is_met(walk)
+
+
+def parts_of(application: Application, kind: str, name: str) -> List[Stop]:
+    """Stops of which one is met wherever a move of a task changes an object: that there is more or
+    less in it, or that a task has done what can change it and leave that."""
+    codes = [
+        (Condition("pc", task.name, number=at + 1), code.words())
+        for task in application.tasks
+        for at, code in enumerate(task.code)
+    ]
+    amount = [Amount(f"{AMOUNT_OF[kind]} {name}")] if kind in AMOUNT_OF else []
+    done: List[Tuple[str, str]] = [(word, name) for word in HIDING.get(kind, ("select",))]
+    if kind == "set":
+        members = [member for it in application.sets if it.name == name for member in it.members]
+        members += [words[1] for _, words in codes if words[0] == "setadd" and words[2] == name]
+        done += [(word, member) for word in PUTTING for member in members]
+    return [*amount, *(Becomes(behind) for behind, words in codes if tuple(words[:2]) in done)]
 
 
 class Begins(Stop):
