@@ -76,12 +76,7 @@ def parser() -> argparse.ArgumentParser:
         prog="rdbg hunt", description=SUMMARY, epilog=EPILOG, formatter_class=OneGoal
     )
     made.add_argument("file", metavar="FILE", help="the application, JSON or in lines (.fw)")
-    made.add_argument(
-        "goal",
-        metavar="GOAL",
-        nargs="+",
-        help="what an order is to come to; its words may be apart",
-    )
+    made.add_argument("goal", metavar="GOAL", nargs="+", help="one goal; its words may be apart")
     made.add_argument("-o", dest="output", metavar="OUT", help="where the lines of a find go")
     count = bounded(1)
     made.add_argument(
