@@ -14,7 +14,7 @@ from rdbg.failure import Failure
 
 STANDARD_OUTPUT = "-"
 # Here files are other names of what is open already.
-OPEN_ALREADY = ("/dev/", "/proc/")
+OPEN_ALREADY = ("/dev/std", "/dev/fd/", "/proc/")
 NEW_MODE = 0o666  # (of which the user's own mask takes its part)
 
 

@@ -69,6 +69,11 @@ class Running(unittest.TestCase):
                 started.wait_for(2)
                 self.check(started, name, signal.SIGTERM)
 
+    def test_a_hunt_without_processes(self) -> None:
+        started = Started("hunt", LOST, "stuck", "--workers", "1", program=self.sleeper)
+        started.wait_for(2)
+        self.check(started, "hunt", signal.SIGTERM)
+
     def test_processes_of_a_hunt(self) -> None:
         started = Started("hunt", LOST, "stuck", "--workers", "2", program=self.sleeper)
         started.wait_for(4)  # (one of the two has a program, of which it asks the first look)

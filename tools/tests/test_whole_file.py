@@ -13,7 +13,7 @@ import unittest
 from typing import List
 
 from rdbg.failure import Failure
-from rdbg.whole_file import written
+from rdbg.whole_file import replaced, written
 from tests.paths import COMPANION, EXAMPLES
 from tests.started import Started
 
@@ -94,6 +94,8 @@ class WholeFile(unittest.TestCase):
         reader.join()
         self.assertEqual(["through"], heard)
         self.assertTrue(stat.S_ISFIFO(os.stat("pipe").st_mode))
+        self.assertEqual(["", ""], [replaced(it, os.stat(it)) for it in ("/dev/null", "/dev/fd/1")])
+        self.assertEqual("/dev/shm/page.html", replaced("/dev/shm/page.html", None))
         self.write("/dev/null", "away")
         self.assertTrue(stat.S_ISCHR(os.stat("/dev/null").st_mode))
 
