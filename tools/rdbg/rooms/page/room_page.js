@@ -2,7 +2,9 @@
 
 const AGAIN_AFTER = 1000;
 const MOST_PATIENCE = 30000;
-const MOST_REFUSALS = 5;
+// A name that was kept is tried so often, each time after so long, before another one is asked for.
+const MOST_REFUSALS = 10;
+const BETWEEN = 250;
 // At first a move is so wide, that one sees those that come, and some before.
 const SCALE = 64;
 const LOOKS = /^\s*show(\s|$)/;
@@ -105,7 +107,7 @@ class Line {
   // moment.
   comeAgain() {
     this.refusals += 1;
-    setTimeout(() => this.open(), AGAIN_AFTER / MOST_REFUSALS);
+    setTimeout(() => this.open(), BETWEEN);
   }
 
   close() {
