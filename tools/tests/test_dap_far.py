@@ -34,6 +34,19 @@ done:
 """
 LOOP, DONE = 5, 9
 ROUNDS = 16_667
+# A task that toggles r2, and comes to its `add` with a 1 in it once it has counted.
+TOGGLES = 2_000
+TOGGLING = f"""cores 1
+task toggler priority 1
+    set r1 {TOGGLES}
+again:
+    set r2 0
+there:
+    add r1 4294967295
+    set r2 1
+    jumpz r1 there
+    jump again
+"""
 # Tasks that count as far before they change a queue and leave its count, or a set's handles alone.
 QUIET = """cores 1
 queue last length 1 item 1
@@ -169,6 +182,27 @@ class Tally:
         self.lines = self.moves = 0
         work()
         return [self.moves, self.lines]
+
+
+class Joint(unittest.TestCase):
+    """A breakpoint with a condition that holds elsewhere again and again."""
+
+    def test_all_places_of_it_are_asked_for_at_once(self) -> None:
+        with tempfile.TemporaryDirectory() as folder:
+            file = pathlib.Path(folder) / "toggler.fw"
+            file.write_text(TOGGLING)
+            target = begin(load(str(file)), Limits())
+        self.addCleanup(target.session.close)
+        walk, tally = Walk(target, Pause()), Tally(target)
+        at_add = Becomes(Condition("pc", "toggler", number=2))
+        stop = Where(at_add, Condition("reg", "toggler", 2, "=", 1))
+        place = 2 * (1 + 5 * (TOGGLES - 1) + 4) - 1  # (the last round lacks its `jump`)
+        _, lines = tally.of(lambda: Runner(walk, lambda: [stop], lambda: None).forwards(40_000))
+        self.assertEqual(walk.place, place)
+        self.assertLess(lines, 6 * TOGGLES)
+        self.assertTrue(stop.is_met(walk))
+        _, lines = tally.of(lambda: self.assertIsNone(stop.last(walk)))
+        self.assertLess(lines, 6 * TOGGLES)
 
 
 class Once(unittest.TestCase):

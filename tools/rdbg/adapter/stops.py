@@ -21,6 +21,9 @@ from rdbg.shell.walk import Walk
 
 # So many places are looked at one by one before one asks rdbg for the last where it was otherwise.
 NEAR = 4
+# So many turns two conditions are gone to, now the one and now the other, before all places of one
+# are looked at.
+TURNS = 8
 # Instructions that put an item into a queue, and so a handle into its set.
 PUTTING = ("send", "front", "over")
 # So many hits are counted at the most.
@@ -176,9 +179,11 @@ class Becomes(Stop):
             walk.interrupt.check()
             sweep.go()
             not_too_many(self, sweep.found)
-        if sweep.holds and sweep.place == 0 and self.is_at_start and low < 0:
-            sweep.found.append(0)
-        return sweep.found
+        return sweep.found + ([0] if low < 0 and self.began(sweep) else [])
+
+    def began(self, sweep: Backwards) -> bool:
+        """Whether it was met at the start, to which a sweep has come."""
+        return self.is_at_start and sweep.place == 0 and sweep.holds and sweep.fits
 
 
 class Amount(Stop):
@@ -397,10 +402,12 @@ class Where(Stop):
         return self._condition.holds(read(walk.target.tell(self._condition.view)))
 
     def next(self, walk: Walk, limit: int) -> Optional[int]:
-        end = walk.place + limit
+        end, turns = walk.place + limit, 0
         while walk.place < end:
             walk.interrupt.check()
-            place = self._stop.next(walk, end - walk.place)
+            if turns == TURNS and isinstance(self._stop, Becomes):
+                return self._next_of_all(walk, self._stop.condition, end - walk.place)
+            place, turns = self._stop.next(walk, end - walk.place), turns + 1
             if place is None:
                 return None
             walk.reach(place)
@@ -413,9 +420,31 @@ class Where(Stop):
                 return walk.place
         return None
 
+    def _next_of_all(self, walk: Walk, condition: Condition, limit: int) -> Optional[int]:
+        """The first place of all where the other one is met, which are many."""
+        sweep = Onwards(walk, condition, limit, self._condition)
+        while not sweep.is_done and not sweep.found:
+            walk.interrupt.check()
+            sweep.go()
+        return sweep.found[0] if sweep.found else None
+
+    def _last_of_all(self, walk: Walk, stop: Becomes) -> Optional[int]:
+        """The last place of all where the other one is met, which are many."""
+        sweep = Backwards(walk, stop.condition, walk.target.base, self._condition)
+        while not sweep.is_done and not sweep.found:
+            walk.interrupt.check()
+            sweep.go()
+        if sweep.found:
+            return sweep.found[0]
+        return 0 if stop.began(sweep) else None
+
     def last(self, walk: Walk) -> Optional[int]:
+        turns = 0
         while True:
             walk.interrupt.check()
+            if turns == TURNS and isinstance(self._stop, Becomes):
+                return self._last_of_all(walk, self._stop)
+            turns += 1
             place = self._stop.last(walk)
             if place is None:
                 return None

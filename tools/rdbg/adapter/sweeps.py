@@ -1,5 +1,5 @@
 """All places of a stretch at which a condition becomes so, found by many lines at a time."""
-from typing import List
+from typing import List, Optional
 
 from rdbg import replies
 from rdbg.replies import Refused
@@ -15,14 +15,15 @@ HOLDING = 4
 
 
 class Sweep:
-    """A sweep from here. `found` are the places so far, `place` is how far it has come, and `holds`
-    says whether the condition holds there."""
+    """A sweep from here. `found` are the places so far, those alone where `only` holds too; `place`
+    is how far it has come, and `holds` and `fits` say whether the two hold there."""
 
-    def __init__(self, walk: Walk, condition: Condition) -> None:
-        self.walk, self.condition = walk, condition
+    def __init__(self, walk: Walk, condition: Condition, only: Optional[Condition] = None) -> None:
+        self.walk, self.condition, self.only = walk, condition, only
         self.place, self.found = walk.place, []  # type: int, List[int]
         self.holds = condition.holds(read(walk.target.tell(condition.view)))
-        self._size = FIRST
+        self.fits = self.fits_here()
+        self._size, self._times = FIRST, 0
 
     @property
     def is_done(self) -> bool:
@@ -31,15 +32,16 @@ class Sweep:
 
     def go(self) -> None:
         """Goes further. Raises `Unable` where the history has too little room."""
-        walk, before = self.walk, len(self.found)
-        lines = self.lines()
-        walk.target.afford(len(lines))
-        met = 0
-        for answer in walk.target.tell_all(lines):
+        target, only, met, before = self.walk.target, self.only, 0, self._times
+        lines = [line for each in self.lines() for line in ([each, only.view] if only else [each])]
+        target.afford(len(lines))
+        answers = iter(target.tell_all(lines))
+        for answer in answers:
+            fits = only is None or only.holds(read(next(answers)))
             if self.is_done:
                 return
-            met += self.take(answer)
-        is_holding = (len(self.found) - before) * HOLDING < met
+            met += self.take(answer, fits)
+        is_holding = (self._times - before) * HOLDING < met
         self._size = max(LEAST, self._size // 2) if is_holding else min(self._size * 2, MOST)
         if is_holding and self.holds and not self.is_done:
             self.leave()
@@ -48,13 +50,24 @@ class Sweep:
         """The next lines."""
         raise NotImplementedError
 
-    def take(self, answer: str) -> bool:
-        """Takes a reply; whether it is of a place where the condition holds."""
+    def take(self, answer: str, fits: bool) -> bool:
+        """Takes a reply, and whether `only` holds behind it; whether the condition does."""
         raise NotImplementedError
 
     def leave(self) -> None:
         """Goes to where the condition doesn't hold any more."""
         raise NotImplementedError
+
+    def fits_here(self) -> bool:
+        """Whether `only` holds where the target stands."""
+        only = self.only
+        return only is None or only.holds(read(self.walk.target.tell(only.view)))
+
+    def became(self, place: int, fits: bool) -> None:
+        """Takes note of a place where the condition became so."""
+        self._times += 1
+        if fits:
+            self.found.append(place)
 
 
 def moved(answer: str) -> replies.Moved:
@@ -67,8 +80,10 @@ def moved(answer: str) -> replies.Moved:
 class Onwards(Sweep):
     """By moves that are made, so many at the most."""
 
-    def __init__(self, walk: Walk, condition: Condition, limit: int) -> None:
-        super().__init__(walk, condition)
+    def __init__(
+        self, walk: Walk, condition: Condition, limit: int, only: Optional[Condition] = None
+    ) -> None:
+        super().__init__(walk, condition, only)
         self._end = self.place + limit
 
     @property
@@ -80,7 +95,7 @@ class Onwards(Sweep):
         size = min(self._size, left)
         return [f"until {self.condition.text} {left // size}"] * size
 
-    def take(self, answer: str) -> bool:
+    def take(self, answer: str, fits: bool) -> bool:
         try:
             run = moved(answer)
         except Refused as refused:
@@ -88,9 +103,10 @@ class Onwards(Sweep):
                 raise
             place = self.walk.until(self.condition.text, self._end - self.place)
             run = replies.Moved(self.walk.place, "limit" if place is None else "met")
+            fits = self.fits_here()
         is_met = run.how == "met"
         if is_met and not (self.holds and run.at == self.place + 1):
-            self.found.append(run.at)
+            self.became(run.at, fits)
         self.place, self.holds = run.at, is_met
         return is_met
 
@@ -106,8 +122,10 @@ class Onwards(Sweep):
 class Backwards(Sweep):
     """By moves that are taken back, to a place or before it."""
 
-    def __init__(self, walk: Walk, condition: Condition, low: int) -> None:
-        super().__init__(walk, condition)
+    def __init__(
+        self, walk: Walk, condition: Condition, low: int, only: Optional[Condition] = None
+    ) -> None:
+        super().__init__(walk, condition, only)
         self._low = max(low, walk.target.base)
 
     @property
@@ -117,20 +135,23 @@ class Backwards(Sweep):
     def lines(self) -> List[str]:
         return [f"back until {self.condition.text}"] * min(self._size, self.place - self._low)
 
-    def take(self, answer: str) -> bool:
+    def take(self, answer: str, fits: bool) -> bool:
         way = moved(answer)
         is_met = way.how != "start"
         if self.holds and not (is_met and way.at == self.place - 1):
-            self.found.append(self.place)
-        self.place, self.holds = way.at, is_met
+            self.became(self.place, self.fits)
+        self.place, self.holds, self.fits = way.at, is_met, fits
         return is_met
 
     def leave(self) -> None:
         other = latest(self.walk, self.condition.others(earlier=True))
         if other is None:
             self.place = self.walk.target.base
+            self.walk.goto(self.place)
+            self.fits = self.fits_here()
             return
         if other >= self._low:
-            self.found.append(other + 1)
+            self.walk.goto(other + 1)
+            self.became(other + 1, self.fits_here())
         self.walk.goto(other)
         self.place, self.holds = other, False
