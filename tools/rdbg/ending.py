@@ -76,6 +76,7 @@ class Ending:
         ends it without a word."""
         STARTED.clear()
         MADE.clear()
+        self._is_held = False
         signal.signal(signal.SIGINT, signal.SIG_IGN)
         signal.signal(signal.SIGTERM, self._child_terminated)
 

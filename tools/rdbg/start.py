@@ -1,4 +1,5 @@
 """The beginning and the end of a companion: before its modules are there, and where they end."""
+import contextlib
 import signal
 import sys
 from typing import Sequence
@@ -20,7 +21,8 @@ def start(words: Sequence[str]) -> int:
         return status
     except KeyboardInterrupt:
         ENDING.is_running = False
-        sys.stdout.flush()
+        with contextlib.suppress(OSError):
+            sys.stdout.flush()
         ENDING.leave(signal.SIGINT)
     except Terminated:
         ENDING.leave(signal.SIGTERM)
