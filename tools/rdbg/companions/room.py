@@ -6,6 +6,7 @@ from types import FrameType
 from typing import Optional, Sequence
 
 from rdbg.companions.sh import bounded, port, read
+from rdbg.ending import Terminated
 from rdbg.failure import Failure
 from rdbg.rooms import keys, web
 from rdbg.rooms.host import MOST_SESSIONS
@@ -84,10 +85,9 @@ class Signals:
     def __init__(self) -> None:
         self.port: Optional[Port] = None
         self._count, self._is_enough = 0, False
-        for number in (signal.SIGINT, signal.SIGTERM):
-            signal.signal(number, self._came)
-        if signal.getsignal(signal.SIGHUP) is not signal.SIG_IGN:  # (as below nohup)
-            signal.signal(signal.SIGHUP, self._came)
+        for number in (signal.SIGINT, signal.SIGTERM, signal.SIGHUP):
+            if signal.getsignal(number) is not signal.SIG_IGN:  # (as below nohup)
+                signal.signal(number, self._came)
 
     def _came(self, number: int, frame: Optional[FrameType]) -> None:
         self._count += 1
@@ -95,7 +95,7 @@ class Signals:
             return  # (the process ends already)
         if self.port is None or self._count >= ENOUGH:
             self._is_enough = True
-            raise KeyboardInterrupt
+            raise Terminated if number == signal.SIGTERM else KeyboardInterrupt
         self.port.stop()
 
 

@@ -11,6 +11,7 @@ import hashlib
 from typing import Sequence, Tuple
 
 from rdbg import replies
+from rdbg.digits import is_digits
 from rdbg.hunting.surprises import Came, choice
 
 Key = bytes
@@ -24,7 +25,7 @@ def without_time(task: str, tick: int) -> str:
     """The view of a task with the time that is left in place of its deadline."""
     words = task.split(" ")
     head, _, last = words[PHASE].rpartition(":")
-    if last.isdigit() and head.split(":")[0] in ("wait", "again"):
+    if is_digits(last) and head.split(":")[0] in ("wait", "again"):
         words[PHASE] = f"{head}:{max(0, int(last) - tick)}"
     return " ".join(words)
 

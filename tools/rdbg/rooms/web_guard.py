@@ -9,6 +9,8 @@ import urllib.parse
 from email.message import Message
 from typing import BinaryIO, Dict, List, Optional, Tuple
 
+from rdbg.digits import is_digits
+
 # A request's head has so many bytes at the most, its body so many, and both take so many seconds.
 MOST_HEAD, MOST_BODY, SECONDS = 16_384, 4_096, 10.0
 # So many connections may be open whose request hasn't come yet: then the oldest is dropped.
@@ -133,11 +135,6 @@ def name_in(query: str) -> Optional[str]:
     except ValueError:
         raise Denied(400, "it asks for too much") from None
     return names["name"][0] if "name" in names else None
-
-
-def is_digits(text: str) -> bool:
-    """Whether a text is digits from 0 to 9 alone. (Other scripts have digits, too.)"""
-    return text.isascii() and text.isdigit()
 
 
 def body_of(headers: Message, stream: BinaryIO) -> Dict[str, str]:
