@@ -25,6 +25,7 @@ use std::net::{Net, TcpListener, TcpStream};
 use std::rt::Files;
 use std::sync::Wait;
 use std::thread::Threads;
+use std::time::Clock;
 
 // The exit status at the end of a session, and after help.
 const DONE: u8 = 0;
@@ -42,7 +43,7 @@ pub fn run_main<H, R: Read, W: Write, E: Write>(
     errors: &mut E,
 ) -> u8
 where
-    H: Files + AllocGlobal + Wait + Sync + Threads,
+    H: Files + AllocGlobal + Wait + Sync + Threads + Clock,
     H: Net<Listener = TcpListener, Stream = TcpStream>,
     ensures statuses { result ≤ 2 }
     ensures no_words { length words.now ≡ 0 → result ≤ 1 }
@@ -86,7 +87,7 @@ fn run<H, R: Read, W: Write, E: Write>(
     errors: &mut E,
 ) -> Result<(), Failure>
 where
-    H: Files + AllocGlobal + Wait + Sync + Threads,
+    H: Files + AllocGlobal + Wait + Sync + Threads + Clock,
     H: Net<Listener = TcpListener, Stream = TcpStream>,
     ensures no_words { length words.now ≡ 0
         → IfErr result (λ failure. failure ≢ Start BadCommandLine) }

@@ -21,6 +21,7 @@ use std::net::{IpAddr, Ipv4Addr, Net, SocketAddr, TcpListener, TcpStream};
 use std::sync::Wait;
 use std::sync::ledger::Blank;
 use std::thread::Threads;
+use std::time::Clock;
 
 /// So many sessions over an application, each over a connection to that port of 127.0.0.1. Says
 /// where it listens, and at the end how many entries the history has and, on `errors`, how many
@@ -37,7 +38,7 @@ pub fn listen<H, W: Write, E: Write>(
     errors: &mut E,
 ) -> Result<(), Failure>
 where
-    H: Wait + Sync + Threads + Net<Listener = TcpListener, Stream = TcpStream>,
+    H: Wait + Sync + Threads + Clock + Net<Listener = TcpListener, Stream = TcpStream>,
     ensures { IfErr result (FailsTogether port) }
 {
     let blank = Blank::new(MAX_JOINS as u64 + 1);
@@ -59,7 +60,7 @@ fn host<L: Setup + Send + Sync, H, W: Write, E: Write>(
     errors: &mut E,
 ) -> Result<(), Failure>
 where
-    H: Wait + Sync + Threads + Net<Listener = TcpListener, Stream = TcpStream>,
+    H: Wait + Sync + Threads + Clock + Net<Listener = TcpListener, Stream = TcpStream>,
     requires name { blank.name ≡ L.name }
     requires parts { (blank.parts ≡ L.parts) × (blank.parts ≡ MAX_JOINS + 1) }
     requires app { app ≡ L.app }
@@ -117,7 +118,7 @@ fn serve<L: Setup + Send + Sync, H, W: Write>(
     writer: &mut W,
 ) -> Result<Served<L>, Failure>
 where
-    H: Wait + Sync + Threads + Net<Listener = TcpListener, Stream = TcpStream>,
+    H: Wait + Sync + Threads + Clock + Net<Listener = TcpListener, Stream = TcpStream>,
     ensures { IfErr result (LacksPort port) }
 {
     let here = SocketAddr::new(IpAddr::V4(Ipv4Addr::LOCALHOST), port);

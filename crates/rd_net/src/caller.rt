@@ -15,64 +15,80 @@ use rd_reply::reply::Reply as Short;
 use rd_session::render::render;
 use std::io::Read;
 use std::net::{Shutdown, TcpStream};
-use std::time::Duration;
+use std::time::{Clock, Duration, Instant};
 
-// How often a connection that ends is read at the most, how many bytes at a time, and for how many
-// milliseconds it is waited for a byte.
-const LAST_READS: u32 = 256;
+// For how many seconds a connection that ends is read at the most, and how many bytes at a time.
+const LAST_SECONDS: u64 = 5;
 
 const LAST_ROOM: usize = 16_384;
 
-const LAST_WAIT: u64 = 200;
-
 /// A connection that has come, and that no thread serves yet. Where it is dropped it is told that
 /// there is no memory.
-pub(crate) struct Caller {
+pub(crate) struct Caller<'a, R: Clock> {
+    rt: &'a R,
     stream: TcpStream,
 }
 
-impl Caller {
+impl<'a, R: Clock> Caller<'a, R> {
     /// A connection that has come.
-    pub(crate) fn new(stream: TcpStream) -> Caller {
-        Caller { stream }
+    pub(crate) fn new(rt: &'a R, stream: TcpStream) -> Caller<'a, R> {
+        Caller { rt, stream }
     }
 
     /// The connection, for the thread that serves it.
     pub(crate) fn into_stream(self) -> TcpStream {
-        let Caller { stream } = self;
+        let Caller { rt: _, stream } = self;
         stream
     }
 }
 
-impl Drop for Caller {
+impl<'a, R: Clock> Drop for Caller<'a, R> {
     fn drop(self) {
-        let Caller { stream } = self;
-        turn_away(&stream, &EnterError::NoMemory);
+        let Caller { rt, stream } = self;
+        turn_away(rt, &stream, &EnterError::NoMemory);
     }
 }
 
 /// Ends a connection so that its peer gets all that was written. Were it closed with bytes unread
 /// the system would reset it, and drop what is on its way. So its writing end is shut, and what
-/// comes is read and dropped until the peer ends too, nothing has come for a while, or 4 MiB have.
-pub(crate) fn hang_up(stream: &TcpStream) {
-    let wait = Duration::from_millis(LAST_WAIT);
-    if stream.shutdown(Shutdown::Write).is_err() || stream.set_read_timeout(Some(wait)).is_err() {
+/// comes is read and dropped until the peer ends too, for five seconds at the most.
+pub(crate) fn hang_up<R: Clock>(rt: &R, stream: &TcpStream) {
+    if stream.shutdown(Shutdown::Write).is_err() {
         return;
     }
+    let Ok(start) = Instant::now(rt) else {
+        return;
+    };
     let mut room = [0; LAST_ROOM];
-    for _read in 0..LAST_READS {
-        let mut source = stream;
-        match source.read(&mut room) {
-            Ok(0) | Err(_) => return,
-            Ok(_) => {}
+    for _read in 0..u64::MAX {
+        if !goes_on(rt, start, stream, &mut room) {
+            return;
         }
     }
 }
 
+// Waits for what comes next, and drops it. Whether something has come, and the time isn't over.
+fn goes_on<R: Clock>(rt: &R, start: Instant, stream: &TcpStream, room: &mut [u8]) -> bool {
+    let Ok(spent) = start.elapsed(rt) else {
+        return false;
+    };
+    let Some(left) = Duration::from_secs(LAST_SECONDS).checked_sub(spent) else {
+        return false;
+    };
+    if stream.set_read_timeout(Some(left)).is_err() {
+        return false;
+    }
+    let mut source = stream;
+    match source.read(room) {
+        Ok(count) => count > 0,
+        Err(_) => false,
+    }
+}
+
 /// Tells a connection why it isn't let in, and ends it.
-pub(crate) fn turn_away(stream: &TcpStream, error: &EnterError) {
+pub(crate) fn turn_away<R: Clock>(rt: &R, stream: &TcpStream, error: &EnterError) {
     let _ = tell(&mut Over::new(stream), error);
-    hang_up(stream);
+    hang_up(rt, stream);
 }
 
 // The refusal that says why a session isn't let in.

@@ -20,7 +20,11 @@ use std::io::ErrorKind;
 use std::net::{TcpListener, TcpStream};
 use std::sync::Wait;
 use std::thread::{JoinHandle, SpawnError, Threads};
+use std::time::{Clock, Duration};
 use std::{io, thread};
+
+// Between two tries to accept a connection, in milliseconds.
+const PAUSE: u64 = 10;
 
 /// What came of the connections.
 #[derive(Drop)]
@@ -57,18 +61,22 @@ impl<L: Setup> Served<L> {
 /// each, on a thread of its own, with its own copy of the gate. Once all have come the listener is
 /// closed, so that a connection beyond them is refused by the system. Ends when all have ended. A
 /// connection that isn't let in is told why: `no Full`, `no HistoryFull` or `no NoMemory`, the last
-/// also where there is no thread for it. Where a connection can't be accepted or has no thread, the
-/// next is tried once a session has ended and its thread was joined, if one is there. The room for
-/// all sessions is made first: where there is no memory for it, none is accepted, and there are as
-/// many faults as passes.
-pub fn serve_net<L: Setup + Send + Sync, R: Threads + Wait + Sync, G: Gate + Copy + Send + Sync>(
+/// also where there is no thread for it; then the next is tried once a session has ended and its
+/// thread was joined, if one is there. Where descriptors or memory are short a connection waits to be
+/// accepted until a session has ended, or there are some again, which is one fault and takes no pass.
+/// The room for all sessions is made first: where there is no memory for it, none is accepted, and
+/// there are as many faults as passes.
+pub fn serve_net<L: Setup + Send + Sync, R, G: Gate + Copy + Send + Sync>(
     rt: &R,
     alloc: Global,
     listener: TcpListener,
     hall: &Hall<L>,
     passes: Vec<Pass<L>>,
     gate: G,
-) -> Served<L> {
+) -> Served<L>
+where
+    R: Threads + Wait + Sync + Clock,
+{
     let count = passes.len();
     let Ok((table, crew)) = prepare(alloc, count) else {
         return Served {
@@ -85,7 +93,7 @@ pub fn serve_net<L: Setup + Send + Sync, R: Threads + Wait + Sync, G: Gate + Cop
             };
             shared.begin(rt);
             let number = crew.next();
-            let caller = Caller::new(stream);
+            let caller = Caller::new(rt, stream);
             let spawned = scope.spawn(move || serve_caller(
                 rt, alloc, caller, hall, pass, gate, shared, number,
             ));
@@ -103,27 +111,35 @@ fn prepare<L: Setup>(alloc: Global, count: usize) -> Result<(Table<L>, Crew), Al
     Ok((table, crew))
 }
 
-// The next connection, or none where it can't be accepted. Where that is no matter of its own, but
-// descriptors or memory are short, a session's end is waited for.
-fn accept<L: Setup, R: Threads + Wait>(
+// The next connection, or none where it was gone before it was accepted. Where descriptors or
+// memory are short a session's end is waited for, and then it is tried again, as it is where there is
+// no session: who comes waits meanwhile. That is one fault, however often it is tried.
+fn accept<L: Setup, R: Threads + Wait + Clock>(
     rt: &R,
     listener: &TcpListener,
     table: &Table<L>,
     crew: &mut Crew,
 ) -> Option<TcpStream> {
-    let accepted = listener.accept();
-    crew.join_ended(rt, table);
-    match accepted {
-        Ok((stream, _)) => Some(stream),
-        Err(error) => {
+    let mut is_first = true;
+    for _try in rt.forever() {
+        let accepted = listener.accept();
+        crew.join_ended(rt, table);
+        let error = match accepted {
+            Ok((stream, _)) => return Some(stream),
+            Err(error) => error,
+        };
+        if is_first {
             table.fail(rt);
-            if error.kind() != ErrorKind::ConnectionAborted {
-                table.await_end(rt);
-                crew.join_ended(rt, table);
-            }
-            None
+            is_first = false;
         }
+        if error.kind() == ErrorKind::ConnectionAborted {
+            return None;
+        }
+        table.await_end(rt);
+        crew.join_ended(rt, table);
+        thread::sleep(rt, Duration::from_millis(PAUSE));
     }
+    None
 }
 
 // Keeps the thread that serves a connection. Where there is none the connection is told so, since
@@ -146,10 +162,10 @@ fn settle<L: Setup, R: Threads + Wait, F: Drop>(
 }
 
 // Serves a session over a connection, if it is let in, and ends the connection.
-fn serve_caller<L: Setup, R: Wait, G: Gate + Copy>(
+fn serve_caller<L: Setup, R: Wait + Clock, G: Gate + Copy>(
     rt: &R,
     alloc: Global,
-    caller: Caller,
+    caller: Caller<'_, R>,
     hall: &Hall<L>,
     pass: Pass<L>,
     gate: G,
@@ -163,7 +179,7 @@ fn serve_caller<L: Setup, R: Wait, G: Gate + Copy>(
 }
 
 // Lets a connection in, serves its session, and ends it.
-fn visit<L: Setup, R: Wait, G: Gate + Copy>(
+fn visit<L: Setup, R: Wait + Clock, G: Gate + Copy>(
     rt: &R,
     alloc: Global,
     stream: &TcpStream,
@@ -174,17 +190,17 @@ fn visit<L: Setup, R: Wait, G: Gate + Copy>(
     let seat = match hall.join(rt, pass) {
         Ok(seat) => seat,
         Err((_pass, error)) => {
-            turn_away(stream, &error);
+            turn_away(rt, stream, &error);
             return Visit::Refused;
         }
     };
     let Ok(mut buffers) = Buffers::new(alloc) else {
         let gone = hall.leave(rt, seat);
-        turn_away(stream, &EnterError::NoMemory);
+        turn_away(rt, stream, &EnterError::NoMemory);
         return Visit::Unserved { gone };
     };
     let gone = attend(rt, stream, hall, seat, gate, &mut buffers);
-    hang_up(stream);
+    hang_up(rt, stream);
     Visit::Served { gone }
 }
 

@@ -10,6 +10,7 @@ use std::process::Abort;
 use std::rt::Files;
 use std::sync::Wait;
 use std::thread::Threads;
+use std::time::Clock;
 
 const SCRIPTS: [Session; 3] = [
     UNDO_TO_BOOT,
@@ -28,7 +29,7 @@ const SCRIPTS: [Session; 3] = [
 // However many bytes a read brings, the answers are the same.
 fn assert_each_chunk<H>(rt: &H, name: &str, lines: &[u8], replies: &[u8])
 where
-    H: Files + AllocGlobal + Abort + Wait + Sync + Threads,
+    H: Files + AllocGlobal + Abort + Wait + Sync + Threads + Clock,
     H: Net<Listener = TcpListener, Stream = TcpStream>,
 {
     for chunk in 1..=lines.len() {
@@ -42,7 +43,7 @@ where
 // Wherever the lines are cut in two, the answers are the same.
 fn assert_each_cut<H>(rt: &H, name: &str, lines: &[u8], replies: &[u8])
 where
-    H: Files + AllocGlobal + Abort + Wait + Sync + Threads,
+    H: Files + AllocGlobal + Abort + Wait + Sync + Threads + Clock,
     H: Net<Listener = TcpListener, Stream = TcpStream>,
 {
     for cut in 1..lines.len() {

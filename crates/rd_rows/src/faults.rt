@@ -13,6 +13,7 @@ use std::rt::Files;
 use std::sync::Wait;
 use std::test::Fail;
 use std::thread::Threads;
+use std::time::Clock;
 
 // What is asked, seven bytes a read, and what is answered where nothing fails.
 const LINES: &str = "step 0\nstep 0\nshow queue q0\nback 1\nstep 1\nstep 0\n";
@@ -50,7 +51,7 @@ fn source_of(reads: usize) -> Source<'static> {
 // read is tried behind it.
 fn assert_read_fault<H>(rt: &H, reads: usize) -> Result<(), Fail>
 where
-    H: Files + AllocGlobal + Abort + Wait + Sync + Threads,
+    H: Files + AllocGlobal + Abort + Wait + Sync + Threads + Clock,
     H: Net<Listener = TcpListener, Stream = TcpStream>,
 {
     let mut target = Target::new(Vec::new(rt.alloc()));
@@ -79,7 +80,7 @@ fn each_read_fails(rt: HostRuntime) -> Result<(), Fail> {
 // After so many writes the next one fails: what went out is the beginning of the replies.
 fn assert_write_fault<H>(rt: &H, writes: usize)
 where
-    H: Files + AllocGlobal + Abort + Wait + Sync + Threads,
+    H: Files + AllocGlobal + Abort + Wait + Sync + Threads + Clock,
     H: Net<Listener = TcpListener, Stream = TcpStream>,
 {
     let mut target = Target::new(Vec::new(rt.alloc()));
@@ -123,7 +124,7 @@ impl Write for Breaking {
 // Of the last write one byte is taken, and the next one fails.
 fn assert_broken_write<H>(rt: &H, writes: usize)
 where
-    H: Files + AllocGlobal + Abort + Wait + Sync + Threads,
+    H: Files + AllocGlobal + Abort + Wait + Sync + Threads + Clock,
     H: Net<Listener = TcpListener, Stream = TcpStream>,
 {
     let mut target = Target::new(Vec::new(rt.alloc()));

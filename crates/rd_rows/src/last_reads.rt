@@ -11,6 +11,7 @@ use std::rt::Files;
 use std::sync::Wait;
 use std::test::Fail;
 use std::thread::Threads;
+use std::time::Clock;
 
 // What is asked.
 const LINES: &[u8] = b"step 0\nstep 0\nstep 0\nstep 0\n";
@@ -42,7 +43,7 @@ fn replies_before<H: AllocGlobal>(rt: &H, cut: usize) -> Result<Vec<u8>, Fail> {
 // A read that finds the end is the last, though others would bring bytes again.
 fn assert_end<H>(rt: &H, cut: usize) -> Result<(), Fail>
 where
-    H: Files + AllocGlobal + Abort + Wait + Sync + Threads,
+    H: Files + AllocGlobal + Abort + Wait + Sync + Threads + Clock,
     H: Net<Listener = TcpListener, Stream = TcpStream>,
 {
     let (front, behind) = LINES.split_at(cut.min(LINES.len()));
@@ -79,7 +80,7 @@ const LONG: usize = 1_032;
 // With so many bytes a read, the read that makes the line too long is the last.
 fn assert_long<H>(rt: &H, bytes: &[u8], chunk: usize)
 where
-    H: Files + AllocGlobal + Abort + Wait + Sync + Threads,
+    H: Files + AllocGlobal + Abort + Wait + Sync + Threads + Clock,
     H: Net<Listener = TcpListener, Stream = TcpStream>,
 {
     let mut source = Source::new(bytes);

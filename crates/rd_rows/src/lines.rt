@@ -9,6 +9,7 @@ use std::rt::Files;
 use std::sync::Wait;
 use std::test::Fail;
 use std::thread::Threads;
+use std::time::Clock;
 
 // Bytes that are no command, and bytes that are `step 0`. (A byte of 80 is no text by itself.)
 const NO_COMMANDS: [&[u8]; 9] = [
@@ -36,7 +37,7 @@ const STEPS: [&[u8]; 7] = [
 // Between two lines that are answered, each of these is answered so.
 fn assert_lines<H>(rt: &H, lines: &[&[u8]], replies: &str) -> Result<(), Fail>
 where
-    H: Files + AllocGlobal + Abort + Wait + Sync + Threads,
+    H: Files + AllocGlobal + Abort + Wait + Sync + Threads + Clock,
     H: Net<Listener = TcpListener, Stream = TcpStream>,
 {
     for line in lines {

@@ -11,6 +11,7 @@ use std::rt::Files;
 use std::sync::Wait;
 use std::test::Fail;
 use std::thread::Threads;
+use std::time::Clock;
 use std::{fs, io};
 
 /// What a run left.
@@ -24,7 +25,7 @@ pub struct Ending {
 // Runs the program on these words and commands.
 fn run<H>(rt: &H, words: &[&str], commands: &str) -> Result<Ending, AllocError>
 where
-    H: Files + AllocGlobal + Abort + Wait + Sync + Threads,
+    H: Files + AllocGlobal + Abort + Wait + Sync + Threads + Clock,
     H: Net<Listener = TcpListener, Stream = TcpStream>,
 {
     let mut texts = Vec::new(rt.alloc());
@@ -57,7 +58,7 @@ pub fn run_file<H>(
     commands: &str,
 ) -> io::Result<Ending>
 where
-    H: Files + AllocGlobal + Abort + Wait + Sync + Threads,
+    H: Files + AllocGlobal + Abort + Wait + Sync + Threads + Clock,
     H: Net<Listener = TcpListener, Stream = TcpStream>,
 {
     fs::write(rt, path, app)?;
@@ -86,7 +87,7 @@ pub fn assert_runs<H>(
     errors: &str,
 ) -> Result<(), Fail>
 where
-    H: Files + AllocGlobal + Abort + Wait + Sync + Threads,
+    H: Files + AllocGlobal + Abort + Wait + Sync + Threads + Clock,
     H: Net<Listener = TcpListener, Stream = TcpStream>,
 {
     for words in runs {

@@ -9,6 +9,7 @@ use std::rt::Files;
 use std::sync::Wait;
 use std::test::Fail;
 use std::thread::Threads;
+use std::time::Clock;
 
 // The file of one core, the queue q0 for two items of one byte, and the task t0 with this code.
 macro_rules! file_with_code {
@@ -67,7 +68,7 @@ pub(crate) struct Refused {
 
 pub(crate) fn assert_refused<H>(rt: &H, files: &[Refused]) -> Result<(), Fail>
 where
-    H: Files + AllocGlobal + Abort + Wait + Sync + Threads,
+    H: Files + AllocGlobal + Abort + Wait + Sync + Threads + Clock,
     H: Net<Listener = TcpListener, Stream = TcpStream>,
 {
     for file in files {

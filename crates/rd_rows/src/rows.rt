@@ -11,13 +11,14 @@ use std::rt::Files;
 use std::sync::Wait;
 use std::test::Fail;
 use std::thread::Threads;
+use std::time::Clock;
 
 const EMPTY_QUEUE: &str = "queue q0 0/2 items - recv - send - set -\n";
 
 /// Runs the program with no words, and fails unless the status is 0 and nothing went to the errors.
 pub fn run<H, R: Read, W: Write>(rt: &H, reader: &mut R, writer: &mut W)
 where
-    H: Files + AllocGlobal + Abort + Wait + Sync + Threads,
+    H: Files + AllocGlobal + Abort + Wait + Sync + Threads + Clock,
     H: Net<Listener = TcpListener, Stream = TcpStream>,
 {
     let words: Vec<String> = Vec::new(rt.alloc());
@@ -30,7 +31,7 @@ where
 /// What the program answers to what a reader gives.
 pub fn answers<H, R: Read>(rt: &H, reader: &mut R) -> Vec<u8>
 where
-    H: Files + AllocGlobal + Abort + Wait + Sync + Threads,
+    H: Files + AllocGlobal + Abort + Wait + Sync + Threads + Clock,
     H: Net<Listener = TcpListener, Stream = TcpStream>,
 {
     let mut target = Target::new(Vec::new(rt.alloc()));
@@ -138,7 +139,7 @@ const SESSIONS: [Session; 12] = [
 // In one piece, and byte by byte.
 fn assert_session<H>(rt: &H, session: Session)
 where
-    H: Files + AllocGlobal + Abort + Wait + Sync + Threads,
+    H: Files + AllocGlobal + Abort + Wait + Sync + Threads + Clock,
     H: Net<Listener = TcpListener, Stream = TcpStream>,
 {
     let Session {
@@ -215,7 +216,7 @@ const LONG_LINES: [LongLine; 7] = [
 // With `chunk` bytes a read.
 fn assert_long_line<H>(rt: &H, line: LongLine, chunk: usize) -> Result<(), AllocError>
 where
-    H: Files + AllocGlobal + Abort + Wait + Sync + Threads,
+    H: Files + AllocGlobal + Abort + Wait + Sync + Threads + Clock,
     H: Net<Listener = TcpListener, Stream = TcpStream>,
 {
     let LongLine { len, end, replies } = line;

@@ -12,6 +12,7 @@ use std::rt::Files;
 use std::sync::Wait;
 use std::test::Fail;
 use std::thread::Threads;
+use std::time::Clock;
 
 // Is interrupted before each read that gives bytes.
 #[derive(Drop)]
@@ -53,7 +54,7 @@ impl Write for Holding {
 // Runs the program with no words, and fails unless it has written this by its end, and flushed it.
 fn writes<H, R: Read>(rt: &H, reader: &mut R, expected: &str)
 where
-    H: Files + AllocGlobal + Abort + Wait + Sync + Threads,
+    H: Files + AllocGlobal + Abort + Wait + Sync + Threads + Clock,
     H: Net<Listener = TcpListener, Stream = TcpStream>,
 {
     let words: Vec<String> = Vec::new(rt.alloc());

@@ -9,6 +9,7 @@ use std::rt::Files;
 use std::sync::Wait;
 use std::test::Fail;
 use std::thread::Threads;
+use std::time::Clock;
 
 /// A run of an application file.
 #[derive(Drop)]
@@ -22,7 +23,7 @@ pub struct Row {
 /// Fails unless each run answers so, ends with status 0, and writes nothing to its errors.
 pub fn assert_rows<H>(rt: &H, rows: &[Row]) -> Result<(), Fail>
 where
-    H: Files + AllocGlobal + Abort + Wait + Sync + Threads,
+    H: Files + AllocGlobal + Abort + Wait + Sync + Threads + Clock,
     H: Net<Listener = TcpListener, Stream = TcpStream>,
 {
     for row in rows {
