@@ -2,6 +2,7 @@
 import os
 import pathlib
 import pty
+import socket
 import subprocess
 import tempfile
 import unittest
@@ -130,6 +131,15 @@ class Wrapper(unittest.TestCase):
             self.assertEqual((0, ""), (ran.returncode, ran.stderr))
             self.assertIn('"first":0,"last":3', page.read_text())
             self.assertTrue((prefix / "share" / "rdbg" / "docs" / "images" / "page.png").exists())
+
+    def test_a_server_says_whose_lines_it_takes(self) -> None:
+        with socket.create_server(("127.0.0.1", 0)) as taken:
+            port = str(taken.getsockname()[1])
+            words = ["serve", "--app", str(EXAMPLES / "turns.json"), "--sessions", "1"]
+            ran = run(WRAPPER, *words, "--port", port)
+        whose, why = ran.stderr.splitlines()
+        self.assertIn("each line that comes to this port is a command, whoever", whose)
+        self.assertEqual(why, f"rdbg: cannot listen at port {port}: address in use")
 
     def test_words_that_are_none(self) -> None:
         self.assertEqual(run(WRAPPER, "fly").returncode, 2)
