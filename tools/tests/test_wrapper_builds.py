@@ -21,6 +21,12 @@ case $1 in version) echo a kit ;; *) echo $$ >> "$RT_PIDS"; exec sleep 600 ;; es
 """
 
 
+def take_signals() -> None:
+    """Has signals end a process that starts, also below `nohup` and the like, which ignore some."""
+    for number in (signal.SIGINT, signal.SIGHUP):
+        signal.signal(number, signal.SIG_DFL)
+
+
 def write_script(file: pathlib.Path, text: str) -> None:
     """Writes a file that can be run."""
     file.write_text(text)
@@ -73,6 +79,7 @@ class Checkout(unittest.TestCase):
             stderr=subprocess.PIPE,
             universal_newlines=True,
             start_new_session=True,
+            preexec_fn=take_signals,
         )
 
     def run_it(self, *words: str) -> "subprocess.CompletedProcess[str]":
