@@ -14,6 +14,8 @@ from tests.paths import EXAMPLES, TOP
 
 LOST = str(EXAMPLES / "lost_item.json")
 SOURCE = "fn main() {}\n"
+# So many seconds does a busy machine have for what takes a moment.
+PATIENCE = 60.0
 # Writes down how it was called, and of a build nothing comes but the wait for it.
 RT = """#!/bin/sh
 echo "$@" >> "$RT_CALLS"
@@ -86,7 +88,7 @@ class Checkout(unittest.TestCase):
         """What it says on these words, for which nothing may be built."""
         process = self.start(*words)
         try:
-            out, err = process.communicate(timeout=20)
+            out, err = process.communicate(timeout=PATIENCE)
         except subprocess.TimeoutExpired:
             process.terminate()
             process.communicate()
@@ -110,7 +112,7 @@ class Checkout(unittest.TestCase):
     def builds(self, *words: str) -> bool:
         """Whether these words begin a build, which is ended."""
         process = self.start(*words)
-        end = time.monotonic() + 20
+        end = time.monotonic() + PATIENCE
         while process.poll() is None and time.monotonic() < end and not self.pids.exists():
             time.sleep(0.02)
         began = self.pids.exists()
@@ -222,7 +224,7 @@ class Ended(Checkout):
             ):
                 with self.subTest(words=words, signal=number):
                     process = self.start(*words)
-                    end = time.monotonic() + 20
+                    end = time.monotonic() + PATIENCE
                     while not self.pids.exists() and time.monotonic() < end:
                         time.sleep(0.02)
                     process.send_signal(number)
@@ -233,7 +235,7 @@ class Ended(Checkout):
 
     def check_gone(self, pids: List[str]) -> None:
         """That these processes end, and what called them has tidied up."""
-        end = time.monotonic() + 10
+        end = time.monotonic() + PATIENCE
         while time.monotonic() < end:
             states = [pathlib.Path(f"/proc/{pid}/stat") for pid in pids]
             left = [it for it in states if it.exists() and ") Z " not in it.read_text()]
