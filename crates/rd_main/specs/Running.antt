@@ -21,12 +21,6 @@ FailsAlone (Start fault) = fault ≡ NoMemory
 FailsAlone (CannotListen _ _) = ⊥
 FailsAlone Broken = Unit {0}
 
--- A port can't be had, whatever the system says why.
-abbrev pub LacksPort : ℕ → Failure → Type 0
-LacksPort port (CannotListen at _) = at ≡ port
-LacksPort port (Start _) = ⊥
-LacksPort port Broken = ⊥
-
 -- Sessions over connections fail for this: there is no memory for them, their port can't be had, or
 -- the history isn't what they were answered.
 abbrev pub FailsTogether : ℕ → Failure → Type 0

@@ -2,7 +2,7 @@
 
 ghost use Rattle.std.specs.Prelude.{◌≡◌, ◌+◌, IfErr};
 ghost use Rattle.rd_desk.specs.declared.sessions.TheConstants.{MAX_JOINS};
-ghost use Rattle.rd_main.specs.Running.{FailsTogether, LacksPort};
+ghost use Rattle.rd_main.specs.Running.{FailsTogether};
 ghost use Rattle.rd_main.specs.declared.failure.Failure.TheVariants.{Broken};
 
 use crate::failure::Failure;
@@ -15,6 +15,7 @@ use rd_names::app::App;
 use rd_net::net::{Served, serve_net};
 use rd_session::gate::NoGate;
 use std::alloc::Global;
+use std::io;
 use std::io::Write;
 use std::marker::Brand;
 use std::net::{IpAddr, Ipv4Addr, Net, SocketAddr, TcpListener, TcpStream};
@@ -75,9 +76,9 @@ where
             report_faults(faults, errors);
             close(hall, gone, writer)
         }
-        Err(failure) => {
+        Err(error) => {
             let _ = hall.finish(Vec::new(alloc));
-            Err(failure)
+            Err(Failure::cannot_listen(port, &error))
         }
     }
 }
@@ -108,7 +109,7 @@ fn close<L: Setup, W: Write>(
     }
 }
 
-// Listens, and serves a session for each pass.
+// Listens, and serves a session for each pass. An `Err` says why the port can't be had.
 fn serve<L: Setup + Send + Sync, H, W: Write>(
     rt: &H,
     alloc: Global,
@@ -116,16 +117,12 @@ fn serve<L: Setup + Send + Sync, H, W: Write>(
     passes: Vec<Pass<L>>,
     port: u16,
     writer: &mut W,
-) -> Result<Served<L>, Failure>
+) -> io::Result<Served<L>>
 where
     H: Wait + Sync + Threads + Clock + Net<Listener = TcpListener, Stream = TcpStream>,
-    ensures { IfErr result (LacksPort port) }
 {
     let here = SocketAddr::new(IpAddr::V4(Ipv4Addr::LOCALHOST), port);
-    let listener = match TcpListener::bind(rt, here) {
-        Ok(listener) => listener,
-        Err(error) => return Err(Failure::cannot_listen(port, &error)),
-    };
+    let listener = TcpListener::bind(rt, here)?;
     let _ = writeln!(writer, "listening {port}");
     let _ = writer.flush();
     Ok(serve_net(rt, alloc, listener, hall, passes, NoGate))
