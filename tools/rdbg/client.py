@@ -202,9 +202,11 @@ class Session:
         return session
 
     def _introduce(self, name: str) -> None:
-        """Says to a room who this is."""
+        """Says to a room who this is, behind the room's token where the environment has it."""
+        token = os.environ.get("RDBG_TOKEN")
+        lines = ([f"# token {token}"] if token else []) + [f"# name {name}"]
         with contextlib.suppress(OSError):
-            self._lines.write(f"{NOTICE.decode()} name {name}\n".encode("utf-8", "replace"))
+            self._lines.write("".join(f"{it}\n" for it in lines).encode("utf-8", "replace"))
             self._lines.flush()
         try:
             while self.name != name:

@@ -72,6 +72,7 @@ STATUSES = (
 ENVIRONMENT = (
     Entry("RDBG_PROGRAM", "the program that is started, in place of the one that was built"),
     Entry("RDBG_HISTORY", "the file in which rdbg sh keeps the lines that were typed"),
+    Entry("RDBG_TOKEN", "the token of a room that asks for one; sh and dap say it there"),
 )
 
 DESCRIPTION = (

@@ -41,15 +41,15 @@ class Process:
             stderr=subprocess.PIPE,
             text=True,
         )
-        self.output = self.errors = ""
+        self.listening = self.output = self.errors = ""
 
     def wait(self) -> None:
         """Waits until it listens."""
         assert self.process.stdout is not None
-        line = self.process.stdout.readline()
-        if not line.startswith("listening"):
+        self.listening = self.process.stdout.readline()
+        if not self.listening.startswith("listening"):
             self.end(signal.SIGKILL)
-            raise AssertionError(f"{line}{self.errors}")
+            raise AssertionError(f"{self.listening}{self.errors}")
 
     def end(self, number: int = signal.SIGTERM) -> int:
         """Ends it by a signal, or waits where that is 0, and answers its status."""

@@ -4,13 +4,15 @@ import re
 import threading
 from typing import IO, Any, Dict, Optional
 
+from rdbg.door import is_of_a_browser
+
 # A line of a header, and a message, have at most so many bytes.
 MOST_LINE, MOST_BODY = 4_096, 1 << 20
 LENGTH = re.compile(rb"Content-Length:[ \t]*([0-9]{1,18})[ \t]*$", re.IGNORECASE)
-
-
-# What a browser sends, on whichever page's behalf: it is never answered.
-OF_A_BROWSER = re.compile(rb"[A-Z]+ \S+ HTTP/|(Host|Origin|Referer|Cookie):", re.IGNORECASE)
+# Of a line that is longer it is known how it begins, and so many bytes at its end.
+MOST_END = 64
+# What a browser says besides, on whichever page's behalf: it is never answered.
+OF_A_BROWSER = re.compile(rb"(Host|Origin|Referer|Cookie):", re.IGNORECASE)
 
 
 class Broken(Exception):
@@ -41,8 +43,8 @@ class Frames:
         length: Optional[int] = None
         wrong = ""
         while True:
-            line = self._stream.readline(MOST_LINE)
-            if not line or OF_A_BROWSER.match(line):
+            line = self._line()
+            if not line or is_of_a_browser(line) or OF_A_BROWSER.match(line):
                 return None
             text = line.rstrip(b"\r\n")
             found = LENGTH.search(text)
@@ -61,6 +63,15 @@ class Frames:
             self._length = length
             raise Broken(wrong)
         return length
+
+    def _line(self) -> bytes:
+        """The next line, of a long one how it begins and how it ends."""
+        line = piece = self._stream.readline(MOST_LINE)
+        end = b""
+        while piece and not piece.endswith(b"\n"):
+            piece = self._stream.readline(MOST_LINE)
+            end = (end + piece)[-MOST_END:]
+        return line + end
 
     def _body(self, length: int) -> Optional[bytes]:
         """So many bytes; none where the stream ends before."""

@@ -1,40 +1,91 @@
 """A port at which editors connect, each with a session of its own."""
-import contextlib
 import socket
 import sys
 import threading
+from typing import Set
 
 from rdbg.adapter.server import Server
 from rdbg.client import LOCAL
+from rdbg.door import OPENS, Door, Unheard, drop, turn_away
 from rdbg.failure import Failure
 
-# So many editors at a time are served.
-MOST = 16
+# So many editors at a time are served. So many connections may be silent, so many seconds each:
+# then the oldest is closed.
+MOST, MOST_SILENT, SECONDS = 16, 16, 10.0
+# So many seconds pass until it is looked again who is silent for too long.
+TURN = 0.5
 
 
-def listen(port: int) -> None:
-    """Serves whoever connects, for ever. Raises `Failure` where the port can't be had."""
+def listen(port: int, door: Door) -> None:
+    """Serves whoever connects and is let in, for ever. Raises `Failure` where the port can't be
+    had, or the system says of nobody who it is."""
+    if door.token:
+        raise Failure(f"whose a connection is can't be told here; {OPENS} to all", 2)
     try:
         listening = socket.create_server((LOCAL, port))
     except OSError as error:
         raise Failure(f"cannot listen at port {port}: {error.strerror}", 2) from None
-    print(f"listening {port}", flush=True)
-    free = threading.BoundedSemaphore(MOST)
+    print(f"listening {port}{door.said}", flush=True)
     with listening:
+        Editors(door).serve(listening)
+
+
+class Editors:
+    """Those who have connected: the silent ones, whose first message hasn't come yet, and those
+    that are served."""
+
+    def __init__(self, door: Door) -> None:
+        self._door, self._silent = door, Unheard(MOST_SILENT, SECONDS)
+        self._guard = threading.Lock()
+        self._served: Set[socket.socket] = set()
+        self._has_said = False
+
+    def serve(self, listening: socket.socket) -> None:
+        """Takes connections, for ever."""
+        listening.settimeout(TURN)
         while True:
-            free.acquire()
-            connection, _ = listening.accept()
-            threading.Thread(target=serve, args=(connection, free), daemon=True).start()
+            self._silent.drop_late()
+            try:
+                connection, _ = listening.accept()
+            except OSError:
+                continue  # (nobody came, or one who has gone)
+            if self._is_let_in(connection):
+                self._silent.add(connection)
+                threading.Thread(target=self._serve, args=(connection,), daemon=True).start()
 
+    def _is_let_in(self, connection: socket.socket) -> bool:
+        """Whether a connection is let in. One that isn't is closed; of the first it is said why."""
+        why = self._door.why_not(connection, "this adapter")
+        if why:
+            turn_away(connection)
+            if not self._has_said:
+                self._has_said = True
+                print(f"rdbg dap: a connection was closed: {why}", file=sys.stderr, flush=True)
+        return not why
 
-def serve(connection: socket.socket, free: threading.BoundedSemaphore) -> None:
-    """Serves one editor."""
-    try:
-        with connection, connection.makefile("rb") as lines, connection.makefile("wb") as answers:
-            Server(lines, answers).serve()
-    except OSError as error:
-        print(f"rdbg dap: an editor was lost: {error.strerror}", file=sys.stderr)
-    finally:
-        with contextlib.suppress(OSError):
-            connection.close()
-        free.release()
+    def _serve(self, connection: socket.socket) -> None:
+        """Serves one editor."""
+        try:
+            with connection, connection.makefile("rb") as lines, connection.makefile("wb") as out:
+                try:
+                    Server(lines, out, lambda: self._comes(connection)).serve()
+                finally:
+                    self._goes(connection)
+        except OSError as error:
+            print(f"rdbg dap: an editor was lost: {error.strerror}", file=sys.stderr)
+
+    def _comes(self, connection: socket.socket) -> str:
+        """An editor has said something; why it isn't served, if so."""
+        self._silent.remove(connection)
+        with self._guard:
+            if len(self._served) >= MOST:
+                return f"{MOST} editors are served here already"
+            self._served.add(connection)
+        return ""
+
+    def _goes(self, connection: socket.socket) -> None:
+        """An editor has gone, or is let go. (While another thread reads it, it can't be closed.)"""
+        self._silent.remove(connection)
+        with self._guard:
+            self._served.discard(connection)
+        drop(connection)

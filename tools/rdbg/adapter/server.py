@@ -1,7 +1,7 @@
 """A session with an editor: its requests in order, those that can't wait while something runs."""
 import queue
 import threading
-from typing import IO, Dict, List, Optional
+from typing import IO, Callable, Dict, List, Optional
 
 from rdbg.adapter.debugger import Debugger
 from rdbg.adapter.evaluating import Request, evaluate
@@ -52,9 +52,13 @@ def fault(error: Exception) -> str:
 
 
 class Server:
-    """Answers an editor."""
+    """Answers an editor. `comes` is called where its first request has come, and says why it isn't
+    served, if so."""
 
-    def __init__(self, lines: IO[bytes], answers: IO[bytes]) -> None:
+    def __init__(
+        self, lines: IO[bytes], answers: IO[bytes], comes: Callable[[], str] = lambda: ""
+    ) -> None:
+        self._comes: Optional[Callable[[], str]] = comes
         self._frames, self._sender = Frames(lines), Sender(answers)
         self.debugger = Debugger(self._sender.send)
         self.debugger.serve = self._meanwhile
@@ -90,12 +94,22 @@ class Server:
             except Unreadable as wrong:
                 self._sender.send(failed(wrong.seq, wrong.command, str(wrong)))
                 continue
+            if request is not None and not self._is_served(request):
+                request = None
             if request is None or request.command in ENDING:
                 if self.debugger.is_running:
                     self.debugger.pause.ask()
             self._asked.put(request)
             if request is None:
                 return
+
+    def _is_served(self, request: Asked) -> bool:
+        """Whether the editor is served whose request this is."""
+        comes, self._comes = self._comes, None
+        why = comes() if comes is not None else ""
+        if why:
+            self._sender.send(failed(request.seq, request.command, why))
+        return not why
 
     def _meanwhile(self) -> None:
         """Answers what can be answered while the target runs."""

@@ -7,6 +7,7 @@ from typing import Optional, Sequence
 from rdbg.adapter.listening import listen
 from rdbg.adapter.server import Server
 from rdbg.companions.sh import port
+from rdbg.door import Door
 
 SUMMARY = "the debugger of an editor, with its buttons: breakpoints, steps, and both ways"
 EPILOG = (
@@ -20,16 +21,24 @@ def parser() -> argparse.ArgumentParser:
     """The words of the command line."""
     made = argparse.ArgumentParser(prog="rdbg dap", description=SUMMARY, epilog=EPILOG)
     made.add_argument("--port", type=port, metavar="P", help="listens at this port of 127.0.0.1")
+    made.add_argument(
+        "--anyone",
+        action="store_true",
+        help="lets in every user of this machine at that port, and not yourself alone",
+    )
     return made
 
 
 def main(words: Sequence[str]) -> int:
     """Serves an editor, or several at a port."""
-    given = parser().parse_args(words)
+    made = parser()
+    given = made.parse_args(words)
     number: Optional[int] = given.port
     if number is not None:
-        listen(number)
+        listen(number, Door(given.anyone))
         return 0
+    if given.anyone:
+        made.error("--anyone goes with --port")
     if sys.stdin.isatty():
         print("rdbg dap: an editor starts this (docs/EDITORS.md); Ctrl-D ends it", file=sys.stderr)
     # (streams of their own: no print comes between, and none is waited for at the end)

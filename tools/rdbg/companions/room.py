@@ -6,6 +6,7 @@ from types import FrameType
 from typing import Optional, Sequence
 
 from rdbg.companions.sh import bounded, port, read
+from rdbg.door import TOKEN, Door
 from rdbg.ending import Terminated
 from rdbg.failure import Failure
 from rdbg.rooms import keys, web
@@ -56,6 +57,11 @@ def parser() -> argparse.ArgumentParser:
         metavar="Q",
         help="serves a page for browsers at Q on 127.0.0.1, at a free port where Q is 0",
     )
+    made.add_argument(
+        "--anyone",
+        action="store_true",
+        help="lets in every user of this machine, at both ports, and not yourself alone",
+    )
     made.add_argument("--talk", metavar="FILE", help="keeps who said what, and the replies, there")
     made.add_argument(
         "--sessions",
@@ -99,10 +105,10 @@ class Signals:
         self.port.stop()
 
 
-def with_pages(room: Room, number: int) -> Served:
+def with_pages(room: Room, number: int, door: Door) -> Served:
     """The room's pages, at a port. Where that can't be had the room ends, by a `Failure`."""
     try:
-        return web.serve(room, number)
+        return web.serve(room, number, door)
     except Failure:
         room.kill()
         raise
@@ -137,13 +143,16 @@ def main(words: Sequence[str]) -> int:
     if limits.history < 4 * given.sessions:
         least = 4 * given.sessions
         raise Failure(f"--history is {least} at the least for {given.sessions} sessions", 2)
-    listener = listening(given.port)
+    listener, door = listening(given.port), Door(given.anyone)
     talk = opened(given.talk)
     signals = Signals()
     room = Room.open(source, limits, given.sessions, talk)
-    signals.port = port = Port(room, listener)
-    pages = None if given.web is None else with_pages(room, given.web)
-    print(f"listening {given.port}", flush=True)
+    signals.port = port = Port(room, listener, door)
+    pages = None if given.web is None else with_pages(room, given.web, door)
+    print(f"listening {given.port}{door.said}", flush=True)
+    if door.token:
+        why = "whose a connection is can't be told here"
+        print(f"rdbg room: {why}: who comes says first {TOKEN} {door.token}", file=sys.stderr)
     if pages is not None:
         print(f"web {pages.address}", flush=True)
     if sys.stdout.isatty():

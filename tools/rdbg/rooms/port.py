@@ -8,6 +8,7 @@ from typing import Dict, List, Optional, Set
 
 from rdbg.client import LOCAL
 from rdbg.commands import MOST_BYTES
+from rdbg.door import TOKEN, Door, turn_away
 from rdbg.failure import Failure
 from rdbg.rooms.client import Client
 from rdbg.rooms.host import Ended
@@ -46,6 +47,8 @@ class Guest:
         self.client = client
         self.member: Optional[Member] = None
         self.came = time.monotonic()
+        # Whether its first line has come.
+        self.has_spoken = False
         # What is registered of it.
         self.mask = 0
 
@@ -63,8 +66,8 @@ class Guest:
 class Port:
     """Serves connections until it is stopped, or the program has ended."""
 
-    def __init__(self, room: Room, listener: socket.socket) -> None:
-        self._room, self._listener = room, listener
+    def __init__(self, room: Room, listener: socket.socket, door: Optional[Door] = None) -> None:
+        self._room, self._listener, self._door = room, listener, door or Door()
         self._selector = selectors.DefaultSelector()
         self._guests: Dict[Client, Guest] = {}
         self._waking, self._woken = socket.socketpair()
@@ -127,25 +130,44 @@ class Port:
             self._woken.recv(4_096)
 
     def _accept(self) -> None:
-        """Takes a connection, as a guest. Where there are too many, or descriptors are short, it is
-        closed."""
+        """Takes a connection, as a guest. Where its user isn't let in, there are too many, or
+        descriptors are short, it is closed."""
         try:
             connection, _ = self._listener.accept()
         except OSError:
             time.sleep(BREATH)
             return
+        why = self._door.why_not(connection, "this room")
+        if why:
+            turn_away(connection, f"# no: {why}\n".encode())
+            return
         client = Client(connection, self._touch)
-        if len(self._guests) >= MOST:
+        if len(self._guests) >= MOST and not self._makes_place():
             client.hear(f"# no: {MOST} connections are here already")
             client.write()
             client.close()
             return
         guest = self._guests[client] = Guest(client)
+        if self._door.token:
+            client.hear(f"# say `{TOKEN} ..` first, as it was said where the room was started")
+        else:
+            self._let_in(guest)
+        self._touched.add(client)
+
+    def _let_in(self, guest: Guest) -> None:
+        """Somebody is a guest, where there is a session for one."""
+        client = guest.client
         try:
             guest.member = self._room.join(None, client.hear, is_told=False)
         except Refusal as refusal:
             client.hear(f"# you are nobody yet: {refusal}; `# name NAME` comes by a name")
-        self._touched.add(client)
+
+    def _makes_place(self) -> bool:
+        """Closes the oldest connection that hasn't said the token yet, where there is one."""
+        silent = [it for it in self._guests.values() if self._door.token and not it.has_spoken]
+        for guest in silent[:1]:
+            self._close(guest)
+        return bool(silent)
 
     def _move(self, client: Client, mask: int) -> None:
         """Reads and writes what can be."""
@@ -171,7 +193,8 @@ class Port:
     def _is_late(self, guest: Guest) -> None:
         """A connection that has said nothing is a guest; where it could be none, it is closed."""
         if guest.member is None:
-            guest.client.end("it has said no name")
+            lacks_token = self._door.token and not guest.has_spoken
+            guest.client.end(f"it has said no {'token' if lacks_token else 'name'}")
             self._touched.add(guest.client)
         else:
             guest.member.announce()
@@ -185,6 +208,8 @@ class Port:
             self._line(guest, client.lines.popleft())
             if time.monotonic() > end:
                 break
+        if client.is_ending:
+            return
         if client.word:
             self._end(guest, client.word)
         elif client.is_broken:
@@ -196,7 +221,9 @@ class Port:
             self._end(guest)
 
     def _line(self, guest: Guest, line: bytes) -> None:
-        """Does one line."""
+        """Does one line, the first of a connection once that is let in by it."""
+        if not guest.has_spoken and not self._goes_on_behind(guest, line):
+            return
         text = line.decode("utf-8", "replace")
         words = text.split()
         if guest.is_waiting and words[:2] != ["#", "name"]:
@@ -209,6 +236,17 @@ class Port:
             guest.member.remark(text)
         else:
             self._ask(guest, line)
+
+    def _goes_on_behind(self, guest: Guest, line: bytes) -> bool:
+        """Looks at a first line; whether it is one for the room. Nothing is done of a connection
+        that a browser has made."""
+        guest.has_spoken = True
+        why = self._door.why_not_behind(line)
+        if why:
+            self._end(guest, why)
+        elif self._door.token:
+            self._let_in(guest)
+        return not why and not self._door.token
 
     def _ask(self, guest: Guest, line: bytes) -> None:
         """Answers a line of rdbg's, or one that is too long to be any."""

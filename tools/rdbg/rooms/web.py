@@ -11,6 +11,7 @@ from typing import Any, Callable, Dict, Optional
 
 from rdbg.client import LOCAL
 from rdbg.commands import is_number
+from rdbg.door import Door, turn_away
 from rdbg.failure import Failure
 from rdbg.rooms import web_document
 from rdbg.rooms.room import Refusal, Room
@@ -29,6 +30,7 @@ from rdbg.rooms.web_guard import (
     check_token,
     name_in,
     one,
+    refusal,
 )
 from rdbg.rooms.web_pages import Page, Pages, as_json
 
@@ -183,8 +185,8 @@ class Served(ThreadingMixIn, HTTPServer):
     daemon_threads, block_on_close = True, False
     request_queue_size = 64
 
-    def __init__(self, room: Room, port: int) -> None:
-        self.room = room
+    def __init__(self, room: Room, port: int, door: Door) -> None:
+        self.room, self._door = room, door
         self.token = secrets.token_urlsafe(24)
         self.unread, self.pages = Unread(), Pages(room)
         self.page = web_document.page(room.app_source)
@@ -211,6 +213,13 @@ class Served(ThreadingMixIn, HTTPServer):
         self.socket.bind(self.server_address)
         self.server_address = self.socket.getsockname()
         self.server_name, self.server_port = LOCAL, self.server_address[1]
+
+    def verify_request(self, request: Any, client_address: Any) -> bool:
+        """Whether a connection is let in, before anything of it is read. Who isn't is told why."""
+        why = self._door.why_not(request, "this room")
+        if why:
+            turn_away(request, refusal(why))
+        return not why
 
     def process_request(self, request: Any, client_address: Any) -> None:
         """Begins a thread for a connection."""
@@ -239,10 +248,10 @@ class Served(ThreadingMixIn, HTTPServer):
         self.follower.close()
 
 
-def serve(room: Room, port: int) -> Served:
+def serve(room: Room, port: int, door: Optional[Door] = None) -> Served:
     """Serves the pages of a room at a port of this machine, or at a free one where it is 0. Raises
     `Failure` where it can't be had."""
     try:
-        return Served(room, port)
+        return Served(room, port, door or Door())
     except OSError as error:
         raise Failure(f"cannot listen at port {port}: {error.strerror}", 2) from None

@@ -3,13 +3,12 @@ import hmac
 import io
 import json
 import socket
-import threading
-import time
 import urllib.parse
 from email.message import Message
 from typing import BinaryIO, Dict, List, Optional, Tuple
 
 from rdbg.digits import is_digits
+from rdbg.door import Unheard
 
 # A request's head has so many bytes at the most, its body so many, and both take so many seconds.
 MOST_HEAD, MOST_BODY, SECONDS = 16_384, 4_096, 10.0
@@ -57,42 +56,18 @@ class Bounded(io.RawIOBase):
         return count
 
 
-class Unread:
-    """The connections whose request hasn't come yet. None of them keeps another one out."""
+class Unread(Unheard):
+    """The connections whose request hasn't come yet."""
 
     def __init__(self) -> None:
-        self._guard = threading.Lock()
-        self._since: Dict[socket.socket, float] = {}
-
-    def add(self, connection: socket.socket) -> None:
-        """A connection has come; of too many the oldest is dropped."""
-        with self._guard:
-            if len(self._since) >= MOST_UNREAD:
-                oldest = next(iter(self._since))
-                drop(oldest)
-                del self._since[oldest]
-            self._since[connection] = time.monotonic()
-
-    def remove(self, connection: socket.socket) -> None:
-        """Its request has come, or it has gone."""
-        with self._guard:
-            self._since.pop(connection, None)
-
-    def drop_late(self) -> None:
-        """Drops those that take too long."""
-        latest = time.monotonic() - SECONDS
-        with self._guard:
-            for connection in [it for it, since in self._since.items() if since < latest]:
-                drop(connection)
-                del self._since[connection]
+        super().__init__(MOST_UNREAD, SECONDS)
 
 
-def drop(connection: socket.socket) -> None:
-    """Ends a connection, for who waits for it too."""
-    try:
-        connection.shutdown(socket.SHUT_RDWR)
-    except OSError:
-        pass  # (it has gone)
+def refusal(why: str) -> bytes:
+    """What a connection is answered of which nothing is read."""
+    heads = ["HTTP/1.0 403 Forbidden", "Content-Type: text/plain; charset=utf-8"]
+    heads += [f"{name}: {value}" for name, value in HEADERS]
+    return "\r\n".join([*heads, "", f"rdbg: {why}\n"]).encode()
 
 
 def one(headers: Message, name: str) -> Optional[str]:

@@ -1,0 +1,108 @@
+"""Who comes in at a port of this machine: the user whose process listens there, unless anyone may;
+and what comes in by mistake, as what a browser sends on whichever page's behalf."""
+import contextlib
+import hmac
+import os
+import re
+import secrets
+import socket
+import threading
+import time
+from typing import Dict
+
+from rdbg.owners import told, way_to_tell
+
+# The first line of a request of HTTP, and how one begins that is encrypted.
+REQUEST = re.compile(rb"[!#$%&'*+.^_`|~0-9A-Za-z-]+ \S+ HTTP/[0-9.]+\r?\n?$", re.IGNORECASE)
+ENCRYPTED = b"\x16\x03"
+# How a word is said that lets one in, where the system says of nobody who it is.
+TOKEN = "# token"
+OPENS = "--anyone opens it"
+# So many bytes are read of who is turned away, so that the answer isn't lost with them.
+UNREAD = 65_536
+
+
+def is_of_a_browser(line: bytes) -> bool:
+    """Whether what a browser sends begins with this line."""
+    return line.startswith(ENCRYPTED) or REQUEST.match(line) is not None
+
+
+class Door:
+    """Lets in the user whose process this is, or anyone. Root is a user like others. Where the
+    system says of nobody who it is, there is a token instead."""
+
+    def __init__(self, is_open: bool = False) -> None:
+        self.is_open, self._user = is_open, os.geteuid()
+        self._way = None if is_open else way_to_tell()
+        self.token = "" if is_open or self._way else secrets.token_urlsafe(18)
+
+    @property
+    def said(self) -> str:
+        """What is said of it behind the port's number."""
+        return ", for anyone of this machine" if self.is_open else ""
+
+    def why_not(self, connection: socket.socket, what: str) -> str:
+        """Why a connection isn't let in, before anything of it is read; nothing where it is, or
+        where there is a token that it may know."""
+        if self._way is None:
+            return ""
+        user = told(self._way, connection)
+        if user is None:
+            return f"whose connection this is can't be told; {OPENS}"
+        return "" if user == self._user else f"{what} is of another user; {OPENS}"
+
+    def why_not_behind(self, line: bytes) -> str:
+        """Why a connection isn't let in whose first line is this one; nothing where it is."""
+        if is_of_a_browser(line):
+            return "this is for lines, and that is what a browser sends"
+        wanted = f"{TOKEN} {self.token}".encode()
+        if self.token and not hmac.compare_digest(line.strip(), wanted):
+            return f"the first line is to be `{TOKEN} ..`, as it was said at the start"
+        return ""
+
+
+def turn_away(connection: socket.socket, content: bytes = b"") -> None:
+    """Says why to who isn't let in, and closes the connection. Waits for nobody."""
+    with connection, contextlib.suppress(OSError):
+        connection.setblocking(False)
+        connection.send(content)
+        connection.shutdown(socket.SHUT_WR)
+        connection.recv(UNREAD)
+
+
+class Unheard:
+    """The connections that haven't said yet what they want. None of them keeps another one out: of
+    too many the oldest is dropped, and each that takes too many seconds."""
+
+    def __init__(self, most: int, seconds: float) -> None:
+        self._most, self._seconds = most, seconds
+        self._guard = threading.Lock()
+        self._since: Dict[socket.socket, float] = {}
+
+    def add(self, connection: socket.socket) -> None:
+        """A connection has come."""
+        with self._guard:
+            if len(self._since) >= self._most:
+                oldest = next(iter(self._since))
+                drop(oldest)
+                del self._since[oldest]
+            self._since[connection] = time.monotonic()
+
+    def remove(self, connection: socket.socket) -> None:
+        """It has said what it wants, or has gone."""
+        with self._guard:
+            self._since.pop(connection, None)
+
+    def drop_late(self) -> None:
+        """Drops those that take too long."""
+        latest = time.monotonic() - self._seconds
+        with self._guard:
+            for connection in [it for it, since in self._since.items() if since < latest]:
+                drop(connection)
+                del self._since[connection]
+
+
+def drop(connection: socket.socket) -> None:
+    """Ends a connection, for who waits for it too."""
+    with contextlib.suppress(OSError):  # (it may have gone)
+        connection.shutdown(socket.SHUT_RDWR)

@@ -1,0 +1,99 @@
+"""Another user of this machine at a port: `nobody`, as whom a process connects that root has
+started. And companions of which something is another before they start."""
+import contextlib
+import os
+import subprocess
+import sys
+import unittest
+from typing import Iterator, List, Sequence
+
+NOBODY = 65534
+IS_ROOT = unittest.skipUnless(os.geteuid() == 0, "only root can be another user")
+PATIENCE = 30.0
+# Connects, says something and nothing behind it, and prints all that is answered.
+SAYS = """
+import contextlib, socket, sys
+said = b""
+with socket.create_connection(("127.0.0.1", int(sys.argv[1])), 20) as there:
+    with contextlib.suppress(OSError):
+        there.sendall(bytes.fromhex(sys.argv[2]))
+        there.shutdown(socket.SHUT_WR)
+    with contextlib.suppress(ConnectionError):
+        more = there.recv(65536)
+        while more:
+            said += more
+            more = there.recv(65536)
+sys.stdout.buffer.write(said)
+"""
+# Opens so many connections and keeps them, or goes on and on where it is 0, until its input ends.
+KEEPS = """
+import socket, sys, threading
+port, count = ("127.0.0.1", int(sys.argv[1])), int(sys.argv[2])
+kept = [socket.create_connection(port, 20) for _ in range(count)]
+threading.Thread(target=lambda: print("kept", flush=True) or sys.stdin.read(), daemon=True).start()
+last = threading.enumerate()[-1]
+while last.is_alive():
+    if count:
+        last.join()
+        break
+    try:
+        with socket.create_connection(port, 20) as there:
+            there.sendall(b"wheel take\\ntick\\n")
+    except OSError:
+        pass
+"""
+# Does something before a companion starts, whose words stand behind it.
+BEFORE = """
+import os, runpy, sys
+sys.argv = sys.argv[3:]
+sys.path.insert(0, os.path.dirname(sys.argv[0]))
+{}
+runpy.run_path(sys.argv[0], run_name="__main__")
+"""
+# The system says of nobody who it is.
+UNTOLD = "import rdbg.owners; rdbg.owners.way_to_tell = lambda: None"
+
+
+def become() -> None:
+    """Becomes nobody."""
+    os.setgid(NOBODY)
+    os.setuid(NOBODY)
+
+
+def words(script: str, port: int, *more: str) -> List[str]:
+    """What starts a script."""
+    return [sys.executable, "-I", "-c", script, str(port), *more]
+
+
+def told_nobody(port: int, content: bytes) -> bytes:
+    """All that nobody is answered at a port who says this."""
+    return subprocess.run(
+        words(SAYS, port, content.hex()),
+        preexec_fn=become,
+        stdout=subprocess.PIPE,
+        timeout=PATIENCE,
+        check=True,
+    ).stdout
+
+
+@contextlib.contextmanager
+def connected(port: int, count: int) -> Iterator[None]:
+    """As long as nobody keeps so many connections; with 0 as long as one after the other comes."""
+    process = subprocess.Popen(
+        words(KEEPS, port, str(count)),
+        preexec_fn=become,
+        stdin=subprocess.PIPE,
+        stdout=subprocess.PIPE,
+    )
+    with process:
+        assert process.stdin is not None and process.stdout is not None
+        try:
+            assert process.stdout.readline() == b"kept\n"
+            yield
+        finally:
+            process.stdin.close()
+
+
+def before(action: str) -> Sequence[str]:
+    """What stands in the command line before a companion so that something is done first."""
+    return [sys.executable, "-B", "-c", BEFORE.format(action)]

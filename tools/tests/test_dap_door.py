@@ -1,0 +1,241 @@
+"""Who comes in at the port of `rdbg dap`: users, browsers, and those who say nothing."""
+import contextlib
+import json
+import os
+import pathlib
+import socket
+import subprocess
+import sys
+import tempfile
+import time
+import unittest
+from typing import Iterator, List, Sequence
+
+from rdbg.adapter.listening import MOST, MOST_SILENT
+from tests.dap_client import ALL, Client
+from tests.paths import COMPANION, EXAMPLES
+from tests.rooms import free_port
+from tests.strangers import IS_ROOT, UNTOLD, before, connected, told_nobody
+
+LOST = EXAMPLES / "lost_item.json"
+PATIENCE = 30.0
+# The silent ones are closed sooner.
+SOON = "import rdbg.adapter.listening as it; it.SECONDS = 1.0"
+INITIALIZE = {"seq": 1, "type": "request", "command": "initialize", "arguments": {}}
+
+
+class Port:
+    """An adapter at a port, in a process of its own."""
+
+    def __init__(self, words: Sequence[str], head: Sequence[str]) -> None:
+        self.number = free_port()
+        told = [*head, sys.executable, "-B", str(COMPANION), "dap", "--port", str(self.number)]
+        self.process = subprocess.Popen(
+            [*told, *words], stdout=subprocess.PIPE, stderr=subprocess.PIPE
+        )
+        assert self.process.stdout is not None
+        self.listening = self.process.stdout.readline().decode()
+
+    def connect(self) -> socket.socket:
+        """A connection to it."""
+        found = socket.create_connection(("127.0.0.1", self.number))
+        found.settimeout(PATIENCE)
+        return found
+
+    @contextlib.contextmanager
+    def editor(self) -> Iterator[Client]:
+        """An editor there."""
+        with self.connect() as here, here.makefile("rb") as told, here.makefile("wb") as asked:
+            client = Client(told, asked)
+            ALL.append(client)
+            yield client
+
+    def serves(self) -> None:
+        """Whether an editor that comes is answered at once."""
+        began = time.monotonic()
+        with self.editor() as client:
+            client.ask("initialize")
+        assert time.monotonic() - began < 5
+
+    def errors(self) -> str:
+        """Ends it, and answers what it has said on standard error."""
+        self.process.kill()
+        return self.process.communicate()[1].decode()
+
+
+@contextlib.contextmanager
+def listening(*words: str, head: Sequence[str] = ()) -> Iterator[Port]:
+    """An adapter that listens."""
+    found = Port(words, head)
+    try:
+        yield found
+    finally:
+        found.process.kill()
+        found.process.communicate()
+
+
+def framed(*messages: object) -> bytes:
+    """Messages as an editor sends them."""
+    bodies = [json.dumps(it).encode() for it in messages]
+    return b"".join(b"Content-Length: %d\r\n\r\n%s" % (len(it), it) for it in bodies)
+
+
+def rest(connection: socket.socket) -> bytes:
+    """All that comes until the connection ends."""
+    said = b""
+    with contextlib.suppress(ConnectionError):
+        more = connection.recv(65_536)
+        while more:
+            said += more
+            more = connection.recv(65_536)
+    return said
+
+
+class Users(unittest.TestCase):
+    """Another user of this machine."""
+
+    def asked(self, file: pathlib.Path) -> bytes:
+        """What one asks for who wants a file to be written, where another may."""
+        save = {"expression": f"save {file}", "context": "repl"}
+        return framed(
+            INITIALIZE,
+            {"seq": 2, "type": "request", "command": "launch", "arguments": {}},
+            {"seq": 3, "type": "request", "command": "configurationDone", "arguments": {}},
+            {"seq": 4, "type": "request", "command": "evaluate", "arguments": save},
+        )
+
+    @IS_ROOT
+    def test_another_user_gets_a_close_and_does_nothing(self) -> None:
+        with tempfile.TemporaryDirectory() as folder, listening() as port:
+            file = pathlib.Path(folder) / "made"
+            self.assertEqual(port.listening, f"listening {port.number}\n")
+            for content in (b"", self.asked(file), framed(INITIALIZE)):
+                self.assertEqual(told_nobody(port.number, content), b"")
+            port.serves()
+            self.assertEqual(os.listdir(folder), [])
+            why = "this adapter is of another user; --anyone opens it"
+            self.assertEqual(port.errors(), f"rdbg dap: a connection was closed: {why}\n")
+
+    @IS_ROOT
+    def test_anyone_opens_it_and_says_so(self) -> None:
+        with listening("--anyone") as port:
+            said = f"listening {port.number}, for anyone of this machine\n"
+            self.assertEqual(port.listening, said)
+            self.assertIn(b'"success": true', told_nobody(port.number, framed(INITIALIZE)))
+
+    @IS_ROOT
+    def test_many_of_another_take_no_place(self) -> None:
+        with listening() as port, port.editor() as client, connected(port.number, 100):
+            client.begin(LOST)
+            port.serves()
+            with connected(port.number, 0):
+                for _ in range(10):
+                    port.serves()
+            self.assertEqual(client.typed("tick").splitlines()[0], "ok at 1")
+
+    def test_where_nobody_is_told_it_refuses(self) -> None:
+        with listening(head=before(UNTOLD)) as port:
+            self.assertEqual(port.process.wait(PATIENCE), 2)
+            self.assertIn("whose a connection is can't be told here; --anyone", port.errors())
+        with listening("--anyone", head=before(UNTOLD)) as port:
+            port.serves()
+
+    def test_anyone_goes_with_a_port(self) -> None:
+        ran = subprocess.run(
+            [sys.executable, "-B", str(COMPANION), "dap", "--anyone"],
+            stdin=subprocess.DEVNULL,
+            stdout=subprocess.PIPE,
+            stderr=subprocess.PIPE,
+            timeout=PATIENCE,
+        )
+        self.assertEqual((ran.returncode, ran.stdout), (2, b""))
+        self.assertIn(b"--anyone goes with --port", ran.stderr)
+
+
+class Browsers(unittest.TestCase):
+    """Requests of HTTP."""
+
+    def ends(self, port: Port, *pieces: bytes, pause: float = 0.0) -> None:
+        """Whether these pieces end the connection, with no answer to the message behind them."""
+        with port.connect() as other, contextlib.suppress(ConnectionError):
+            with contextlib.suppress(ConnectionError):
+                for piece in (*pieces, framed(INITIALIZE)):
+                    other.sendall(piece)
+                    time.sleep(pause)
+            self.assertEqual(rest(other), b"", pieces[0][:30])
+
+    def test_requests_end_a_connection(self) -> None:
+        long = b"x" * 100_000
+        with listening() as port:
+            self.ends(port, b"POST / HTTP/1.1\r\n")
+            for method in (b"get", b"M-SEARCH", b"!#$%&'*+-.^_`|~09"):
+                self.ends(port, method + b" / HTTP/1.1\r\n")
+            for size in (4_080, 4_090, 4_096, 100_000):
+                self.ends(port, b"POST /" + long[:size] + b" HTTP/1.1\r\n")
+            self.ends(port, *[bytes([it]) for it in b"M-SEARCH * HTTP/1.1\r\n"])
+            self.ends(port, b"x! /", b" HT", b"TP/1.", b"1\r\n", pause=0.3)
+            self.ends(port, b"\x16\x03\x01\x02\x00\x01\x00\r\n\r\n")
+            port.serves()
+
+
+class Silent(unittest.TestCase):
+    """Connections whose first message doesn't come."""
+
+    def test_silent_ones_keep_nobody_out(self) -> None:
+        with listening() as port, contextlib.ExitStack() as stack:
+            silent = [stack.enter_context(port.connect()) for _ in range(16)]
+            for other in silent[::2]:
+                other.sendall(b"Content-Length: 100\r\n")
+            port.serves()
+            silent += [stack.enter_context(port.connect()) for _ in range(3 * MOST_SILENT)]
+            port.serves()
+            for other in silent[: 2 * MOST_SILENT]:
+                self.assertEqual(rest(other), b"")
+
+    def test_silent_and_slow_ones_are_closed(self) -> None:
+        with listening(head=before(SOON)) as port, port.editor() as client:
+            client.ask("initialize")
+            with port.connect() as silent, port.connect() as slow:
+                began = time.monotonic()
+                with contextlib.suppress(ConnectionError):
+                    while time.monotonic() - began < PATIENCE:
+                        slow.sendall(b"X")
+                        time.sleep(0.1)
+                self.assertEqual(rest(silent) + rest(slow), b"")
+                self.assertLess(time.monotonic() - began, 10)
+            # (who has said something stays)
+            client.ask("launch", program=str(LOST))
+
+    def test_one_that_never_ends_its_line(self) -> None:
+        with listening(head=before(SOON)) as port, port.connect() as other:
+            sent = 0
+            with contextlib.suppress(OSError):
+                while sent < 1 << 30:
+                    sent += other.send(b"x" * 1_000_000)
+            self.assertLess(memory(port.process.pid), 200)
+            port.serves()
+
+    def test_editors_above_the_most_are_told(self) -> None:
+        with listening() as port, contextlib.ExitStack() as stack:
+            clients: List[Client] = []
+            for _ in range(MOST):
+                clients.append(stack.enter_context(port.editor()))
+                clients[-1].ask("initialize")
+            with port.editor() as client:
+                said = client.refused("initialize")
+                self.assertEqual(said, f"{MOST} editors are served here already")
+                self.assertIsNone(client.receive())
+            clients[0].ask("disconnect")
+            self.assertIsNone(clients[0].receive())
+            port.serves()
+
+
+def memory(process: int) -> int:
+    """The most memory that a process has had, in MiB."""
+    status = pathlib.Path(f"/proc/{process}/status").read_text()
+    line = next(it for it in status.splitlines() if it.startswith("VmHWM"))
+    return int(line.split()[1]) >> 10
+
+
+if __name__ == "__main__":
+    unittest.main()
