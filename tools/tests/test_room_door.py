@@ -42,6 +42,19 @@ class Users(unittest.TestCase):
             here.end()
             self.assertEqual([it[0] for it in rows(file)], ["room", *["left"] * 3, "room"])
 
+    def test_a_prompt_says_why_too(self) -> None:
+        with mock.patch("rdbg.door.told", lambda *_: 12_345), served() as (port, _):
+            said = f"the server at port {port}: this room is of another user; --anyone opens it"
+            with self.assertRaisesRegex(Failure, said):
+                Session.attach(port, "ada")
+            with Session.attach(port) as session, self.assertRaisesRegex(Failure, said):
+                session.tell("tick")
+
+    def test_a_token_that_isnt_asked_for_is_passed_over(self) -> None:
+        with mock.patch.dict(os.environ, {"RDBG_TOKEN": "old"}), served() as (port, _):
+            with Session.attach(port, "ada") as session:
+                self.assertEqual(session.tell("tick"), "ok at 1")
+
     @IS_ROOT
     def test_anyone_opens_it_and_says_so(self) -> None:
         with room("--anyone") as here, Caller(here.port, "left") as left:

@@ -238,15 +238,15 @@ class Port:
             self._ask(guest, line)
 
     def _goes_on_behind(self, guest: Guest, line: bytes) -> bool:
-        """Looks at a first line; whether it is one for the room. Nothing is done of a connection
-        that a browser has made."""
+        """Looks at a first line; whether it is one for the room, and no token. Nothing is done of a
+        connection that a browser has made."""
         guest.has_spoken = True
         why = self._door.why_not_behind(line)
         if why:
             self._end(guest, why)
         elif self._door.token:
             self._let_in(guest)
-        return not why and not self._door.token
+        return not why and not line.startswith(TOKEN.encode())
 
     def _ask(self, guest: Guest, line: bytes) -> None:
         """Answers a line of rdbg's, or one that is too long to be any."""
