@@ -7,6 +7,8 @@ import sys
 import unittest
 from typing import Iterator, List, Sequence
 
+from tests.dap_schema import DEBIAN
+
 NOBODY = 65534
 IS_ROOT = unittest.skipUnless(os.geteuid() == 0, "only root can be another user")
 PATIENCE = 30.0
@@ -61,8 +63,8 @@ def become() -> None:
 
 
 def words(script: str, port: int, *more: str) -> List[str]:
-    """What starts a script."""
-    return [sys.executable, "-I", "-c", script, str(port), *more]
+    """What starts a script, by Debian's Python: nobody can start one that is in a home of root."""
+    return [DEBIAN, "-I", "-c", script, str(port), *more]
 
 
 def told_nobody(port: int, content: bytes) -> bytes:

@@ -3,7 +3,6 @@ import contextlib
 import os
 import socket
 import subprocess
-import sys
 import time
 import unittest
 from typing import Callable, Iterator, Tuple
@@ -12,7 +11,7 @@ from unittest import mock
 from rdbg import door, owners
 from rdbg.client import LOCAL
 from rdbg.door import Door, Unheard, is_of_a_browser
-from tests.strangers import IS_ROOT, NOBODY, become
+from tests.strangers import IS_ROOT, NOBODY, become, words
 
 WAYS = (owners.asked, owners.listed)
 # Connects to a port, says so, and closes once its input ends.
@@ -45,7 +44,7 @@ def of_nobody() -> Iterator[socket.socket]:
     """A connection of another user."""
     with listening() as (found, port):
         process = subprocess.Popen(
-            [sys.executable, "-I", "-c", STRANGER, str(port)],
+            words(STRANGER, port),
             preexec_fn=become,
             stdin=subprocess.PIPE,
         )
