@@ -8,15 +8,16 @@ import functools
 import os
 import pathlib
 import re
+import signal
 import socket
 import subprocess
 import tempfile
 from types import TracebackType
 from typing import IO, Callable, Deque, Iterable, Iterator, List, Optional, Sequence, Type, Union
 
-from rdbg import replies
+from rdbg import children, replies
 from rdbg.commands import MOST_BYTES
-from rdbg.ending import ENDING, STARTED
+from rdbg.ending import STARTED
 from rdbg.failure import Failure
 from rdbg.shown import shown
 
@@ -51,13 +52,17 @@ def built_by(wrapper: str, words: str) -> str:
     """The program that `./rdbg` starts after these words of its own, which it builds where it has
     to. Raises `Failure` where it can't."""
     asked = [wrapper, *words.split(), "--build"]
+    pipe, none = subprocess.PIPE, subprocess.DEVNULL
     try:
-        made = subprocess.run(asked, stdin=subprocess.DEVNULL, stdout=subprocess.PIPE)
+        process = children.start(asked, none, pipe, None, signal.SIGTERM, is_apart=False)
     except OSError as error:
         raise Failure(f"cannot start {wrapper}: {error.strerror}", 2) from None
-    if made.returncode or not made.stdout.strip():
+    with process:
+        path, _ = process.communicate()
+    STARTED.pop(process)
+    if process.returncode or not path.strip():
         raise Failure("there is no program to start")
-    return os.fsdecode(made.stdout.strip())
+    return os.fsdecode(path.strip())
 
 
 def program() -> str:
@@ -163,11 +168,7 @@ class Session:
         errors = tempfile.TemporaryFile()
         pipe = subprocess.PIPE
         try:
-            with ENDING.held():
-                process = subprocess.Popen(
-                    words, stdin=pipe, stdout=pipe, stderr=errors, start_new_session=True
-                )
-                STARTED.add(process)
+            process = children.start(words, pipe, pipe, errors)
         except OSError as error:
             errors.close()
             raise Failure(f"cannot start {words[0]}: {error.strerror}", 2) from None
@@ -403,7 +404,7 @@ class Session:
         status = 0
         if self._process is not None:
             status = self._process.wait()
-            STARTED.discard(self._process)
+            STARTED.pop(self._process, None)
         if self._errors is not None:
             self._errors.close()
             self._errors = None

@@ -12,14 +12,14 @@ import os
 import signal
 import sys
 from types import FrameType
-from typing import TYPE_CHECKING, Iterator, NoReturn, Optional, Set
+from typing import TYPE_CHECKING, Dict, Iterator, NoReturn, Optional, Set
 
 if TYPE_CHECKING:
     import subprocess
 
 SAID = {signal.SIGINT: "interrupted", signal.SIGTERM: "ended by SIGTERM"}
-# The programs that were started, and haven't been waited for.
-STARTED: "Set[subprocess.Popen[bytes]]" = set()
+# The programs that were started, and haven't been waited for, with the signal that ends each.
+STARTED: "Dict[subprocess.Popen[bytes], int]" = {}
 # Files and folders that were made for a while, and aren't gone yet.
 MADE: Set[str] = set()
 
@@ -118,8 +118,8 @@ ENDING = Ending()
 
 def end_programs() -> None:
     """Ends the programs that this process has started."""
-    for it in list(STARTED):
-        it.kill()
+    for it, number in list(STARTED.items()):
+        it.send_signal(number)
 
 
 def end_started() -> None:

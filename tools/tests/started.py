@@ -91,11 +91,16 @@ class Started:
         self.process.stdin.write(lines.encode())
         self.process.stdin.close()
 
+    def tell(self, lines: str) -> None:
+        """Gives lines to its standard input."""
+        assert self.process.stdin is not None
+        self.process.stdin.write(lines.encode())
+        self.process.stdin.flush()
+
     def ask(self, line: str) -> str:
         """What it answers to a line."""
-        assert self.process.stdin is not None and self.process.stdout is not None
-        self.process.stdin.write(line.encode())
-        self.process.stdin.flush()
+        self.tell(line)
+        assert self.process.stdout is not None
         return self.process.stdout.readline().decode()
 
     def end(self, number: int) -> List[object]:

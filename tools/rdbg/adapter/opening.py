@@ -1,14 +1,16 @@
 """What `launch` and `attach` begin: a program of one's own, or one more session at a port."""
 import os
+import signal
 import subprocess
 import threading
 from typing import IO, Callable, List, Optional
 
-from rdbg import client, commands
+from rdbg import children, client, commands
 from rdbg import source as sources
 from rdbg.adapter.messages import Arguments, Wrong
 from rdbg.adapter.pausing import Pause
 from rdbg.client import Session
+from rdbg.ending import STARTED
 from rdbg.failure import Failure
 from rdbg.firmware.writer import text_of
 from rdbg.replies import Refused
@@ -83,9 +85,8 @@ def program(is_unproved: bool, tell: Tell) -> str:
     words = ["--unproved"] if is_unproved else os.environ.get("RDBG_WRAPPER_WORDS", "").split()
     pipe = subprocess.PIPE
     try:
-        made = subprocess.Popen(
-            [wrapper, *words, "--build"], stdin=subprocess.DEVNULL, stdout=pipe, stderr=pipe
-        )
+        asked = [wrapper, *words, "--build"]
+        made = children.start(asked, subprocess.DEVNULL, pipe, pipe, signal.SIGTERM, is_apart=False)
     except OSError as error:
         raise Wrong(f"cannot start {wrapper}: {error.strerror}") from None
     assert made.stdout is not None and made.stderr is not None
@@ -95,7 +96,9 @@ def program(is_unproved: bool, tell: Tell) -> str:
     with made.stdout:
         path = os.fsdecode(made.stdout.read().strip())
     reader.join()
-    if made.wait() or not path:
+    made.wait()
+    STARTED.pop(made, None)
+    if made.returncode or not path:
         raise Wrong(f"there is no program to start: {said[-1] if said else 'nothing was built'}")
     return path
 

@@ -14,6 +14,7 @@ from types import TracebackType
 from typing import AbstractSet, Any, Callable, Deque, Dict, Iterable, Iterator, List, Optional
 from typing import Tuple, Type, TypeVar
 
+from rdbg import children
 from rdbg.client import program
 from rdbg.failure import Failure
 from rdbg.hunting.standing import At
@@ -37,6 +38,7 @@ class TimeUp(Exception):
 
 def serve(hunted: Hunted, jobs: Pipe) -> None:
     """Does jobs until there are no more. Ctrl-C is left to the process that started this one."""
+    children.end_with_parent()
     signal.signal(signal.SIGINT, signal.SIG_IGN)
     worker = Worker(hunted)
     with contextlib.suppress(EOFError, OSError):

@@ -7,7 +7,9 @@ import tempfile
 import time
 from typing import IO, Iterator, List, Optional
 
+from rdbg import children
 from rdbg.client import LOCAL, Session, program
+from rdbg.ending import STARTED
 from rdbg.failure import Failure
 from rdbg.shell.opening import as_read, greet
 from rdbg.shell.target import Limits
@@ -78,13 +80,7 @@ class Host:
     def _begin(cls, words: List[str]) -> "Host":
         errors = tempfile.TemporaryFile()
         try:
-            process = subprocess.Popen(
-                words,
-                stdin=subprocess.DEVNULL,
-                stdout=subprocess.PIPE,
-                stderr=errors,
-                start_new_session=True,
-            )
+            process = children.start(words, subprocess.DEVNULL, subprocess.PIPE, errors)
         except OSError as error:
             errors.close()
             raise Failure(f"cannot start {words[0]}: {error.strerror}", 2) from None
@@ -158,6 +154,7 @@ class Host:
                 session.close()
             self._said.close()
             self._errors.close()
+            STARTED.pop(self._process, None)
 
 
 class Audit:

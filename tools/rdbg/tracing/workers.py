@@ -10,6 +10,7 @@ import multiprocessing.process
 import signal
 from typing import Callable, ContextManager, Iterator, List, Sequence, TypeVar
 
+from rdbg import children
 from rdbg.failure import Failure
 
 Job = TypeVar("Job")
@@ -26,6 +27,7 @@ def serve(
 ) -> None:
     """Does jobs until all are done, or nobody takes the answers any more. Ctrl-C is left to the
     process that started this one, and so are the pipes of the others, which it has too."""
+    children.end_with_parent()
     signal.signal(signal.SIGINT, signal.SIG_IGN)
     for pipe in others:
         pipe.close()
