@@ -9,6 +9,7 @@ import stat
 import sys
 from typing import IO, Iterator, Optional, Tuple
 
+from rdbg import links
 from rdbg.ending import ENDING, MADE
 from rdbg.failure import Failure
 
@@ -32,16 +33,15 @@ def found(path: str) -> Optional[os.stat_result]:
 
 
 def replaced(path: str, there: Optional[os.stat_result]) -> str:
-    """The path of the file whose place another one can take: that behind links. Empty where it is
+    """The path, behind links, of the file whose place another one can take. Empty where it is
     written itself: a pipe or a device, a file of several names or of a folder where no other can be
     made, or one that this process has open, as its output."""
     if os.path.abspath(path).startswith(OPEN_ALREADY) or not os.path.basename(path):
         return ""
-    real = os.path.realpath(path)
     if there is None:
-        return real
-    is_plain = stat.S_ISREG(there.st_mode) and there.st_nlink == 1 and os.access(real, os.W_OK)
-    return real if is_plain and os.access(os.path.dirname(real), os.W_OK) else ""
+        return path
+    is_plain = stat.S_ISREG(there.st_mode) and there.st_nlink == 1 and os.access(path, os.W_OK)
+    return path if is_plain and os.access(os.path.dirname(path), os.W_OK) else ""
 
 
 def beside(path: str) -> Tuple[int, str]:
@@ -69,12 +69,13 @@ def written(path: str) -> Iterator[IO[str]]:
         yield sys.stdout
         return
     try:
-        there = found(path)
-        real = replaced(path, there)
+        behind = links.behind(path)
+        there = found(behind)
+        real = replaced(behind, there)
         with ENDING.held():
             number, made = beside(real) if real else (-1, "")
             MADE.add(made)
-        file = open(number if real else path, "w", encoding="utf-8")
+        file = open(number if real else behind, "w", encoding="utf-8")
     except OSError as error:
         raise cannot(path, error) from None
     try:

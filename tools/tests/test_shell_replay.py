@@ -63,7 +63,7 @@ class Save(Folder):
         for seed in range(4):
             with self.subTest(seed), opened(application(seed)) as shell:
                 wander(random.Random(seed), shell.target, 40)
-                self.assertEqual(said(shell, f"save {self.saved}")[-1], REPLAYED)
+                self.assertEqual(said(shell, f"save! {self.saved}")[-1], REPLAYED)
 
     def test_the_file_as_it_was_read(self) -> None:
         with file(self.app) as shell:

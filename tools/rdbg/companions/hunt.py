@@ -7,7 +7,7 @@ import sys
 import time
 from typing import IO, Callable, Iterator, List, Optional, Sequence, Tuple, Union
 
-from rdbg import commands
+from rdbg import commands, links
 from rdbg.companions.sh import bounded, read
 from rdbg.failure import Failure
 from rdbg.hunting import goals, report, wrong
@@ -135,16 +135,17 @@ def empty(path: Optional[str], source: str) -> None:
     hunt stand there where nothing is found. Raises `Failure` where it can't be written."""
     if path is None or path == STANDARD:
         return
-    was_there = os.path.lexists(path)
     try:
-        if was_there and os.path.samefile(path, source):
+        file = links.behind(path)
+        was_there = os.path.lexists(file)
+        if was_there and os.path.samefile(file, source):
             raise Failure(f"-o {path} is the application itself, which would be lost", CANT)
-        with open(path, "w", encoding="utf-8"):
+        with open(file, "w", encoding="utf-8"):
             pass
     except OSError as error:
         raise Failure(f"cannot write {path}: {error.strerror}", CANT) from None
     if not was_there:
-        os.unlink(path)
+        os.unlink(file)
 
 
 def hunted(given: argparse.Namespace) -> Hunted:
@@ -212,7 +213,7 @@ def outputs(path: Optional[str]) -> Iterator[Tuple[IO[str], IO[str]]]:
     if path is None or path == STANDARD:
         yield sys.stdout, sys.stderr
         return
-    with open(path, "w", encoding="utf-8") as file:
+    with open(links.behind(path), "w", encoding="utf-8") as file:
         yield file, sys.stdout
 
 

@@ -1,8 +1,11 @@
 """The talk of a room as a file: who, when, which line, and which reply, a row each."""
 import contextlib
+import os
+import stat
 import time
 from typing import IO, Optional
 
+from rdbg import own_file
 from rdbg.failure import Failure
 from rdbg.shown import shown
 
@@ -15,17 +18,28 @@ def field(text: str) -> str:
     return shown(text.replace("\\", "\\\\"))
 
 
+def begun(path: str) -> int:
+    """Opens the file of a talk. Raises `Failure` where something else stands there."""
+    number = own_file.opened(path, os.O_RDWR | os.O_CREAT | os.O_APPEND)
+    is_plain = stat.S_ISREG(os.fstat(number).st_mode)
+    if is_plain and os.pread(number, len(HEAD), 0) not in (b"", HEAD.encode()):
+        os.close(number)
+        raise Failure(f"{path} is there, and is no talk: it stays as it is", 2)
+    return number
+
+
 class Talk:
     """A file to which rows are added. Each is written whole, at once."""
 
     def __init__(self, path: str) -> None:
-        """Opens it, behind what stands there. Raises `Failure` where it can't be written."""
+        """Opens it, behind the talk that stands there. Raises `Failure` where it can't be written,
+        or something else stands there."""
         self.path = path
         # Why no more can be written, if so.
         self.fault = ""
         self._second, self._text = 0, ""
         try:
-            self._file: IO[bytes] = open(path, "ab", buffering=0)
+            self._file: IO[bytes] = os.fdopen(begun(path), "ab", buffering=0)
             if not self._file.tell():
                 self._file.write(HEAD.encode())
         except OSError as error:

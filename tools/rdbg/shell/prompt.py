@@ -7,7 +7,9 @@ import sys
 from types import ModuleType
 from typing import TYPE_CHECKING, Optional
 
+from rdbg import own_file
 from rdbg.client import Incoming
+from rdbg.failure import Failure
 from rdbg.shell.interrupt import Woken
 
 if TYPE_CHECKING:
@@ -18,7 +20,7 @@ MOST_LINES = 2_000
 WIPE = "\r\x1b[K"
 # Lines with these words aren't repeated by Enter.
 ONCE = (
-    "watch", "unwatch", "break", "b", "delete", "d", "save", "reload", "set", "help", "h", "?",
+    "watch", "unwatch", "break", "b", "delete", "d", "save", "save!", "reload", "set", "help", "h", "?",
     "wheel", "poke", "isr", "goto", "g", "#",
 )  # fmt: skip
 
@@ -69,10 +71,10 @@ class Lines:
         if self.file is None or self.readline is None:
             return
         try:
-            self.file.parent.mkdir(parents=True, exist_ok=True)
-            self.file.touch(mode=0o600)
+            self.file.parent.mkdir(mode=0o700, parents=True, exist_ok=True)
+            os.close(own_file.opened(str(self.file), os.O_WRONLY | os.O_CREAT | os.O_APPEND))
             self.readline.read_history_file(str(self.file))
-        except (OSError, ValueError):
+        except (Failure, OSError, ValueError):
             self.file = None
 
     def keep(self, line: str) -> None:

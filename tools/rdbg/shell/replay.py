@@ -1,6 +1,4 @@
 """The moves that were made as a list, as a file of commands, and on an edited file."""
-import os
-import pathlib
 import re
 from typing import TYPE_CHECKING, List, Optional, Sequence, Tuple
 
@@ -21,7 +19,6 @@ if TYPE_CHECKING:
 
 DEFAULT_MOVES = 20
 CHUNK = 512
-ENDING = ".commands"
 # The words of an instruction that are values, and not names.
 VALUE = re.compile("[0-9]+|r[0-7]|max")
 
@@ -74,20 +71,24 @@ def lines_of(shell: "Shell") -> List[str]:
 
 def save(shell: "Shell", words: Sequence[str]) -> None:
     """`save FILE`: the moves as lines that rdbg replays, and whether it does."""
+    save_to(shell, words, is_anew=False)
+
+
+def save_anew(shell: "Shell", words: Sequence[str]) -> None:
+    """`save! FILE`: the same, onto a file that is there."""
+    save_to(shell, words, is_anew=True)
+
+
+def save_to(shell: "Shell", words: Sequence[str], is_anew: bool) -> None:
+    """Saves the moves, and says whether rdbg replays them."""
     if len(words) != 1:
         raise Unable("save to which file? `save found.commands`")
-    file = pathlib.Path(words[0])
-    if os.path.exists(file) and file.suffix != ENDING:
-        raise Unable(f"{file} is there, and doesn't end in {ENDING}: it stays as it is")
+    file = words[0]
+    shell.saved.check(file, is_anew)
     with shell.wheel():
         lines = lines_of(shell)
         look = shell.target.look()
-    try:
-        file.write_text("".join(f"{line}\n" for line in lines), encoding="ascii")
-    except OSError as error:
-        raise Unable(f"cannot write {file}: {error.strerror}") from None
-    except ValueError:
-        raise Unable(f"cannot write {str(file)!r}: no file has such a name") from None
+    shell.saved.write(file, "".join(f"{line}\n" for line in lines), is_anew)
     shell.say(f"{len(lines)} moves are in {file}")
     if shell.target.application is None:
         shell.say("the application's file isn't known here, so they weren't tried")

@@ -13,6 +13,7 @@ from rdbg.replies import Cores, Refused
 from rdbg.shell import hints, needs, trail, views
 from rdbg.shell.interrupt import Interrupt, Interrupted
 from rdbg.shell.notices import Notices, is_remark
+from rdbg.shell.saved import Saved
 from rdbg.shell.target import SINGLE, Target, Unable, read
 from rdbg.shell.walk import Pieces, Walk
 from rdbg.source import Source
@@ -34,6 +35,7 @@ class Shell:
         self.asked = ""
         self.shows_moves = self.shows_lines = False
         self.is_terminal = self.told_of_breaks = self.is_done = False
+        self.saved = Saved()
         self.take(target, source)
 
     def take(self, target: Target, source: Optional[Source]) -> None:

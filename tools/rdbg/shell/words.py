@@ -39,7 +39,8 @@ GOALS = (
 
 SAVE = (
     "`./rdbg run --app FILE < found.commands` comes to this place and state; a new program tries it\n"
-    "at once. A file that is there already stays, if its name doesn't end in .commands."
+    "at once. A file that is there and wasn't saved by this prompt stays: `save! FILE` writes it\n"
+    "anew, but for one whose name doesn't end in .commands."
 )
 RELOAD = (
     "A new program begins with the file as it is now, and makes the same moves up to the first that\n"
@@ -120,6 +121,9 @@ WORDS: Tuple[Word, ...] = (
     Word("moves [COUNT|all]", "who did what, and what came of it", replay.moves, (), ("all",)),
     Word("goto PLACE", "to the place with so many moves done", steps.goto, ("g",)),
     Word("save FILE", "the moves as lines that rdbg replays", replay.save, (), ("FILE",), SAVE),
+    Word(
+        "save! FILE", "the same, onto a file that is there", replay.save_anew, (), ("FILE",), SAVE
+    ),
     Word("reload", "the same moves on the edited file", replay.reload, more=RELOAD),
     Word(
         "set moves|echo on|off",

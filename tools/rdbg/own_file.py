@@ -1,0 +1,35 @@
+"""Files that have what somebody typed, or a secret: no other user reads them, or has laid them there."""
+import os
+import stat
+
+from rdbg import links
+from rdbg.failure import Failure
+
+# Nobody else reads it. (A file that was there keeps the mode that it has.)
+MODE = 0o600
+
+
+def check(path: str, number: int) -> None:
+    """Raises `Failure` where an open file isn't one's own, nor a device."""
+    there = os.fstat(number)
+    if stat.S_ISCHR(there.st_mode):
+        return
+    if there.st_uid != os.geteuid():
+        raise links.refused(path, "it is a file of another user")
+    if stat.S_ISREG(there.st_mode) and there.st_nlink > 1:
+        raise links.refused(path, "it is a file of several names")
+
+
+def opened(path: str, more: int) -> int:
+    """Opens a file to be written, which is made where `more` says so. Raises `Failure` for one that
+    isn't one's own, `OSError` where there is none to open."""
+    found = links.behind(path)
+    if found.startswith(links.OPEN_ALREADY):
+        return os.open(found, os.O_CLOEXEC | more)
+    number = os.open(found, os.O_NOFOLLOW | os.O_CLOEXEC | more, MODE)
+    try:
+        check(path, number)
+    except Failure:
+        os.close(number)
+        raise
+    return number

@@ -1,0 +1,250 @@
+"""Files that have what somebody typed: who reads them, through which links they are written, and onto
+which files they aren't."""
+import os
+import pathlib
+import stat
+import tempfile
+import unittest
+from typing import Callable, Dict
+from unittest import mock
+
+from rdbg.failure import Failure
+from rdbg.main import main
+from rdbg.rooms.talk import HEAD, Talk
+from rdbg.shell.prompt import Lines
+from rdbg.whole_file import written
+from tests.rooms import LOST
+from tests.shell_talk import example, said
+
+NOBODY = 65_534
+OF_ANOTHER = "it is a link that another user has laid"
+FOR_ALL = "it is a link, in a folder that all may write to"
+THERE = "is there, and wasn't saved by this prompt: it stays as it is"
+
+
+def keep_talk(path: str) -> str:
+    """Keeps a talk in a file, and answers why it can't be kept."""
+    try:
+        talk = Talk(path)
+    except Failure as failure:
+        return str(failure)
+    talk.keep("ada", "step 1", "ok at 1")
+    talk.close()
+    return ""
+
+
+def save(path: str) -> str:
+    """Saves in a prompt of its own, and answers what is said first."""
+    with example("lost_item") as shell:
+        return said(shell, "step 1", f"save {path}")[1][len("# ") :]
+
+
+def page(path: str) -> str:
+    """Writes what is made to be handed on, and answers why it can't be."""
+    try:
+        with written(path) as file:
+            file.write("a page")
+    except Failure as failure:
+        return str(failure)
+    return ""
+
+
+def type_a_line(path: str) -> str:
+    """Types a line at a prompt whose history is this file."""
+    with mock.patch.dict(os.environ, {"RDBG_HISTORY": path}), example("lost_item") as shell:
+        Lines(shell).keep(f"# {path}")
+    return ""
+
+
+def hunt(path: str) -> str:
+    """Hunts for something, and answers what the file of its lines has."""
+    words = ["hunt", LOST, "reg producer 0 = 7", "--moves", "2", "--workers", "1", "-o", path]
+    with mock.patch("sys.stdout"), mock.patch("sys.stderr") as said_there:
+        main(words)
+    return "".join(str(it.args[0]) for it in said_there.write.call_args_list).strip()
+
+
+Way = Callable[[str], str]
+OWN: Dict[str, Way] = {"talk": keep_talk, "saved": save, "history": type_a_line}
+HANDED_ON: Dict[str, Way] = {"page": page}
+ALL: Dict[str, Way] = {**OWN, **HANDED_ON, "hunt": hunt}
+
+
+class Case(unittest.TestCase):
+    """Tests in a folder of their own."""
+
+    def setUp(self) -> None:
+        folder = tempfile.TemporaryDirectory()
+        self.addCleanup(folder.cleanup)
+        self.folder = pathlib.Path(folder.name)
+
+    def mode(self, path: pathlib.Path) -> int:
+        """Who may read and write a file."""
+        return stat.S_IMODE(path.stat().st_mode)
+
+
+class Modes(Case):
+    """Who reads what is written."""
+
+    def test_what_was_typed_is_the_users_alone(self) -> None:
+        before = os.umask(0o022)
+        self.addCleanup(os.umask, before)
+        for name, way in OWN.items():
+            with self.subTest(name):
+                file = self.folder / f"{name}.commands"
+                way(str(file))
+                self.assertNotEqual("", file.read_text())
+                self.assertEqual(0o600, self.mode(file))
+        file = self.folder / "page"
+        page(str(file))
+        self.assertEqual(0o644, self.mode(file))
+
+    def test_a_file_that_is_there_keeps_its_mode(self) -> None:
+        file = self.folder / "talk"
+        file.touch()
+        file.chmod(0o640)
+        self.assertEqual("", keep_talk(str(file)))
+        self.assertEqual(0o640, self.mode(file))
+
+    def test_the_folder_of_the_history(self) -> None:
+        before = os.umask(0o022)
+        self.addCleanup(os.umask, before)
+        type_a_line(str(self.folder / "rdbg" / "history"))
+        self.assertEqual(0o700, self.mode(self.folder / "rdbg"))
+
+
+class Links(Case):
+    """Links that lead elsewhere."""
+
+    def check(self, folder: pathlib.Path, why: str, owner: int) -> None:
+        """Nothing is written through a link that is laid in this folder."""
+        for name, way in ALL.items():
+            for aim in ("there", "nowhere"):
+                with self.subTest(name, aim=aim):
+                    target, link = self.folder / aim, folder / f"{name}-{aim}.commands"
+                    (self.folder / "there").write_text(HEAD)
+                    link.symlink_to(target)
+                    os.lchown(link, owner, -1)
+                    answer = way(str(link))
+                    self.assertEqual(HEAD, (self.folder / "there").read_text())
+                    self.assertFalse((self.folder / "nowhere").exists())
+                    self.assertTrue(link.is_symlink())
+                    if name == "saved" and aim == "there":
+                        self.assertIn(THERE, answer)
+                    elif name != "history":
+                        self.assertTrue(answer.endswith(f"cannot write {link}: {why}"), answer)
+
+    def test_in_a_folder_that_all_write_to(self) -> None:
+        shared = self.folder / "shared"
+        shared.mkdir()
+        shared.chmod(0o1777)
+        self.check(shared, FOR_ALL, os.geteuid())
+
+    @unittest.skipUnless(os.geteuid() == 0, "of root alone")
+    def test_of_another_user(self) -> None:
+        own = self.folder / "own"
+        own.mkdir()
+        self.check(own, OF_ANOTHER, NOBODY)
+        # (where it is asked for to be written over, too)
+        link = own / "found.commands"
+        link.symlink_to(self.folder / "there")
+        os.lchown(link, NOBODY, -1)
+        with example("lost_item") as shell:
+            answers = said(shell, f"save! {link}")
+        self.assertEqual([f"# cannot write {link}: {OF_ANOTHER}"], answers)
+
+    def test_ones_own_are_followed(self) -> None:
+        for name, way in ALL.items():
+            with self.subTest(name):
+                target, middle = self.folder / f"{name}.target", self.folder / f"{name}.middle"
+                link = self.folder / f"{name}.commands"
+                middle.symlink_to(target.name)
+                link.symlink_to(middle)
+                if name == "hunt":
+                    target.write_text("old")
+                way(str(link))
+                self.assertTrue(link.is_symlink() and middle.is_symlink())
+                self.assertEqual(name != "hunt", bool(target.read_text()))
+
+    def test_what_is_open_already(self) -> None:
+        reading, writing = os.pipe()
+        self.assertEqual("", page(f"/dev/fd/{writing}"))
+        os.close(writing)
+        with os.fdopen(reading) as lines:
+            self.assertEqual("a page", lines.read())
+        for way in (page, keep_talk):
+            self.assertEqual("", way("/dev/null"))
+
+    @unittest.skipUnless(os.geteuid() == 0, "of root alone")
+    def test_a_file_of_another_user(self) -> None:
+        file = self.folder / "found.commands"
+        file.write_text(HEAD)
+        os.chown(file, NOBODY, -1)
+        why = f"cannot write {file}: it is a file of another user"
+        self.assertEqual(why, keep_talk(str(file)))
+        type_a_line(str(file))
+        with example("lost_item") as shell:
+            self.assertEqual([f"# {why}"], said(shell, f"save! {file}"))
+        self.assertEqual(HEAD, file.read_text())
+
+    def test_a_file_of_several_names(self) -> None:
+        file, second = self.folder / "found.commands", self.folder / "second.commands"
+        file.write_text(HEAD)
+        os.link(file, second)
+        why = f"cannot write {second}: it is a file of several names"
+        self.assertEqual(why, keep_talk(str(second)))
+        with example("lost_item") as shell:
+            self.assertEqual([f"# {why}"], said(shell, f"save! {second}"))
+        self.assertEqual(HEAD, file.read_text())
+
+
+class There(Case):
+    """Files that are there already."""
+
+    def test_what_this_prompt_has_not_saved(self) -> None:
+        file = self.folder / "found.commands"
+        file.write_text("step 7\n")
+        why = f"# {file} {THERE}; `save! {file}` writes it anew"
+        with example("lost_item") as shell:
+            self.assertEqual([why], said(shell, f"save {file}"))
+            self.assertEqual("step 7\n", file.read_text())
+            said(shell, "tick")
+            self.assertEqual(f"# 1 moves are in {file}", said(shell, f"save! {file}")[0])
+            self.assertEqual("tick\n", file.read_text())
+            # (from now on it is this prompt's, until another one stands there)
+            said(shell, "back 1")
+            self.assertEqual(f"# 0 moves are in {file}", said(shell, f"save {file}")[0])
+            self.assertEqual("", file.read_text())
+            another = self.folder / "another"
+            another.write_text("step 8\n")
+            another.replace(file)
+            self.assertEqual([why], said(shell, f"save {file}"))
+        self.assertEqual("step 8\n", file.read_text())
+
+    def test_one_that_does_not_end_so(self) -> None:
+        file = self.folder / "notes.txt"
+        file.write_text("notes")
+        with example("lost_item") as shell:
+            for word in ("save", "save!"):
+                self.assertIn("doesn't end in .commands", said(shell, f"{word} {file}")[0])
+        self.assertEqual("notes", file.read_text())
+
+    def test_what_is_no_talk(self) -> None:
+        file = self.folder / "lost.talk"
+        for text in ("notes\n", "when", HEAD[:-1], f"#{HEAD}"):
+            file.write_text(text)
+            why = f"{file} is there, and is no talk: it stays as it is"
+            self.assertEqual(why, keep_talk(str(file)))
+            self.assertEqual(text, file.read_text())
+
+    def test_a_talk_goes_on(self) -> None:
+        file = self.folder / "lost.talk"
+        file.write_text(f"{HEAD}earlier\trow\tof\tit\n")
+        self.assertEqual("", keep_talk(str(file)))
+        rows = file.read_text().splitlines()
+        self.assertEqual([HEAD[:-1], "earlier\trow\tof\tit"], rows[:2])
+        self.assertTrue(rows[2].endswith("\tada\tstep 1\tok at 1"))
+
+
+if __name__ == "__main__":
+    unittest.main()
