@@ -1,5 +1,6 @@
 """A room with a page for browsers, as its users have it, and sessions beside the page."""
 import contextlib
+import pathlib
 import time
 from typing import Any, Iterable, Iterator, List, Tuple
 from unittest import mock
@@ -27,15 +28,16 @@ class WebRoom(Process):
 
     def __init__(self, path: str, *words: str) -> None:
         super().__init__(["--sessions", "6", "--web", "0", *words], path)
-        self.address = self.token = ""
+        self.address = self.token = self.said = self.file = ""
         self.web = 0
 
     def wait(self) -> None:
         """Waits until it listens, and says where its page is."""
         super().wait()
         assert self.process.stdout is not None
-        word, self.address = self.process.stdout.readline().split()
+        word, self.said, self.file = self.process.stdout.readline().split()
         assert word == "web", word
+        self.address = pathlib.Path(self.file).read_text().strip()
         *_, place, self.token, _ = self.address.split("/")
         self.web = int(place.split(":")[1])
 

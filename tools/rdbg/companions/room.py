@@ -1,15 +1,16 @@
 """A room for several, each by a name, at one target: a port at which `sh` and `nc` are sessions."""
 import argparse
+import contextlib
 import signal
 import sys
 from types import FrameType
-from typing import Optional, Sequence
+from typing import Optional, Sequence, Tuple
 
 from rdbg.companions.sh import bounded, port, read
 from rdbg.door import TOKEN, Door
 from rdbg.ending import Terminated
 from rdbg.failure import Failure
-from rdbg.rooms import keys, web
+from rdbg.rooms import keys, web, web_address
 from rdbg.rooms.host import MOST_SESSIONS
 from rdbg.rooms.program import HISTORY
 from rdbg.rooms.port import Port, listening
@@ -105,10 +106,14 @@ class Signals:
         self.port.stop()
 
 
-def with_pages(room: Room, number: int, door: Door) -> Served:
-    """The room's pages, at a port. Where that can't be had the room ends, by a `Failure`."""
+def with_pages(
+    room: Room, number: int, door: Door, ends: contextlib.ExitStack
+) -> Tuple[Served, str]:
+    """The room's pages, at a port, and what is said of where they are. Where that can't be had the
+    room ends, by a `Failure`."""
     try:
-        return web.serve(room, number, door)
+        pages = web.serve(room, number, door)
+        return pages, ends.enter_context(web_address.said(pages.address, sys.stdout.isatty()))
     except Failure:
         room.kill()
         raise
@@ -137,6 +142,15 @@ def serve(room: Room, port: Port, talk: Optional[Talk], pages: Optional[Served])
 def main(words: Sequence[str]) -> int:
     """Opens a room, and serves it."""
     given = parser().parse_args(words)
+    ends = contextlib.ExitStack()
+    try:
+        return open_and_serve(given, ends)
+    finally:
+        ends.close()
+
+
+def open_and_serve(given: argparse.Namespace, ends: contextlib.ExitStack) -> int:
+    """Opens a room, and serves it; what is to be done behind it is told to `ends`."""
     source = read(given.file)
     assert source is not None
     limits = Limits(given.moves or Limits.moves, given.history or HISTORY)
@@ -148,13 +162,13 @@ def main(words: Sequence[str]) -> int:
     signals = Signals()
     room = Room.open(source, limits, given.sessions, talk)
     signals.port = port = Port(room, listener, door)
-    pages = None if given.web is None else with_pages(room, given.web, door)
+    pages, where = (None, "") if given.web is None else with_pages(room, given.web, door, ends)
     print(f"listening {given.port}{door.said}", flush=True)
     if door.token:
         why = "whose a connection is can't be told here"
         print(f"rdbg room: {why}: who comes says first {TOKEN} {door.token}", file=sys.stderr)
     if pages is not None:
-        print(f"web {pages.address}", flush=True)
+        print(f"web {where}", flush=True)
     if sys.stdout.isatty():
         print(f"# rdbg sh --port {given.port} --name NAME {given.file}: a prompt in it", flush=True)
     keys.listen(room, given.idle)

@@ -85,6 +85,9 @@ class Handler(BaseHTTPRequestHandler):
         if self.bounded.is_over:
             raise Denied(431, "its head is too long")
         check_origin(self.headers, self.server.port, method)
+        if self.path == "/" and method == "GET":
+            self.server.unread.remove(self.connection)
+            return self._answer(403, HTML, self.server.door)
         name, query = check_token(self.path, self.server.token)
         if method == "POST":
             if name not in SAID and name not in MOVES:
@@ -189,7 +192,7 @@ class Served(ThreadingMixIn, HTTPServer):
         self.room, self._door = room, door
         self.token = secrets.token_urlsafe(24)
         self.unread, self.pages = Unread(), Pages(room)
-        self.page = web_document.page(room.app_source)
+        self.page, self.door = web_document.page(room.app_source), web_document.door()
         self.has_ended = False
         super().__init__((LOCAL, port), Handler)
         self.port: int = self.server_address[1]

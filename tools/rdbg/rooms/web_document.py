@@ -1,14 +1,20 @@
-"""The page of a room, as it is served: style, scripts, and what stays of the application."""
+"""The page of a room, as it is served: style, scripts, and what stays of the application; and what
+stands where an address has no token."""
 import pathlib
 
-from rdbg.page.document import POLICY, body_of, document, json_of
+from rdbg.page.document import HERE as OF_PAGES
+from rdbg.page.document import POLICY, body_of, digest, document, filled, json_of, text_of
 from rdbg.source import Source
 
 HERE = pathlib.Path(__file__).resolve().parent / "page"
-SCRIPTS = tuple(HERE / name for name in ("live_run.js", "acts.js", "talk.js", "room_page.js"))
+SCRIPTS = tuple(
+    HERE / name for name in ("way.js", "live_run.js", "acts.js", "talk.js", "room_page.js")
+)
 STYLES = (HERE / "room.css",)
 # The page speaks with who has served it, and with nobody else.
 SPEAKS = f"{POLICY}; connect-src 'self'; base-uri 'none'; form-action 'none'"
+# It leads back who was let in, and says nothing of the room.
+DOOR = "<p>This is a room of rdbg: open the address that it has said, with its token.</p>"
 # What a policy can't say in the page itself.
 FRAMES = "frame-ancestors 'none'"
 NOW = '<button id="now" type="button" title="to where the target is (.)" hidden>now</button>'
@@ -29,3 +35,17 @@ def page(source: Source) -> str:
     }
     body = body_of(HERE / "room.html", {"room": json_of(of_room)}, NOW)
     return document(f"{name}: a room", body, SCRIPTS, STYLES, SPEAKS)
+
+
+def door() -> str:
+    """The page where an address has no token."""
+    script = text_of(HERE / "door.js")
+    alone = f"{POLICY}; base-uri 'none'; form-action 'none'"
+    values = {
+        "policy": f"{alone}; style-src '{digest('')}'; script-src '{digest(script)}'",
+        "title": "a room",
+        "style": "",
+        "body": DOOR,
+        "script": script,
+    }
+    return filled(text_of(OF_PAGES / "page.html"), values)

@@ -82,7 +82,7 @@ class Line {
   }
 
   open() {
-    this.events = new EventSource(`events?name=${encodeURIComponent(this.name)}`);
+    this.events = new EventSource(`${WAY}events?name=${encodeURIComponent(this.name)}`);
     for (const kind of ["you", "who", "notice", "refused", "end", ...MOVES]) {
       this.events.addEventListener(kind, ({ data }) => this.take(kind, JSON.parse(data)));
     }
@@ -128,7 +128,7 @@ class Line {
     const body = JSON.stringify({ page: this.key ?? "", [what]: text });
     const headers = { "Content-Type": "application/json" };
     try {
-      const answer = await fetch(what, { method: "POST", headers, body });
+      const answer = await fetch(WAY + what, { method: "POST", headers, body });
       return answer.ok ? await answer.json() : { refused: (await answer.text()).trim() };
     } catch (error) {
       return { refused: "the room can't be reached" };
@@ -419,4 +419,5 @@ class RoomOnPage {
   }
 }
 
+hideWay();
 new RoomOnPage(JSON.parse(byId("of-room").textContent));
