@@ -43,3 +43,9 @@ def behind(path: str) -> str:
             raise refused(path, "it is a link, in a folder that all may write to")
         found = os.path.join(folder, os.readlink(found))
     raise refused(path, "its links lead nowhere")
+
+
+def no_link(path: str, ways: int, mode: int = 0o666) -> int:
+    """Opens what `behind` has found, and no link that was laid there since."""
+    is_open = path.startswith(OPEN_ALREADY)
+    return os.open(path, ways | os.O_CLOEXEC | (0 if is_open else os.O_NOFOLLOW), mode)

@@ -24,9 +24,9 @@ def opened(path: str, more: int) -> int:
     """Opens a file to be written, which is made where `more` says so. Raises `Failure` for one that
     isn't one's own, `OSError` where there is none to open."""
     found = links.behind(path)
+    number = links.no_link(found, more, MODE)
     if found.startswith(links.OPEN_ALREADY):
-        return os.open(found, os.O_CLOEXEC | more)
-    number = os.open(found, os.O_NOFOLLOW | os.O_CLOEXEC | more, MODE)
+        return number
     try:
         check(path, number)
     except Failure:

@@ -7,7 +7,7 @@ import contextlib
 import os
 import stat
 import sys
-from typing import IO, Iterator, Optional, Tuple
+from typing import IO, Iterator, Optional, Tuple, Union
 
 from rdbg import links
 from rdbg.ending import ENDING, MADE
@@ -75,7 +75,8 @@ def written(path: str) -> Iterator[IO[str]]:
         with ENDING.held():
             number, made = beside(real) if real else (-1, "")
             MADE.add(made)
-        file = open(number if real else behind, "w", encoding="utf-8")
+        where: Union[int, str] = number if real else behind
+        file = open(where, "w", encoding="utf-8", opener=links.no_link)
     except OSError as error:
         raise cannot(path, error) from None
     try:

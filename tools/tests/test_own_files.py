@@ -187,6 +187,17 @@ class Links(Case):
             self.assertEqual([f"# {why}"], said(shell, f"save! {file}"))
         self.assertEqual(HEAD, file.read_text())
 
+    def test_one_that_is_laid_meanwhile(self) -> None:
+        target, link = self.folder / "there", self.folder / "link.commands"
+        for name, way in ALL.items():
+            with self.subTest(name):
+                target.write_text(HEAD)
+                with mock.patch("rdbg.links.behind", lambda path: path):
+                    link.symlink_to(target)
+                    way(str(link))
+                    link.unlink()
+                self.assertEqual(HEAD, target.read_text())
+
     def test_a_file_of_several_names(self) -> None:
         file, second = self.folder / "found.commands", self.folder / "second.commands"
         file.write_text(HEAD)

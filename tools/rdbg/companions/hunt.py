@@ -140,7 +140,7 @@ def empty(path: Optional[str], source: str) -> None:
         was_there = os.path.lexists(file)
         if was_there and os.path.samefile(file, source):
             raise Failure(f"-o {path} is the application itself, which would be lost", CANT)
-        with open(file, "w", encoding="utf-8"):
+        with open(file, "w", encoding="utf-8", opener=links.no_link):
             pass
     except OSError as error:
         raise Failure(f"cannot write {path}: {error.strerror}", CANT) from None
@@ -213,7 +213,7 @@ def outputs(path: Optional[str]) -> Iterator[Tuple[IO[str], IO[str]]]:
     if path is None or path == STANDARD:
         yield sys.stdout, sys.stderr
         return
-    with open(links.behind(path), "w", encoding="utf-8") as file:
+    with open(links.behind(path), "w", encoding="utf-8", opener=links.no_link) as file:
         yield file, sys.stdout
 
 
