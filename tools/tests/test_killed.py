@@ -18,6 +18,12 @@ TURNS = str(EXAMPLES / "turns.json")
 KILLED = -signal.SIGKILL
 LAUNCH = '{"seq": 1, "type": "request", "command": "launch", "arguments": {"file": "%s"}}' % LOST
 FRAME = f"Content-Length: {len(LAUNCH)}\r\n\r\n{LAUNCH}"
+# As `./rdbg --build`: it has another one build, and ends that where it is asked to end.
+BUILDER = """#!/bin/sh
+sleep 1000 &
+trap "kill $!; exit 143" INT TERM
+wait
+"""
 
 
 class Killed(unittest.TestCase):
@@ -76,11 +82,17 @@ class Killed(unittest.TestCase):
                 self.check(started, 4 if words else 2)
 
     def test_a_build(self) -> None:
-        wrapper = {"RDBG_WRAPPER": self.sleeper, "RDBG_PROGRAM": ""}
-        with mock.patch.dict(os.environ, wrapper):
-            started = Started("sh", LOST)
-            started.give("")
-            self.check(started, 2)
+        builder = pathlib.Path(self.scratch / "builder")
+        builder.write_text(BUILDER)
+        builder.chmod(0o700)
+        wrapper = {"RDBG_WRAPPER": str(builder), "RDBG_PROGRAM": ""}
+        for name, lines in (("sh", "step 1\n"), ("dap", FRAME)):
+            for number in (signal.SIGKILL, signal.SIGTERM, signal.SIGINT):
+                with self.subTest(name, signal=number), mock.patch.dict(os.environ, wrapper):
+                    started = Started(name, *([LOST] if name == "sh" else []))
+                    started.tell(lines)
+                    started.wait_for(3)
+                    started.end(number)
 
 
 class Threads(unittest.TestCase):
