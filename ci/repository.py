@@ -48,25 +48,52 @@ def free_memory():
     return int(re.search(r"MemAvailable:\s+(\d+)", text)[1]) << 10
 
 
+# The signals that have come while a process was started.
+WAITING = []
+STARTING = []
+
+
+def came(number, _frame):
+    if STARTING:
+        WAITING.append(number)
+    else:
+        sys.exit(128 + number)
+
+
 def end_with_parent():
     """Has SIGTERM, SIGHUP and SIGINT end this process by way of what it has to clear up, and
     SIGTERM come where the process that started it ends first, in whichever way."""
     for number in (signal.SIGTERM, signal.SIGHUP, signal.SIGINT):
-        signal.signal(number, lambda number, _: sys.exit(128 + number))
+        signal.signal(number, came)
     parent_dies = 1
     ctypes.CDLL(None).prctl(parent_dies, signal.SIGTERM)
 
 
 @contextlib.contextmanager
+def starting():
+    """As long as a process is started, and nobody knows yet that it has to be ended, signals that
+    end this one wait."""
+    STARTING.append(True)
+    try:
+        yield
+    finally:
+        STARTING.pop()
+        if WAITING:
+            sys.exit(128 + WAITING[0])
+
+
+@contextlib.contextmanager
 def running(words, **how):
     """A process, which is ended where it still runs at the end. Ctrl-C doesn't reach it."""
-    process = subprocess.Popen(words, start_new_session=True, **how)
+    process = None
     try:
+        with starting():
+            process = subprocess.Popen(words, start_new_session=True, **how)
         yield process
     finally:
-        with contextlib.suppress(ProcessLookupError):
+        if process is not None:
             process.terminate()
-        process.wait()
+            process.wait()
 
 
 def copy_sources(scratch):

@@ -13,6 +13,7 @@ from unittest import mock
 from rdbg import main
 from rdbg.client import Session
 from tests.paths import COMPANION, EXAMPLES, TOP
+from tests.rooms import free_port
 from tests.started import Started, at_import, sleeper
 from tests.test_shell_port import server
 
@@ -68,6 +69,13 @@ class Running(unittest.TestCase):
                 started.give("forward 3\n")
                 started.wait_for(2)
                 self.check(started, name, signal.SIGTERM)
+
+    def test_a_room_that_has_no_port_yet(self) -> None:
+        for number in SAID:
+            with self.subTest(number):
+                started = Started("room", LOST, "--port", str(free_port()), program=self.sleeper)
+                started.wait_for(2)
+                self.check(started, "room", number)
 
     def test_a_hunt_without_processes(self) -> None:
         started = Started("hunt", LOST, "stuck", "--workers", "1", program=self.sleeper)
