@@ -1,5 +1,6 @@
 """A room whose history is nearly full, and others who come to the new program's sessions first."""
 import contextlib
+import io
 import socket
 import threading
 import unittest
@@ -7,6 +8,7 @@ from typing import Any, Iterator, List, Tuple
 from unittest import mock
 
 from rdbg.client import LOCAL, Session
+from rdbg.companions.room import open_room
 from rdbg.rooms import host, program
 from rdbg.rooms.host import Host
 from rdbg.rooms.room import Member, Room
@@ -46,6 +48,22 @@ def nearly_full(history: int) -> Iterator[Tuple[Member, List[str], Session]]:
     with Session.run(LOST) as alone:
         yield here.join("left", heard.append), heard, alone
     assert all(it.is_good for it in here.close())
+
+
+class Opening(unittest.TestCase):
+    """A room is opened, however often others come to its program first."""
+
+    def test_it_is_tried_again_and_said(self) -> None:
+        errors = io.StringIO()
+        with taken(5), mock.patch.object(host, "SECONDS", 0.0):
+            with contextlib.redirect_stderr(errors):
+                here = open_room(load(LOST), Limits(), 3, None)
+        self.assertEqual("ok at 1", here.join("left", lambda notice: None).ask("step 1"))
+        self.assertTrue(all(it.is_good for it in here.close()))
+        said = errors.getvalue().splitlines()
+        self.assertEqual(5, len(said))
+        for line in said:
+            self.assertRegex(line, r"^rdbg room: another came to port \d+ first: .*; it is tried")
 
 
 class Renewal(unittest.TestCase):

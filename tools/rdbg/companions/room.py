@@ -11,13 +11,14 @@ from rdbg.door import TOKEN, Door
 from rdbg.ending import Terminated
 from rdbg.failure import Failure
 from rdbg.rooms import keys, web, web_address
-from rdbg.rooms.host import MOST_SESSIONS
+from rdbg.rooms.host import MOST_SESSIONS, Hindered
 from rdbg.rooms.program import HISTORY
 from rdbg.rooms.port import Port, listening
 from rdbg.rooms.room import Room
 from rdbg.rooms.talk import Talk, opened
 from rdbg.rooms.web import Served
 from rdbg.shell.target import Limits
+from rdbg.source import Source
 
 SUMMARY = "a room for several at one target, by names: what anyone does, all are told"
 EPILOG = (
@@ -106,6 +107,16 @@ class Signals:
         self.port.stop()
 
 
+def open_room(source: Source, limits: Limits, sessions: int, talk: Optional[Talk]) -> Room:
+    """A room, once it has its program. As long as others come to that first it is tried again,
+    which is said."""
+    while True:
+        try:
+            return Room.open(source, limits, sessions, talk)
+        except Hindered as hindered:
+            print(f"rdbg room: {hindered}; it is tried again", file=sys.stderr, flush=True)
+
+
 def with_pages(
     room: Room, number: int, door: Door, ends: contextlib.ExitStack
 ) -> Tuple[Served, str]:
@@ -160,7 +171,7 @@ def open_and_serve(given: argparse.Namespace, ends: contextlib.ExitStack) -> int
     listener, door = listening(given.port), Door(given.anyone)
     talk = opened(given.talk)
     signals = Signals()
-    room = Room.open(source, limits, given.sessions, talk)
+    room = open_room(source, limits, given.sessions, talk)
     signals.port = port = Port(room, listener, door)
     pages, where = (None, "") if given.web is None else with_pages(room, given.web, door, ends)
     print(f"listening {given.port}{door.said}", flush=True)

@@ -29,6 +29,10 @@ class Ended(Failure):
     """The program has ended, so that no line is answered any more."""
 
 
+class Hindered(Failure):
+    """Others come to the program's port first, each time."""
+
+
 def free_port() -> int:
     """A port of this machine that nobody has."""
     with socket.socket() as found:
@@ -51,11 +55,12 @@ class Host:
         source: Source,
         limits: Limits,
         count: int = MOST_SESSIONS,
-        seconds: float = SECONDS,
+        seconds: Optional[float] = None,
     ) -> "Host":
         """Starts it on an application as it was read, and tries so long at the most. Ctrl-C at the
-        terminal doesn't reach it. Raises `Failure` where it can't be started."""
-        until = time.monotonic() + seconds
+        terminal doesn't reach it. Raises `Failure` where it can't be started, and `Hindered` where
+        others came first for all that time."""
+        until = time.monotonic() + (SECONDS if seconds is None else seconds)
         with as_read(source) as path:
             while True:
                 port = free_port()
@@ -73,8 +78,10 @@ class Host:
                 except BaseException:
                     host.kill()
                     raise
-                if not is_again or time.monotonic() > until:
+                if not is_again:
                     raise Failure(said or "rdbg serve ended at once")
+                if time.monotonic() > until:
+                    raise Hindered(said)
 
     @classmethod
     def _begin(cls, words: List[str]) -> "Host":
