@@ -24,6 +24,7 @@ INTERRUPTED = """
     class Interrupted(unittest.TestCase):
         def test_it(self):
             self.assertRaises(KeyboardInterrupt, signal.raise_signal, signal.SIGINT)
+            self.assertEqual(signal.SIG_DFL, signal.getsignal(signal.SIGHUP))
 """
 # Says twice that another one has the lock; writes down how it was called.
 APT_GET = """#!/bin/sh
@@ -73,13 +74,15 @@ class Companions(unittest.TestCase):
         # (the module's layout and types are none of ours, and are looked at once)
         self.assertEqual(summary, "1 passed, 2 failed")
 
-    def test_an_ignored_interrupt(self) -> None:
+    def test_ignored_signals(self) -> None:
         self.write_module("interrupted", INTERRUPTED)
-        before = signal.signal(signal.SIGINT, signal.SIG_IGN)
+        numbers = (signal.SIGINT, signal.SIGHUP)
+        before = [signal.signal(number, signal.SIG_IGN) for number in numbers]
         try:
             said = self.run_it()
         finally:
-            signal.signal(signal.SIGINT, before)
+            for number, handler in zip(numbers, before):
+                signal.signal(number, handler)
         self.assertIn("test_interrupted: 1 tests, 0 wrong", said)
 
     def test_a_lock_is_waited_for(self) -> None:
