@@ -1,5 +1,6 @@
 """How a room ends, and what is left of the talk then."""
 import contextlib
+import ctypes
 import datetime
 import io
 import os
@@ -12,6 +13,10 @@ from typing import List, Tuple
 
 from rdbg.main import main
 from tests.rooms import LOST, Caller, Process, free_port, room, rows, talk, until
+
+
+# The number by which Linux is asked to send a signal to one thread (x86-64).
+TGKILL = 234
 
 
 def parent_of(process: str) -> str:
@@ -54,6 +59,21 @@ class Ends(unittest.TestCase):
                 self.assertEqual(
                     rows(file)[-2:], [["left", "tick", "ok at 1"], ["room", "#", closed]]
                 )
+
+    def test_a_signal_that_another_thread_gets(self) -> None:
+        with room("--web", "0", sessions=2) as here:
+            number = here.process.pid
+            others: List[str] = []
+
+            def are_there() -> bool:
+                others[:] = set(os.listdir(f"/proc/{number}/task")) - {str(number)}
+                return bool(others)
+
+            until(are_there)
+            time.sleep(0.2)  # (the room waits for somebody to come)
+            said = ctypes.CDLL(None).syscall(TGKILL, number, int(others[0]), int(signal.SIGTERM))
+            self.assertEqual(0, said)
+            self.assertEqual(0, here.end(0))
 
     def test_a_talk_is_complete_however_it_ends(self) -> None:
         for number in (signal.SIGTERM, signal.SIGKILL):

@@ -134,7 +134,8 @@ def serve(room: Room, port: Port, talk: Optional[Talk], pages: Optional[Served])
     """Serves until a signal comes or the program ends, and answers the status."""
     room.when_over = port.stop
     try:
-        port.serve()
+        with port.heard():
+            port.serve()
         audits = room.close()
     except BaseException:
         room.kill()

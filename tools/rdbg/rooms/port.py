@@ -1,10 +1,11 @@
 """A room's port on this machine: all its connections, served by one thread, each in its turn."""
 import contextlib
 import selectors
+import signal
 import socket
 import threading
 import time
-from typing import Dict, List, Optional, Set
+from typing import Dict, Iterator, List, Optional, Set
 
 from rdbg.client import LOCAL
 from rdbg.commands import MOST_BYTES
@@ -84,6 +85,16 @@ class Port:
         """Ends `serve`, from any thread, or from what handles a signal."""
         self._is_stopped = True
         self._wake()
+
+    @contextlib.contextmanager
+    def heard(self) -> Iterator[None]:
+        """As long as signals end the wait, also one that comes just before it, or to another
+        thread: else it would be heard once something else happens."""
+        signal.set_wakeup_fd(self._waking.fileno(), warn_on_full_buffer=False)
+        try:
+            yield
+        finally:
+            signal.set_wakeup_fd(-1)
 
     def _wake(self) -> None:
         with contextlib.suppress(OSError):
