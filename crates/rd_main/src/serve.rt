@@ -3,7 +3,7 @@
 ghost use Rattle.std.specs.Prelude.{◌≡◌, ◌+◌, IfErr};
 ghost use Rattle.rd_desk.specs.declared.sessions.TheConstants.{MAX_JOINS};
 ghost use Rattle.rd_main.specs.Running.{FailsTogether};
-ghost use Rattle.rd_main.specs.declared.failure.Failure.TheVariants.{Broken};
+ghost use Rattle.rd_main.specs.declared.failure.Failure.TheVariants.{Broken, CannotListen};
 
 use crate::failure::Failure;
 use rd_desk::limits::Limits;
@@ -15,8 +15,7 @@ use rd_names::app::App;
 use rd_net::net::{Served, serve_net};
 use rd_session::gate::NoGate;
 use std::alloc::Global;
-use std::io;
-use std::io::Write;
+use std::io::{ErrorKind, Write};
 use std::marker::Brand;
 use std::net::{IpAddr, Ipv4Addr, Net, SocketAddr, TcpListener, TcpStream};
 use std::sync::Wait;
@@ -76,9 +75,9 @@ where
             report_faults(faults, errors);
             close(hall, gone, writer)
         }
-        Err(error) => {
+        Err(failure) => {
             let _ = hall.finish(Vec::new(alloc));
-            Err(Failure::cannot_listen(port, &error))
+            Err(failure)
         }
     }
 }
@@ -109,7 +108,7 @@ fn close<L: Setup, W: Write>(
     }
 }
 
-// Listens, and serves a session for each pass. An `Err` says why the port can't be had.
+// Listens, and serves a session for each pass.
 fn serve<L: Setup + Send + Sync, H, W: Write>(
     rt: &H,
     alloc: Global,
@@ -117,12 +116,16 @@ fn serve<L: Setup + Send + Sync, H, W: Write>(
     passes: Vec<Pass<L>>,
     port: u16,
     writer: &mut W,
-) -> io::Result<Served<L>>
+) -> Result<Served<L>, Failure>
 where
     H: Wait + Sync + Threads + Clock + Net<Listener = TcpListener, Stream = TcpStream>,
+    ensures { IfErr result (λ failure. (kind : ErrorKind) × (failure ≡ CannotListen port kind)) }
 {
     let here = SocketAddr::new(IpAddr::V4(Ipv4Addr::LOCALHOST), port);
-    let listener = TcpListener::bind(rt, here)?;
+    let listener = match TcpListener::bind(rt, here) {
+        Ok(listener) => listener,
+        Err(error) => return Err(Failure::cannot_listen(port, &error)),
+    };
     let _ = writeln!(writer, "listening {port}");
     let _ = writer.flush();
     Ok(serve_net(rt, alloc, listener, hall, passes, NoGate))
