@@ -49,6 +49,13 @@ def make_checkout(top: pathlib.Path) -> None:
         write_script(top / script.relative_to(TOP), script.read_text())
 
 
+# Has proved what is in this folder, and built it.
+PROVES = """#!/bin/sh
+echo "$@" >> "$RT_CALLS"
+mkdir -p out && cp /bin/true out/rdbg
+"""
+
+
 class Checkout(unittest.TestCase):
     """A checkout, with an `rt` of its own."""
 
@@ -60,7 +67,8 @@ class Checkout(unittest.TestCase):
         self.source = self.top / "crates/rdbg/src/main.rt"
         kit = pathlib.Path(folder.name) / "kit"
         kit.mkdir()
-        write_script(kit / "rt", RT)
+        self.kit = kit / "rt"
+        write_script(self.kit, RT)
         self.calls, self.pids = kit / "calls", kit / "pids"
         self.environment = {
             **os.environ,
@@ -145,6 +153,15 @@ class Sums(Checkout):
         self.assertEqual(self.run_it("--unproved", "--build").stdout, f"{second}\n")
         self.source.write_text(SOURCE)
         self.assertEqual(self.run_it("--unproved", "--build").stdout, f"{first}\n")
+
+    def test_what_was_proved_is_kept(self) -> None:
+        write_script(self.kit, PROVES)
+        built = self.run_it("--build").stdout.strip()
+        self.assertEqual(pathlib.Path(built).read_bytes(), pathlib.Path("/bin/true").read_bytes())
+        self.assertTrue(os.access(built, os.X_OK))
+        self.assertEqual(len(self.called()), 1)
+        self.assertEqual(self.run_it("--build").stdout.strip(), built)
+        self.assertEqual(len(self.called()), 1)
 
     def test_proofs_are_sources_of_the_proved_one(self) -> None:
         self.keep("proved")
