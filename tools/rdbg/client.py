@@ -127,6 +127,22 @@ class PortLines(Incoming):
         self._connection.close()
 
 
+def connected(
+    connection: socket.socket, port: int, seconds: Optional[float] = None
+) -> socket.socket:
+    """Connects a new socket to a server of this machine, and answers it. Whatever comes is waited
+    for so many seconds, or for ever. Raises `Failure` where none listens."""
+    connection.settimeout(seconds)
+    try:
+        connection.connect((LOCAL, port))
+    except OSError as error:
+        connection.close()
+        is_free = isinstance(error, ConnectionRefusedError)
+        why = "nobody listens there" if is_free else error.strerror or str(error)
+        raise Failure(f"cannot attach to port {port}: {why}", 2) from None
+    return connection
+
+
 class Session:
     """One session, by the pipes of a program of its own (`start`) or a port (`attach`).
 
@@ -184,23 +200,19 @@ class Session:
         return cls.start([program(), "run", *app, *more])
 
     @classmethod
-    def attach(
-        cls, port: int, name: Optional[str] = None, seconds: Optional[float] = None
-    ) -> "Session":
-        """One more session at a server of this machine, at a room's by a name. Each answer is
-        waited for so many seconds, or for ever. Raises `Failure` where none listens, or the name
-        isn't let in."""
-        try:
-            connection = socket.create_connection((LOCAL, port), seconds)
-        except OSError as error:
-            is_free = isinstance(error, ConnectionRefusedError)
-            why = "nobody listens there" if is_free else error.strerror
-            raise Failure(f"cannot attach to port {port}: {why}", 2) from None
-        lines = connection.makefile("wb")
-        session = cls(lines, PortLines(connection), f"the server at port {port}")
+    def attach(cls, port: int, name: Optional[str] = None) -> "Session":
+        """One more session at a server of this machine, at a room's by a name. Raises `Failure`
+        where none listens, or the name isn't let in."""
+        session = cls.over(connected(socket.socket(), port), port)
         if name is not None:
             session._introduce(name)
         return session
+
+    @classmethod
+    def over(cls, connection: socket.socket, port: int) -> "Session":
+        """One more session at the server of a port, over a connection to it."""
+        lines = connection.makefile("wb")
+        return cls(lines, PortLines(connection), f"the server at port {port}")
 
     def _introduce(self, name: str) -> None:
         """Says to a room who this is, behind the room's token where the environment has it."""

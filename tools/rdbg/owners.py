@@ -2,13 +2,14 @@
 
 Linux is asked for the one socket at the other end, which takes as long however many there are; where
 it can't be asked so, its tables of all sockets are looked through. Other systems don't say it.
+Who else has connections to a port stands in the tables alone.
 """
 import contextlib
 import os
 import socket
 import struct
 import sys
-from typing import Callable, Optional
+from typing import Callable, Dict, Iterator, List, Optional, Tuple
 
 from rdbg.client import LOCAL
 
@@ -51,15 +52,40 @@ def asked(connection: socket.socket) -> Optional[int]:
 
 def listed(connection: socket.socket) -> Optional[int]:
     """Looks for the socket at the other end in the system's tables."""
-    ends = [connection.getpeername(), connection.getsockname()]
-    words = [f"{struct.unpack('=I', socket.inet_aton(it))[0]:08X}:{port:04X}" for it, port in ends]
+    ends = [written(it) for it in (connection.getpeername(), connection.getsockname())]
+    for before, fields in rows():
+        if fields[1:3] == [before + it for it in ends]:
+            return user_of(fields)
+    return None
+
+
+def callers(port: int) -> Dict[int, Optional[int]]:
+    """Who has connections to a port of this machine: the user by the port at the other end, none
+    where that isn't known any more. Empty where the system has no tables."""
+    here, found = written((LOCAL, port)), {}
+    with contextlib.suppress(OSError, ValueError, IndexError):
+        for before, fields in rows():
+            if fields[2] == before + here:
+                found[int(fields[1].rpartition(":")[2], 16)] = user_of(fields)
+    return found
+
+
+def written(end: Tuple[str, int]) -> str:
+    """An address and a port as the tables have them."""
+    return f"{struct.unpack('=I', socket.inet_aton(end[0]))[0]:08X}:{end[1]:04X}"
+
+
+def rows() -> Iterator[Tuple[str, List[str]]]:
+    """The rows of the tables, and what stands before an address of IPv4 there."""
     for path, before in TABLES:
         with contextlib.suppress(FileNotFoundError), open(path, encoding="ascii") as table:
             for row in table:
-                fields = row.split()
-                if fields[1:3] == [before + it for it in words]:
-                    return known(int(fields[3], 16), int(fields[7]), int(fields[9]))
-    return None
+                yield before, row.split()
+
+
+def user_of(fields: List[str]) -> Optional[int]:
+    """The user of a row."""
+    return known(int(fields[3], 16), int(fields[7]), int(fields[9]))
 
 
 def told(way: Owner, connection: socket.socket) -> Optional[int]:

@@ -1,7 +1,7 @@
 """A network of its own, in which another user connects to each port that is new, as fast as it can,
 while a room of root's opens, is asked lines, and ends. Prints what came of it as JSON.
 
-usage: alone.py COMPANION FILE PORT LINES
+usage: alone.py FILE PORT LINES COMPANION, or what starts one
 """
 import ctypes
 import fcntl
@@ -18,7 +18,7 @@ from typing import List
 NEW_NETWORK, GET_FLAGS, SET_FLAGS, UP = 0x40000000, 0x8913, 0x8914, 1
 NOBODY = 65534
 PATIENCE = 60.0
-# Connects to each port of root's that it finds, and says two lines there.
+# Connects to each port of root's that it finds, says two lines there, and prints its number.
 ATTACKER = """
 import contextlib, socket, threading
 def come(port):
@@ -32,6 +32,7 @@ while True:
         rows = [row.split() for row in table.readlines()[1:]]
     ports = {int(row[1].split(":")[1], 16) for row in rows if row[3] == "0A" and row[7] == "0"}
     for port in ports - seen:
+        print(port, flush=True)
         threading.Thread(target=come, args=(port,), daemon=True).start()
     seen = ports
 """
@@ -71,13 +72,15 @@ def ask_all(port: int, count: int) -> List[str]:
     return replies
 
 
-def main(companion: str, file: str, port: str, count: str) -> None:
-    """Says when the room listened, what it answered, and how it ended."""
+def main(file: str, port: str, count: str, *companion: str) -> None:
+    """Says when the room listened, what it answered, how it ended, and where another came."""
     enter()
-    attacker = subprocess.Popen(["/usr/bin/python3", "-I", "-c", ATTACKER], preexec_fn=become)
-    words = [companion, "room", file, "--port", port, "--sessions", "8", "--history", "400"]
+    attacker = subprocess.Popen(
+        ["/usr/bin/python3", "-I", "-c", ATTACKER], preexec_fn=become, stdout=subprocess.PIPE
+    )
+    words = ["room", file, "--port", port, "--sessions", "8", "--history", "400"]
     room = subprocess.Popen(
-        [sys.executable, "-B", *words], stdout=subprocess.PIPE, stderr=subprocess.PIPE, text=True
+        [*companion, *words], stdout=subprocess.PIPE, stderr=subprocess.PIPE, text=True
     )
     assert room.stdout is not None
     try:
@@ -88,8 +91,8 @@ def main(companion: str, file: str, port: str, count: str) -> None:
     finally:
         room.kill()
         attacker.kill()
-        attacker.wait()
-    print(json.dumps([listening, replies, output, errors, room.returncode]))
+        found = attacker.communicate()[0].split()
+    print(json.dumps([listening, replies, output, errors, room.returncode, len(set(found))]))
 
 
 if __name__ == "__main__":

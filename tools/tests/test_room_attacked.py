@@ -3,35 +3,48 @@ import json
 import subprocess
 import sys
 import unittest
+from typing import Sequence
 
 from tests import alone
 from tests.paths import COMPANION
 from tests.rooms import LOST
-from tests.strangers import IS_ROOT
+from tests.strangers import IS_ROOT, before
 
 PORT, LINES, ROUNDS = "7000", 120, 3
+# The system has no networks for programs.
+TOGETHER = "import rdbg.rooms.apart; rdbg.rooms.apart.IS_TRIED = False"
 
 
 @IS_ROOT
 class Attacked(unittest.TestCase):
-    """It opens, and goes on with new programs, though others take sessions of them."""
+    """It opens, and goes on with new programs."""
 
-    def test_it_opens_and_goes_on(self) -> None:
+    def attacked(self, head: Sequence[str]) -> int:
+        """At how many ports the other user came, while all was as it is without one."""
+        companion = [*head, sys.executable, "-B", str(COMPANION)]
+        ran = subprocess.run(
+            [sys.executable, "-B", alone.__file__, LOST, PORT, str(LINES), *companion],
+            stdout=subprocess.PIPE,
+            stderr=subprocess.PIPE,
+            text=True,
+        )
+        self.assertEqual(ran.returncode, 0, ran.stderr)
+        listening, replies, output, errors, status, found = json.loads(ran.stdout)
+        self.assertEqual(listening, f"listening {PORT}\n", errors)
+        self.assertEqual(replies, ["ok at 1", "ok at 0"] * (LINES // 2))
+        self.assertRegex(output, r"^(closed \d+\n){2,}$")
+        self.assertEqual(status, 0, errors)
+        return int(found)
+
+    def test_no_port_of_a_program_is_found(self) -> None:
         for at in range(ROUNDS):
             with self.subTest(at):
-                words = [str(COMPANION), LOST, PORT, str(LINES)]
-                ran = subprocess.run(
-                    [sys.executable, "-B", alone.__file__, *words],
-                    stdout=subprocess.PIPE,
-                    stderr=subprocess.PIPE,
-                    text=True,
-                )
-                self.assertEqual(ran.returncode, 0, ran.stderr)
-                listening, replies, output, errors, status = json.loads(ran.stdout)
-                self.assertEqual(listening, f"listening {PORT}\n", errors)
-                self.assertEqual(replies, ["ok at 1", "ok at 0"] * (LINES // 2))
-                self.assertRegex(output, r"^(closed \d+\n){2,}$")
-                self.assertEqual(status, 0, errors)
+                self.assertEqual(1, self.attacked([]))
+
+    def test_others_take_sessions(self) -> None:
+        for at in range(ROUNDS):
+            with self.subTest(at):
+                self.assertLess(1, self.attacked(before(TOGETHER)))
 
 
 if __name__ == "__main__":

@@ -4,16 +4,17 @@ import io
 import socket
 import threading
 import unittest
-from typing import Any, Iterator, List, Tuple
+from typing import Iterator, List, Tuple
 from unittest import mock
 
-from rdbg.client import LOCAL, Session
+from rdbg.client import LOCAL, Session, connected
 from rdbg.companions.room import open_room
-from rdbg.rooms import host, program
-from rdbg.rooms.host import Host
+from rdbg.rooms import apart, host, program
+from rdbg.rooms.host import Hindered, Host
 from rdbg.rooms.room import Member, Room
 from rdbg.shell.target import Limits
 from rdbg.source import load
+from tests import strangers
 from tests.rooms import LOST
 
 PATIENCE = 30.0
@@ -22,7 +23,7 @@ PATIENCE = 30.0
 @contextlib.contextmanager
 def taken(most: int) -> Iterator[List[int]]:
     """As long as somebody else comes to the sessions of each program that a room starts, of so
-    many; it counts them."""
+    many; it counts them. None has a network of its own."""
     found: List[int] = []
     take = Host._take
 
@@ -35,7 +36,7 @@ def taken(most: int) -> Iterator[List[int]]:
             other.recv(100)
             take(self, port, count)
 
-    with mock.patch.object(Host, "_take", late):
+    with mock.patch.object(Host, "_take", late), mock.patch.object(apart, "IS_TRIED", False):
         yield found
 
 
@@ -63,7 +64,25 @@ class Opening(unittest.TestCase):
         said = errors.getvalue().splitlines()
         self.assertEqual(5, len(said))
         for line in said:
-            self.assertRegex(line, r"^rdbg room: another came to port \d+ first: .*; it is tried")
+            # (who has closed it is nobody any more)
+            came = (
+                r"another came to port \d+ first, from port \d+ of a user who isn't known any more"
+            )
+            self.assertRegex(line, rf"^rdbg room: {came}: .*; it is tried again$")
+
+    @strangers.IS_ROOT
+    def test_another_user_is_named(self) -> None:
+        take, others = Host._take, contextlib.ExitStack()
+
+        def late(self: Host, port: int, count: int) -> None:
+            others.enter_context(strangers.connected(port, 5))
+            take(self, port, count)
+
+        with others, mock.patch.object(Host, "_take", late), self.assertRaises(Hindered) as raised:
+            with mock.patch.object(apart, "IS_TRIED", False):
+                Host.start(load(LOST), Limits(), 8, 0.0)
+        who = rf"(port \d+ of user {strangers.NOBODY}, ){{{host.FEW}}}2 more: "
+        self.assertRegex(str(raised.exception), rf"^another came to port \d+ first, from {who}")
 
 
 class Renewal(unittest.TestCase):
@@ -92,7 +111,7 @@ class Renewal(unittest.TestCase):
                 self.assertEqual(alone.tell(line), left.ask(line))
             told = [it for it in heard if "no new rdbg goes on yet, which is tried again" in it]
             self.assertEqual(1, len(told), heard)
-            self.assertRegex(told[0], r"another came to port \d+ first: ")
+            self.assertRegex(told[0], r"another came to port \d+ first, from port \d+ of ")
             self.assertTrue([it for it in heard if "a new rdbg goes on from here" in it], heard)
             self.assertNotIn("no HistoryFull", heard)
 
@@ -111,24 +130,24 @@ class Renewal(unittest.TestCase):
             self.go_on(left, alone, 5)
 
     def test_one_that_says_nothing_is_not_waited_for(self) -> None:
-        attach = Session.attach
-        attached: List[Session] = []
+        made: List[int] = []
 
-        def silent(port: int, *given: Any, **named: Any) -> Session:
-            place = listener.getsockname()[1] if len(attached) == 2 else port
-            attached.append(attach(place, *given, **named))
-            return attached[-1]
+        def silent(unconnected: socket.socket, port: int, seconds: float) -> socket.socket:
+            made.append(port)
+            place = listener.getsockname()[1] if len(made) == 3 else port
+            return connected(unconnected, place, seconds)
 
         found: List[Room] = []
         with socket.socket() as listener, mock.patch.object(host, "PATIENCE", 0.3):
             listener.bind((LOCAL, 0))
             listener.listen()
-            with mock.patch.object(Session, "attach", silent):
-                thread = threading.Thread(
-                    target=lambda: found.append(Room.open(load(LOST), sessions=3)), daemon=True
-                )
-                thread.start()
-                thread.join(PATIENCE)
+            with mock.patch.object(host, "connected", silent):
+                with mock.patch.object(apart, "IS_TRIED", False):
+                    thread = threading.Thread(
+                        target=lambda: found.append(Room.open(load(LOST), sessions=3)), daemon=True
+                    )
+                    thread.start()
+                    thread.join(PATIENCE)
         self.assertEqual(1, len(found))
         self.assertEqual("ok at 1", found[0].join("left", lambda notice: None).ask("step 1"))
         self.assertTrue(all(it.is_good for it in found[0].close()))

@@ -5,24 +5,27 @@ import socket
 import subprocess
 import tempfile
 import time
-from typing import IO, Iterator, List, Optional
+from typing import IO, Iterator, List, Optional, Set
 
-from rdbg import children
-from rdbg.client import LOCAL, Session, program
+from rdbg import children, owners
+from rdbg.client import LOCAL, Session, connected, program
 from rdbg.ending import STARTED
 from rdbg.failure import Failure
+from rdbg.rooms import apart
 from rdbg.shell.opening import as_read, greet
 from rdbg.shell.target import Limits
 from rdbg.source import Source
 
 # So many sessions serve lets in, one after the other, and no more.
 MOST_SESSIONS = 64
-# A port that was free can be taken before serve listens there, and others can come to serve first:
-# other ones are tried for so many seconds.
+# A port that was free can be taken before serve listens there, and others can come to serve first,
+# where it has no network of its own: other ones are tried for so many seconds.
 SECONDS = 10.0
 # A session that has come is answered within so many seconds.
 PATIENCE = 5.0
 TAKEN = "cannot listen"
+# So many of the others who came first are named.
+FEW = 3
 
 
 class Ended(Failure):
@@ -30,7 +33,7 @@ class Ended(Failure):
 
 
 class Hindered(Failure):
-    """Others come to the program's port first, each time."""
+    """Each program had to be given up for who came to its port first, or didn't answer."""
 
 
 def free_port() -> int:
@@ -41,13 +44,18 @@ def free_port() -> int:
 
 
 class Host:
-    """A program that serves, and all its sessions, by their numbers from 1 on. Once all are taken
-    its port is closed, so that nobody comes there but by the room."""
+    """A program that serves, and all its sessions, by their numbers from 1 on. Where the system has
+    a network for it alone, nobody else can connect to it. Elsewhere its port is open until all
+    sessions are taken, and as many as were asked for have answered: so none is another's."""
 
     def __init__(self, process: "subprocess.Popen[bytes]", errors: IO[bytes]) -> None:
         assert process.stdout is not None
         self._process, self._said, self._errors = process, process.stdout, errors
         self._sessions: List[Session] = []
+        # (the sockets of its own network, where it has one; and the room's own ports)
+        self._apart: List[socket.socket] = []
+        self._is_apart = False
+        self._ours: Set[int] = set()
 
     @classmethod
     def start(
@@ -65,7 +73,7 @@ class Host:
             while True:
                 port = free_port()
                 words = ["--app", path, "--port", str(port), "--sessions", str(count)]
-                host = cls._begin([program(), "serve", *words, *limits.words()])
+                host = cls._begin([program(), "serve", *words, *limits.words()], count)
                 try:
                     if host._listens():
                         host._take(port, count)
@@ -73,8 +81,7 @@ class Host:
                     said = host.kill()
                     is_again = TAKEN in said
                 except Failure as failure:
-                    host.kill()
-                    said, is_again = f"another came to port {port} first: {failure}", True
+                    said, is_again = host._given_up(port, failure), True
                 except BaseException:
                     host.kill()
                     raise
@@ -84,13 +91,36 @@ class Host:
                     raise Hindered(said)
 
     @classmethod
-    def _begin(cls, words: List[str]) -> "Host":
+    def _begin(cls, words: List[str], count: int) -> "Host":
+        """Starts it, in a network of its own with so many sockets where there is one to be had."""
+        if not apart.IS_TRIED:
+            return cls._started(words, words[0], subprocess.DEVNULL)
+        here, there = socket.socketpair()
+        with here:
+            with there:
+                host = cls._started(apart.words(count, words), words[0], there.fileno())
+            try:
+                host._apart = apart.received(here, count)
+                host._is_apart = bool(host._apart)
+                if host._is_apart:
+                    return host
+                host.kill()
+            except OSError as error:
+                host.kill()
+                raise cannot_start(words[0], error) from None
+            except BaseException:
+                host.kill()
+                raise
+        return cls._started(words, words[0], subprocess.DEVNULL)
+
+    @classmethod
+    def _started(cls, words: List[str], name: str, stdin: int) -> "Host":
         errors = tempfile.TemporaryFile()
         try:
-            process = children.start(words, subprocess.DEVNULL, subprocess.PIPE, errors)
+            process = children.start(words, stdin, subprocess.PIPE, errors)
         except OSError as error:
             errors.close()
-            raise Failure(f"cannot start {words[0]}: {error.strerror}", 2) from None
+            raise cannot_start(name, error) from None
         return cls(process, errors)
 
     def _listens(self) -> bool:
@@ -101,10 +131,17 @@ class Host:
         """Takes all sessions, one after the other, so that their numbers are known. Raises
         `Failure` where somebody else was let in, or nothing is answered."""
         for _ in range(count):
-            session = Session.attach(port, seconds=PATIENCE)
+            session = Session.over(self._connected(port), port)
             self._sessions.append(session)
             greet(session)
             session.wait_at_most(None)
+
+    def _connected(self, port: int) -> socket.socket:
+        """One more connection to it."""
+        unconnected = self._apart.pop() if self._apart else socket.socket()
+        connection = connected(unconnected, port, PATIENCE)
+        self._ours.add(int(connection.getsockname()[1]))
+        return connection
 
     def session(self, number: int) -> Session:
         """The session of a number."""
@@ -135,6 +172,17 @@ class Host:
         said = self._errors.read().decode("utf-8", "replace").strip().splitlines()
         return said[-1] if said else ""
 
+    def _given_up(self, port: int, failure: Failure) -> str:
+        """Ends it at once, since nobody knows whose its sessions are, and answers why."""
+        others = {} if self._is_apart else owners.callers(port)
+        self.kill()
+        if self._is_apart:
+            return f"a new rdbg didn't answer: {failure}"
+        said = [f"port {it} of {user_of(others[it])}" for it in sorted(set(others) - self._ours)]
+        more = [f"{len(said) - FEW} more"] if len(said) > FEW else []
+        named = f", from {', '.join(said[:FEW] + more)}" if said else ""
+        return f"another came to port {port} first{named}: {failure}"
+
     def kill(self) -> str:
         """Ends it at once, and answers what it said on standard error."""
         self._process.kill()
@@ -159,9 +207,21 @@ class Host:
         finally:
             for session in self._sessions:
                 session.close()
+            for unused in self._apart:
+                unused.close()
             self._said.close()
             self._errors.close()
             STARTED.pop(self._process, None)
+
+
+def user_of(number: Optional[int]) -> str:
+    """Whose a connection is, in words."""
+    return "a user who isn't known any more" if number is None else f"user {number}"
+
+
+def cannot_start(name: str, error: OSError) -> Failure:
+    """Why a program wasn't started."""
+    return Failure(f"cannot start {name}: {error.strerror}", 2)
 
 
 class Audit:
