@@ -1,8 +1,10 @@
 """Files that have what somebody typed, or a secret: no other user reads them, or has laid them there."""
+import contextlib
 import os
 import stat
+from typing import Iterator
 
-from rdbg import links
+from rdbg import links, scratch
 from rdbg.failure import Failure
 
 # Nobody else reads it. (A file that was there keeps the mode that it has.)
@@ -33,3 +35,18 @@ def opened(path: str, more: int) -> int:
         os.close(number)
         raise
     return number
+
+
+@contextlib.contextmanager
+def kept(name: str, text: str, what: str) -> Iterator[str]:
+    """The path of a new file of a name that has a text, in a folder of its own, as long as the block
+    goes on. Raises `Failure` where it can't be written, which says what it was to have."""
+    with contextlib.ExitStack() as ends:
+        try:
+            path = str(ends.enter_context(scratch.folder()) / name)
+            number = opened(path, os.O_WRONLY | os.O_CREAT | os.O_EXCL)
+            with os.fdopen(number, "w") as file:
+                file.write(text)
+        except OSError as error:
+            raise Failure(f"cannot write {what}: {error.strerror}", 2) from None
+        yield path

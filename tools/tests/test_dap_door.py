@@ -1,6 +1,5 @@
 """Who comes in at the port of `rdbg dap`: users, browsers, and those who say nothing."""
 import contextlib
-import json
 import os
 import pathlib
 import socket
@@ -9,86 +8,15 @@ import sys
 import tempfile
 import time
 import unittest
-from typing import Iterator, List, Sequence
+from typing import List
 
 from rdbg.adapter.listening import MOST, MOST_SILENT
-from tests.dap_client import ALL, Client
+from tests.adapter_port import INITIALIZE, PATIENCE, SOON, Port, framed, listening, rest
+from tests.dap_client import Client
 from tests.paths import COMPANION, EXAMPLES
-from tests.rooms import free_port
 from tests.strangers import IS_ROOT, UNTOLD, before, connected, told_nobody
 
 LOST = EXAMPLES / "lost_item.json"
-PATIENCE = 30.0
-# The silent ones are closed sooner.
-SOON = "import rdbg.adapter.listening as it; it.SECONDS = 1.0"
-INITIALIZE = {"seq": 1, "type": "request", "command": "initialize", "arguments": {}}
-
-
-class Port:
-    """An adapter at a port, in a process of its own."""
-
-    def __init__(self, words: Sequence[str], head: Sequence[str]) -> None:
-        self.number = free_port()
-        told = [*head, sys.executable, "-B", str(COMPANION), "dap", "--port", str(self.number)]
-        self.process = subprocess.Popen(
-            [*told, *words], stdout=subprocess.PIPE, stderr=subprocess.PIPE
-        )
-        assert self.process.stdout is not None
-        self.listening = self.process.stdout.readline().decode()
-
-    def connect(self) -> socket.socket:
-        """A connection to it."""
-        found = socket.create_connection(("127.0.0.1", self.number))
-        found.settimeout(PATIENCE)
-        return found
-
-    @contextlib.contextmanager
-    def editor(self) -> Iterator[Client]:
-        """An editor there."""
-        with self.connect() as here, here.makefile("rb") as told, here.makefile("wb") as asked:
-            client = Client(told, asked)
-            ALL.append(client)
-            yield client
-
-    def serves(self) -> None:
-        """Whether an editor that comes is answered at once."""
-        began = time.monotonic()
-        with self.editor() as client:
-            client.ask("initialize")
-        assert time.monotonic() - began < 5
-
-    def errors(self) -> str:
-        """Ends it, and answers what it has said on standard error."""
-        self.process.kill()
-        return self.process.communicate()[1].decode()
-
-
-@contextlib.contextmanager
-def listening(*words: str, head: Sequence[str] = ()) -> Iterator[Port]:
-    """An adapter that listens."""
-    found = Port(words, head)
-    try:
-        yield found
-    finally:
-        found.process.kill()
-        found.process.communicate()
-
-
-def framed(*messages: object) -> bytes:
-    """Messages as an editor sends them."""
-    bodies = [json.dumps(it).encode() for it in messages]
-    return b"".join(b"Content-Length: %d\r\n\r\n%s" % (len(it), it) for it in bodies)
-
-
-def rest(connection: socket.socket) -> bytes:
-    """All that comes until the connection ends."""
-    said = b""
-    with contextlib.suppress(ConnectionError):
-        more = connection.recv(65_536)
-        while more:
-            said += more
-            more = connection.recv(65_536)
-    return said
 
 
 class Users(unittest.TestCase):
@@ -133,12 +61,10 @@ class Users(unittest.TestCase):
                     port.serves()
             self.assertEqual(client.typed("tick").splitlines()[0], "ok at 1")
 
-    def test_where_nobody_is_told_it_refuses(self) -> None:
-        with listening(head=before(UNTOLD)) as port:
-            self.assertEqual(port.process.wait(PATIENCE), 2)
-            self.assertIn("whose a connection is can't be told here; --anyone", port.errors())
+    def test_where_nobody_is_told_anyone_opens_it(self) -> None:
         with listening("--anyone", head=before(UNTOLD)) as port:
             port.serves()
+            self.assertEqual("", port.errors())
 
     def test_anyone_goes_with_a_port(self) -> None:
         ran = subprocess.run(

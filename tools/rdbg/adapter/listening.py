@@ -1,32 +1,38 @@
 """A port at which editors connect, each with a session of its own."""
+import contextlib
 import socket
 import sys
 import threading
 from typing import Set
 
+from rdbg import own_file
 from rdbg.adapter.server import Server
 from rdbg.client import LOCAL
-from rdbg.door import OPENS, Door, Unheard, drop, turn_away
+from rdbg.door import Door, Unheard, drop, turn_away
 from rdbg.failure import Failure
 
 # So many editors at a time are served. So many connections may be silent, so many seconds each:
 # then the oldest is closed.
 MOST, MOST_SILENT, SECONDS = 16, 16, 10.0
+# What is said where the system says of nobody who it is.
+UNTOLD = "rdbg dap: whose a connection is can't be told here"
+ASKED = "`launch` and `attach` say as token what stands in"
 # So many seconds pass until it is looked again who is silent for too long.
 TURN = 0.5
 
 
 def listen(port: int, door: Door) -> None:
     """Serves whoever connects and is let in, for ever. Raises `Failure` where the port can't be
-    had, or the system says of nobody who it is."""
-    if door.token:
-        raise Failure(f"whose a connection is can't be told here; {OPENS} to all", 2)
+    had, or a token is asked for and can't be written."""
     try:
         listening = socket.create_server((LOCAL, port))
     except OSError as error:
         raise Failure(f"cannot listen at port {port}: {error.strerror}", 2) from None
-    print(f"listening {port}{door.said}", flush=True)
-    with listening:
+    with listening, contextlib.ExitStack() as ends:
+        if door.token:
+            path = ends.enter_context(own_file.kept("token", f"{door.token}\n", "the token"))
+            print(f"{UNTOLD}: {ASKED} {path}", file=sys.stderr, flush=True)
+        print(f"listening {port}{door.said}", flush=True)
         Editors(door).serve(listening)
 
 
@@ -68,7 +74,7 @@ class Editors:
         try:
             with connection, connection.makefile("rb") as lines, connection.makefile("wb") as out:
                 try:
-                    Server(lines, out, lambda: self._comes(connection)).serve()
+                    Server(lines, out, lambda: self._comes(connection), self._door.token).serve()
                 finally:
                     self._goes(connection)
         except OSError as error:

@@ -1,4 +1,5 @@
 """A session with an editor: its requests in order, those that can't wait while something runs."""
+import hmac
 import queue
 import threading
 from typing import IO, Callable, Dict, List, Optional
@@ -40,6 +41,9 @@ MEANWHILE = (
 )
 # What ends what runs.
 ENDING = ("pause", "disconnect")
+# What says a token, where one is asked for, and what is answered before.
+TELLING, BEFORE = ("launch", "attach"), "initialize"
+NO_TOKEN = "`launch` or `attach` says first, as token, what `rdbg dap` said at its start"
 # No request: something has come from a room.
 HEARD = Asked(0, "", Arguments({}, ""))
 # So many requests may wait.
@@ -52,13 +56,18 @@ def fault(error: Exception) -> str:
 
 
 class Server:
-    """Answers an editor. `comes` is called where its first request has come, and says why it isn't
-    served, if so."""
+    """Answers an editor, which has to say a token first, where there is one. `comes` is called where
+    it has, or where its first request has come, and says why it isn't served, if so."""
 
     def __init__(
-        self, lines: IO[bytes], answers: IO[bytes], comes: Callable[[], str] = lambda: ""
+        self,
+        lines: IO[bytes],
+        answers: IO[bytes],
+        comes: Callable[[], str] = lambda: "",
+        token: str = "",
     ) -> None:
         self._comes: Optional[Callable[[], str]] = comes
+        self._token = token
         self._frames, self._sender = Frames(lines), Sender(answers)
         self.debugger = Debugger(self._sender.send)
         self.debugger.serve = self._meanwhile
@@ -94,7 +103,9 @@ class Server:
             except Unreadable as wrong:
                 self._sender.send(failed(wrong.seq, wrong.command, str(wrong)))
                 continue
-            if request is not None and not self._is_served(request):
+            if request is not None and self._token and not self._is_told(request):
+                continue
+            if request is not None and not self._token and not self._is_served(request):
                 request = None
             if request is None or request.command in ENDING:
                 if self.debugger.is_running:
@@ -102,6 +113,23 @@ class Server:
             self._asked.put(request)
             if request is None:
                 return
+
+    def _is_told(self, request: Asked) -> bool:
+        """Whether a request is answered that comes before the token, or says it. Where it isn't
+        the editor is told why."""
+        if request.command == BEFORE:
+            return True
+        try:
+            said = request.arguments.text("token", "") if request.command in TELLING else ""
+            is_it = hmac.compare_digest(said.encode(), self._token.encode())
+            why = "" if is_it else NO_TOKEN
+        except Wrong as wrong:
+            why = str(wrong)
+        if why:
+            self._sender.send(failed(request.seq, request.command, why))
+        else:
+            self._token = ""
+        return not why
 
     def _is_served(self, request: Asked) -> bool:
         """Whether the editor is served whose request this is."""

@@ -1,11 +1,9 @@
 """Where a room says the address of its page, whose token lets in who has it."""
 import contextlib
-import os
 import urllib.parse
 from typing import Iterator
 
-from rdbg import own_file, scratch
-from rdbg.failure import Failure
+from rdbg import own_file
 
 FILE = "address"
 
@@ -18,12 +16,5 @@ def said(address: str, is_terminal: bool) -> Iterator[str]:
     if is_terminal:
         yield address
         return
-    with contextlib.ExitStack() as ends:
-        try:
-            path = str(ends.enter_context(scratch.folder()) / FILE)
-            number = own_file.opened(path, os.O_WRONLY | os.O_CREAT | os.O_EXCL)
-            with os.fdopen(number, "w") as file:
-                file.write(f"{address}\n")
-        except OSError as error:
-            raise Failure(f"cannot write the page's address: {error.strerror}", 2) from None
+    with own_file.kept(FILE, f"{address}\n", "the page's address") as path:
         yield f"{urllib.parse.urljoin(address, '/')} {path}"
