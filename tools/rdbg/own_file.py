@@ -27,7 +27,7 @@ def opened(path: str, more: int) -> int:
     isn't one's own, `OSError` where there is none to open."""
     found = links.behind(path)
     number = links.no_link(found, more, MODE)
-    if found.startswith(links.OPEN_ALREADY):
+    if links.is_open_already(found):
         return number
     try:
         check(path, number)

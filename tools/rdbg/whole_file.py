@@ -50,7 +50,7 @@ def beside(path: str) -> Tuple[int, str]:
     while True:
         made = os.path.join(os.path.dirname(path), f".rdbg-{os.getpid()}-{number}")
         with contextlib.suppress(FileExistsError):
-            return os.open(made, os.O_WRONLY | os.O_CREAT | os.O_EXCL, NEW_MODE), made
+            return links.no_link(made, os.O_WRONLY | os.O_CREAT | os.O_EXCL, NEW_MODE), made
         number += 1
 
 

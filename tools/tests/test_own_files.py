@@ -3,6 +3,7 @@ which files they aren't."""
 import os
 import pathlib
 import stat
+import subprocess
 import tempfile
 import unittest
 from typing import Callable, Dict
@@ -15,9 +16,10 @@ from rdbg.shell.prompt import Lines
 from rdbg.whole_file import written
 from tests.rooms import LOST
 from tests.shell_talk import example, said
+from tests.strangers import IS_ROOT, NOBODY, become
 
-NOBODY = 65_534
-OF_ANOTHER = "it is a link that another user has laid"
+LAID = "a link that another user has laid"
+OF_ANOTHER = f"it is {LAID}"
 FOR_ALL = "it is a link, in a folder that all may write to"
 THERE = "is there, and wasn't saved by this prompt: it stays as it is"
 
@@ -207,6 +209,99 @@ class Links(Case):
         with example("lost_item") as shell:
             self.assertEqual([f"# {why}"], said(shell, f"save! {second}"))
         self.assertEqual(HEAD, file.read_text())
+
+
+class Folders(Case):
+    """Links among the folders of a path."""
+
+    def setUp(self) -> None:
+        super().setUp()
+        self.folder.chmod(0o755)
+        self.aim = self.folder / "aim"
+        self.aim.mkdir()
+
+    def made(self, name: str, mode: int) -> pathlib.Path:
+        """A new folder of this mode."""
+        found = self.folder / name
+        found.mkdir()
+        found.chmod(mode)
+        return found
+
+    def refused(self, folder: pathlib.Path, link: pathlib.Path, why: str) -> None:
+        """Nothing is written in a folder, since there is this link on the way."""
+        before = sorted(self.aim.iterdir())
+        for name, way in ALL.items():
+            with self.subTest(name, why=why):
+                file = folder / f"{name}.commands"
+                answer = way(str(file))
+                if name != "history":
+                    self.assertTrue(
+                        answer.endswith(f"cannot write {file}: {link} is {why}"), answer
+                    )
+                self.assertEqual(before, sorted(self.aim.iterdir()))
+
+    def followed(self, folder: pathlib.Path) -> None:
+        """All is written in a folder that leads to the aim."""
+        for name, way in ALL.items():
+            with self.subTest(name):
+                file = self.aim / f"{name}.commands"
+                if name == "hunt":  # (which finds nothing, and keeps no file of its own for that)
+                    file.write_text("old")
+                way(str(folder / file.name))
+                self.assertEqual(name != "hunt", bool(file.read_text()))
+                file.unlink()
+
+    @IS_ROOT
+    def test_of_another_user(self) -> None:
+        # (as /tmp is; and a folder of another user; and one's own)
+        shared, other, own = (self.made(it, 0o755) for it in ("shared", "other", "own"))
+        shared.chmod(0o1777)
+        os.chown(other, NOBODY, -1)
+        for folder in (shared, other):
+            link = folder / "out"
+            words = ["ln", "-s", str(self.aim), str(link)]
+            subprocess.run(words, preexec_fn=become, check=True)
+            self.refused(link, link, LAID)
+            # (behind one's own link, and above another folder)
+            (own / folder.name).symlink_to(folder)
+            self.refused(own / folder.name / "out", link, LAID)
+            (self.aim / "below").mkdir(exist_ok=True)
+            self.refused(link / "below", link, LAID)
+        moved = own / "out"
+        moved.symlink_to(self.aim)
+        os.lchown(moved, NOBODY, -1)
+        self.refused(moved, moved, LAID)
+
+    def test_ones_own_are_followed(self) -> None:
+        shared, own = self.made("shared", 0o1777), self.made("own", 0o755)
+        (shared / "out").symlink_to(self.aim)
+        (own / "out").symlink_to("../shared/./out/")
+        self.followed(shared / "out")
+        self.followed(own / "out")
+        # (behind a link the folder above is that of where it leads)
+        (self.aim / "below").mkdir()
+        (own / "below").symlink_to(self.aim / "below")
+        self.followed(own / "below" / "..")
+
+    def test_where_all_can_rename_one(self) -> None:
+        link = self.made("shared", 0o777) / "out"
+        link.symlink_to(self.aim)
+        self.refused(link, link, "a link, in a folder that all may write to")
+
+    def test_one_that_is_laid_meanwhile(self) -> None:
+        link = self.folder / "out"
+        link.symlink_to(self.aim)
+        for name, way in ALL.items():
+            with self.subTest(name), mock.patch("rdbg.links.behind", lambda path: path):
+                way(str(link / f"{name}.commands"))
+                self.assertEqual([], list(self.aim.iterdir()))
+
+    def test_links_that_lead_to_each_other(self) -> None:
+        one, other = self.folder / "one", self.folder / "other"
+        one.symlink_to(other)
+        other.symlink_to(one)
+        file = one / "page"
+        self.assertEqual(f"cannot write {file}: its links lead nowhere", page(str(file)))
 
 
 class There(Case):
