@@ -126,6 +126,7 @@ class Apart(unittest.TestCase):
                 process.kill()
         if not found:
             self.skipTest(NONE_HERE)
+        self.assertEqual([False, False], [it.get_inheritable() for it in found])
         with found[0] as one, found[1] as other, socket.socket() as another:
             one.bind((LOCAL, 0))
             one.listen()

@@ -41,7 +41,7 @@ def received(told: socket.socket, count: int) -> List[socket.socket]:
     where the program can't be started there."""
     numbers = array.array("i")
     room = socket.CMSG_SPACE(count * numbers.itemsize)
-    content, found, _, _ = told.recvmsg(len(MADE), room)
+    content, found, _, _ = told.recvmsg(len(MADE), room, socket.MSG_CMSG_CLOEXEC)
     for level, kind, data in found:
         if (level, kind) == (socket.SOL_SOCKET, socket.SCM_RIGHTS):
             numbers.frombytes(data[: len(data) - len(data) % numbers.itemsize])
