@@ -128,18 +128,20 @@ class PortLines(Incoming):
 
 
 def connected(
-    connection: socket.socket, port: int, seconds: Optional[float] = None
+    port: int, seconds: Optional[float] = None, unconnected: Optional[socket.socket] = None
 ) -> socket.socket:
-    """Connects a new socket to a server of this machine, and answers it. Whatever comes is waited
-    for so many seconds, or for ever. Raises `Failure` where none listens."""
-    connection.settimeout(seconds)
-    try:
-        connection.connect((LOCAL, port))
-    except OSError as error:
-        connection.close()
-        is_free = isinstance(error, ConnectionRefusedError)
-        why = "nobody listens there" if is_free else error.strerror or str(error)
-        raise Failure(f"cannot attach to port {port}: {why}", 2) from None
+    """A connection to a server of this machine, by a new socket or the one that is given. Whatever
+    comes is waited for so many seconds, or for ever. Raises `Failure` where none listens."""
+    with contextlib.ExitStack() as ends:
+        try:
+            connection = ends.enter_context(unconnected or socket.socket())
+            connection.settimeout(seconds)
+            connection.connect((LOCAL, port))
+        except OSError as error:
+            is_free = isinstance(error, ConnectionRefusedError)
+            why = "nobody listens there" if is_free else error.strerror or str(error)
+            raise Failure(f"cannot attach to port {port}: {why}", 2) from None
+        ends.pop_all()
     return connection
 
 
@@ -203,7 +205,7 @@ class Session:
     def attach(cls, port: int, name: Optional[str] = None) -> "Session":
         """One more session at a server of this machine, at a room's by a name. Raises `Failure`
         where none listens, or the name isn't let in."""
-        session = cls.over(connected(socket.socket(), port), port)
+        session = cls.over(connected(port), port)
         if name is not None:
             session._introduce(name)
         return session

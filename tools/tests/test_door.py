@@ -77,6 +77,21 @@ class Owners(unittest.TestCase):
         with of_nobody() as there:
             self.assertEqual(self.both(there), (NOBODY, NOBODY))
 
+    def test_who_has_connections_to_a_port(self) -> None:
+        families = ((socket.AF_INET, ""), (socket.AF_INET6, "::ffff:"))
+        with listening() as (_, port), contextlib.ExitStack() as ends:
+            self.assertEqual({}, owners.callers(port))
+            here = [ends.enter_context(socket.socket(family)) for family, _ in families]
+            for each, (_, head) in zip(here, families):
+                each.connect((f"{head}{LOCAL}", port))
+            ports = [each.getsockname()[1] for each in here]
+            self.assertEqual(dict.fromkeys(ports, os.geteuid()), owners.callers(port))
+            # (who has closed it is nobody any more)
+            here[0].close()
+            self.assertEqual({ports[0]: None, ports[1]: os.geteuid()}, owners.callers(port))
+            with mock.patch.object(owners, "TABLES", ()):
+                self.assertEqual({}, owners.callers(port))
+
     def test_one_that_has_said_all_is_still_known(self) -> None:
         with pair() as (here, there):
             here.shutdown(socket.SHUT_WR)

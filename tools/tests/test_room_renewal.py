@@ -4,7 +4,7 @@ import io
 import socket
 import threading
 import unittest
-from typing import Iterator, List, Tuple
+from typing import Any, Iterator, List, Tuple
 from unittest import mock
 
 from rdbg.client import LOCAL, Session, connected
@@ -132,10 +132,9 @@ class Renewal(unittest.TestCase):
     def test_one_that_says_nothing_is_not_waited_for(self) -> None:
         made: List[int] = []
 
-        def silent(unconnected: socket.socket, port: int, seconds: float) -> socket.socket:
+        def silent(port: int, *more: Any) -> socket.socket:
             made.append(port)
-            place = listener.getsockname()[1] if len(made) == 3 else port
-            return connected(unconnected, place, seconds)
+            return connected(listener.getsockname()[1] if len(made) == 3 else port, *more)
 
         found: List[Room] = []
         with socket.socket() as listener, mock.patch.object(host, "PATIENCE", 0.3):

@@ -92,35 +92,40 @@ class Host:
 
     @classmethod
     def _begin(cls, words: List[str], count: int) -> "Host":
-        """Starts it, in a network of its own with so many sockets where there is one to be had."""
+        """Starts it, in a network of its own with so many sockets where there is one to be had.
+        Raises `Failure` where it can't be started."""
         if not apart.IS_TRIED:
             return cls._started(words, words[0], subprocess.DEVNULL)
-        here, there = socket.socketpair()
+        try:
+            here, there = socket.socketpair()
+        except OSError as error:
+            raise cannot_start(words[0], error) from None
         with here:
             with there:
                 host = cls._started(apart.words(count, words), words[0], there.fileno())
             try:
                 host._apart = apart.received(here, count)
-                host._is_apart = bool(host._apart)
-                if host._is_apart:
-                    return host
-                host.kill()
             except OSError as error:
                 host.kill()
                 raise cannot_start(words[0], error) from None
             except BaseException:
                 host.kill()
                 raise
+        host._is_apart = bool(host._apart)
+        if host._is_apart:
+            return host
+        host.kill()
         return cls._started(words, words[0], subprocess.DEVNULL)
 
     @classmethod
     def _started(cls, words: List[str], name: str, stdin: int) -> "Host":
-        errors = tempfile.TemporaryFile()
-        try:
-            process = children.start(words, stdin, subprocess.PIPE, errors)
-        except OSError as error:
-            errors.close()
-            raise cannot_start(name, error) from None
+        with contextlib.ExitStack() as ends:
+            try:
+                errors = ends.enter_context(tempfile.TemporaryFile())
+                process = children.start(words, stdin, subprocess.PIPE, errors)
+            except OSError as error:
+                raise cannot_start(name, error) from None
+            ends.pop_all()
         return cls(process, errors)
 
     def _listens(self) -> bool:
@@ -138,8 +143,7 @@ class Host:
 
     def _connected(self, port: int) -> socket.socket:
         """One more connection to it."""
-        unconnected = self._apart.pop() if self._apart else socket.socket()
-        connection = connected(unconnected, port, PATIENCE)
+        connection = connected(port, PATIENCE, self._apart.pop() if self._apart else None)
         self._ours.add(int(connection.getsockname()[1]))
         return connection
 
