@@ -1,7 +1,9 @@
 """The program of a room in a network of its own: nobody connects to it, and it is as elsewhere."""
 import contextlib
+import errno
 import os
 import pathlib
+import signal
 import socket
 import subprocess
 import sys
@@ -12,13 +14,14 @@ from unittest import mock
 from rdbg.client import LOCAL
 from rdbg.failure import Failure
 from rdbg.rooms import apart
-from rdbg.rooms.host import Host
+from rdbg.rooms.host import Hindered, Host
 from rdbg.shell.target import Limits
 from rdbg.source import load
 from tests.dap_schema import DEBIAN
 from tests.rooms import LOST
 from tests.strangers import IS_ROOT, become
 
+PLACE = Host.__module__
 NONE_HERE = "this system has no networks for its users"
 SOURCE = pathlib.Path(apart.__file__).read_text()
 
@@ -97,6 +100,26 @@ class Apart(unittest.TestCase):
             with mock.patch.object(apart, "IS_TRIED", False), started(3) as other:
                 for name in ("SigIgn", "SigBlk", "Uid"):
                     self.assertEqual(status(other, name), status(host, name))
+
+    def test_one_that_does_not_answer(self) -> None:
+        listens = Host._listens
+
+        def stopped(host: Host) -> bool:
+            self.check_apart(host)
+            is_there = listens(host)
+            host._process.send_signal(signal.SIGSTOP)
+            return is_there
+
+        with mock.patch.object(Host, "_listens", stopped), mock.patch(f"{PLACE}.PATIENCE", 0.2):
+            with self.assertRaisesRegex(Hindered, "^a new rdbg didn't answer: the server at port "):
+                Host.start(load(LOST), Limits(), 3, 0.0)
+
+    def test_where_descriptors_are_short(self) -> None:
+        short = OSError(errno.EMFILE, os.strerror(errno.EMFILE))
+        for what in ("socket.socketpair", "tempfile.TemporaryFile"):
+            with self.subTest(what), mock.patch(f"{PLACE}.{what}", side_effect=short):
+                with self.assertRaisesRegex(Failure, "^cannot start .*: Too many open files$"):
+                    Host.start(load(LOST), Limits(), 3)
 
     def test_without_a_program(self) -> None:
         for is_tried in (True, False):
