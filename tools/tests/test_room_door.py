@@ -158,6 +158,8 @@ class Browsers(unittest.TestCase):
     def test_that_is_encrypted(self) -> None:
         # (a page chooses some of the bytes of such a greeting)
         self.nothing_is_done([b"\x16\x03\x01\x02\x00\x01\x00\ntick\nforward 3\n"])
+        # (of two thousand bytes that seldom are a line end none may be one)
+        self.nothing_is_done([b"\x16\x03\x01\x07\xd0" + b"x" * 2_000 + b"\ntick\n"])
 
     def test_with_a_line_that_is_too_long(self) -> None:
         long = b"x" * 100_000

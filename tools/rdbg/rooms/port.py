@@ -226,8 +226,9 @@ class Port:
         elif client.is_broken:
             self._end(guest)
         elif not client.lines and client.too_long:
-            self._ask(guest, client.too_long)
-            self._end(guest, f"a line has at most {MOST_BYTES} bytes")
+            if guest.has_spoken or self._goes_on_behind(guest, client.too_long):
+                self._ask(guest, client.too_long)
+                self._end(guest, f"a line has at most {MOST_BYTES} bytes")
         elif not client.lines and client.has_ended:
             self._end(guest)
 
