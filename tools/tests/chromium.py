@@ -1,5 +1,6 @@
 """A real browser without a window, Debian's chromium, driven over DevTools by pipes."""
 import base64
+import contextlib
 import fcntl
 import json
 import os
@@ -10,7 +11,7 @@ import subprocess
 import tempfile
 import time
 from types import TracebackType
-from typing import Any, Dict, List, Optional, Sequence, Tuple, Type
+from typing import Any, Dict, Iterator, List, Optional, Sequence, Tuple, Type
 
 PROGRAM = "chromium"
 # (as a script, since the browser wants its two pipes as descriptors 3 and 4)
@@ -59,9 +60,16 @@ def high(descriptor: int) -> int:
 
 
 class Browser:
-    """A browser with one page. What it says besides answers is kept: errors and requests."""
+    """A browser with one page, started with its address. What it says besides answers is kept:
+    errors and requests."""
 
-    def __init__(self, width: int = 1440, height: int = 900, program: str = PROGRAM) -> None:
+    def __init__(
+        self,
+        width: int = 1440,
+        height: int = 900,
+        program: str = PROGRAM,
+        address: str = "about:blank",
+    ) -> None:
         found = shutil.which(program)
         if found is None:
             raise Missing(
@@ -73,7 +81,7 @@ class Browser:
         self._number = 0
         self._read = b""
         self._session: Optional[str] = None
-        self._start([found, *WORDS, f"--user-data-dir={self.folder.name}", "about:blank"])
+        self._start([found, *WORDS, f"--user-data-dir={self.folder.name}", address])
         try:
             self._open(width, height)
         except BaseException:
@@ -98,14 +106,31 @@ class Browser:
 
     def _open(self, width: int, height: int) -> None:
         targets = self.call("Target.getTargets")["targetInfos"]
-        page = next(it["targetId"] for it in targets if it["type"] == "page")
+        self._attach(next(it["targetId"] for it in targets if it["type"] == "page"))
+        self.size(width, height)
+
+    def _attach(self, page: str) -> None:
+        """Drives a page from now on."""
         attached = self.call("Target.attachToTarget", targetId=page, flatten=True)
         self._session = attached["sessionId"]
         for domain in ("Page", "Runtime", "Log", "Network"):
             self.call(f"{domain}.enable")
         # (what a processor works, however many others want it)
         self.call("Performance.enable", timeDomain="threadTicks")
-        self.size(width, height)
+
+    @contextlib.contextmanager
+    def another_page(self) -> Iterator[None]:
+        """Drives another page of the same browser, as long as the block goes on."""
+        first, self._session = self._session, None
+        page = self.call("Target.createTarget", url="about:blank")["targetId"]
+        try:
+            self._attach(page)
+            yield
+        finally:
+            self._session = None
+            self.call("Target.closeTarget", targetId=page)
+            self._session = first
+            self.call("Page.bringToFront")
 
     def __enter__(self) -> "Browser":
         return self

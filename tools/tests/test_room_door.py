@@ -70,7 +70,7 @@ class Users(unittest.TestCase):
             try:
                 here.wait()
                 heads = f"Host: 127.0.0.1:{here.web}\r\n\r\n"
-                asked = f"GET /{here.token}/ HTTP/1.1\r\n{heads}".encode()
+                asked = f"GET / HTTP/1.1\r\n{heads}".encode()
                 answer = told_nobody(here.web, asked)
                 self.assertEqual(status(answer), wanted)
                 for name, value in HEADERS:

@@ -4,27 +4,30 @@ import http.server
 import json
 import threading
 import unittest
-from typing import Any, Iterator
+from typing import Any, Dict, Iterator
 
 from rdbg.client import LOCAL
-from tests.web_rooms import OnPage, session, web_room
+from tests.web_rooms import OnPage, session, traded, web_room
 
 TRIES = """<!DOCTYPE html>
 <title>other</title>
 <body>
 <script>
-const address = ADDRESS;
-const body = JSON.stringify({ page: "x", line: "step 0" });
+const { address, key, token } = KNOWN;
+const way = `${address}${token}/`;
+const body = JSON.stringify({ page: "x", line: "step 0", key });
 const headers = { "Content-Type": "application/json" };
 const isThere = (it) => it || Promise.reject(it);
 const tries = {
   read: () => fetch(address).then((it) => it.text()),
   blind: () => fetch(address, { mode: "no-cors" }).then((it) => it.text()).then(isThere),
-  line: () => fetch(`${address}line`, { method: "POST", body, headers }),
-  plain: () => fetch(`${address}line`, { method: "POST", body, mode: "no-cors" })
+  room: () => fetch(`${way}room`).then((it) => it.text()),
+  key: () => fetch(`${address}in`, { method: "POST", body, headers }),
+  line: () => fetch(`${way}line`, { method: "POST", body, headers }),
+  plain: () => fetch(`${way}line`, { method: "POST", body, mode: "no-cors" })
     .then((it) => isThere(it.ok)),
   events: () => new Promise((done, fail) => {
-    const events = new EventSource(`${address}events`);
+    const events = new EventSource(`${way}events`);
     events.addEventListener("you", done);
     events.onerror = fail;
   }),
@@ -37,37 +40,39 @@ const tries = {
         fail(error);
       }
     }, 300);
-    frame.src = address;
+    frame.src = `${address}#${key}`;
     document.body.append(frame);
   }),
+  // (what a browser keeps for the room's page, it doesn't keep for this one)
+  kept: () => Promise.resolve(localStorage.getItem("way") ?? document.cookie).then(isThere),
 };
 const tried = ([name, act]) => act().then(() => `${name} let in`, () => `${name} refused`);
 window.results = Promise.all(Object.entries(tries).map(tried));
 </script>
 """
-NAMES = ("read", "blind", "line", "plain", "events", "frame")
+NAMES = ("read", "blind", "room", "key", "line", "plain", "events", "frame", "kept")
 
 
 class Other(http.server.BaseHTTPRequestHandler):
-    """Serves the page of another origin, which knows an address."""
+    """Serves the page of another origin, which knows all that lets somebody in."""
 
-    address = ""
+    known: Dict[str, str] = {}
 
     def do_GET(self) -> None:
         """Answers the page."""
         self.send_response(200)
         self.send_header("Content-Type", "text/html")
         self.end_headers()
-        self.wfile.write(TRIES.replace("ADDRESS", json.dumps(self.address)).encode())
+        self.wfile.write(TRIES.replace("KNOWN", json.dumps(self.known)).encode())
 
     def log_message(self, format: str, *args: Any) -> None:
         """Says nothing."""
 
 
 @contextlib.contextmanager
-def other(address: str) -> Iterator[str]:
-    """The address of a page that knows another one."""
-    Other.address = address
+def other(**known: str) -> Iterator[str]:
+    """The address of a page that knows all this of a room."""
+    Other.known = known
     server = http.server.ThreadingHTTPServer((LOCAL, 0), Other)
     thread = threading.Thread(target=server.serve_forever, daemon=True)
     thread.start()
@@ -80,25 +85,24 @@ def other(address: str) -> Iterator[str]:
 
 
 class Origins(OnPage):
-    """Pages that come from elsewhere, even where they know the address."""
+    """Pages that come from elsewhere, even where they know all that lets somebody in."""
 
     def test_another_origin_is_refused(self) -> None:
         self.spares_errors = True  # (the browser tells each refusal)
         with web_room() as room, session(room, "left") as left:
-            for address in (room.address, f"http://{LOCAL}:{room.web}/x/"):
-                with other(address) as elsewhere:
+            self.visit(room, "ada")
+            token = self.value("localStorage.getItem('way')").strip("/")
+            address = room.address
+            key = address.split("#")[1]
+            for known in ({"key": key, "token": token}, {"key": "x", "token": "x"}):
+                with other(address=room.said, **known) as elsewhere:
                     self.browser.visit(elsewhere)
                     results = self.value("window.results")
                 self.assertEqual([f"{name} refused" for name in NAMES], results)
             self.assertEqual("moves 0 undone 0 kept 0", left.tell("show moves"))
             self.assertEqual("ok at 1", left.tell("tick"))
-
-    def test_another_token_shows_nothing(self) -> None:
-        self.spares_errors = True
-        with web_room() as room:
-            self.browser.visit(f"http://{LOCAL}:{room.web}/{room.token[:-1]}/")
-            text = self.browser.text("body")
-            self.assertEqual("rdbg: the address isn't the one that the room has said", text)
+            # (nor did it use the key up)
+            self.assertEqual((address, token), (room.address, traded(address)))
 
     def test_the_page_fetches_nothing_from_elsewhere(self) -> None:
         with web_room() as room, session(room, "left") as left:
@@ -106,8 +110,8 @@ class Origins(OnPage):
             left.tell("forward 5")
             self.at(5)
             for address in self.browser.requests:
-                self.assertTrue(address.startswith(room.address), address)
-            with other(room.address) as elsewhere:
+                self.assertTrue(address.startswith(room.said), address)
+            with other() as elsewhere:
                 blocked = self.value(f"fetch('{elsewhere}').then(() => 'let out', () => 'kept in')")
             self.assertEqual("kept in", blocked)
             self.browser.errors.clear()

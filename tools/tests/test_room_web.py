@@ -111,11 +111,20 @@ def got(here: Served, path: str, *heads: str) -> bytes:
     return asked(here, "GET", path, None, host(here), *heads)
 
 
-def posted(here: Served, what: str, body: str, *heads: str) -> bytes:
+def told(here: Served, path: str, body: str, *heads: str) -> bytes:
     """What is answered to the page, or to another one by these heads."""
     own = heads or (f"Origin: http://{LOCAL}:{here.port}",)
-    type_of = "Content-Type: application/json"
-    return asked(here, "POST", f"/{here.token}/{what}", body, host(here), type_of, *own)
+    return asked(here, "POST", path, body, host(here), "Content-Type: application/json", *own)
+
+
+def posted(here: Served, what: str, body: str, *heads: str) -> bytes:
+    """The same, where it is let in."""
+    return told(here, f"/{here.token}/{what}", body, *heads)
+
+
+def traded(here: Served, key: str, *heads: str) -> bytes:
+    """The same for the key of an address."""
+    return told(here, "/in", json.dumps({"key": key}), *heads)
 
 
 def said(here: Served, what: str, **texts: str) -> Dict[str, str]:
@@ -149,7 +158,7 @@ class LetIn(unittest.TestCase):
     def test_the_page(self) -> None:
         for name in (LOCAL, "localhost"):
             head = f"Host: {name}:{self.here.port}"
-            answer = asked(self.here, "GET", f"/{self.here.token}/", None, head)
+            answer = asked(self.here, "GET", "/", None, head)
             self.assertEqual(200, status(answer))
         heads, _, text = answer.partition(b"\r\n\r\n")
         for line in web_guard.HEADERS:
@@ -159,7 +168,19 @@ class LetIn(unittest.TestCase):
             self.assertNotIn(unwanted, heads)
         self.assertIn(b"default-src 'none'", text)
         self.assertNotIn(b"://", text)
-        self.assertNotIn(self.here.token.encode(), text)
+        for secret in (self.here.token, self.here.key.text, "lost_item", "poller"):
+            self.assertNotIn(secret.encode(), text)
+
+    def test_what_stays_of_the_application(self) -> None:
+        answer = got(self.here, f"/{self.here.token}/room", "Sec-Fetch-Site: same-origin")
+        self.assertEqual(200, status(answer))
+        values = json.loads(answer.split(b"\r\n\r\n", 1)[1])
+        self.assertEqual(
+            ("lost_item.json", ["worker", "producer", "poller"]), (values["file"], values["tasks"])
+        )
+        for name in ("room", "events"):
+            path = f"/{self.here.token}/{name}"
+            self.assertEqual(404, status(got(self.here, path, "Sec-Fetch-Site: none")))
 
     def test_it_is_on_one_address_alone(self) -> None:
         self.assertEqual(LOCAL, self.here.socket.getsockname()[0])
@@ -169,7 +190,6 @@ class LetIn(unittest.TestCase):
     def test_another_token_is_refused(self) -> None:
         token = self.here.token
         for given in (
-            "",
             "x",
             token[:-1],
             f"{token}x",
@@ -177,18 +197,21 @@ class LetIn(unittest.TestCase):
             token[::-1],
             "\u20ac",
             "%00",
+            self.here.key.text,
         ):
-            for path in (f"/{given}/", f"/{given}/events", f"/{given}", f"//{given}/"):
+            for path in (f"/{given}/room", f"/{given}/events", f"/{given}", f"//{given}/room"):
                 answer = got(self.here, path)
                 self.assertEqual(403, status(answer), path)
                 self.assertNotIn(token.encode(), answer)
-        self.assertEqual(403, status(got(self.here, f"/{token}")))
-        self.assertEqual(404, status(got(self.here, f"/{token}/none")))
+        for path in (f"/{token}", "/room", "/events", "/in", "/in/", "/?"):
+            self.assertEqual(403, status(got(self.here, path)), path)
+        for path in (f"/{token}/", f"/{token}/none", f"/{token}/line"):
+            self.assertEqual(404, status(got(self.here, path)), path)
         self.assertEqual(400, status(got(self.here, f"/{token}/events?name=a&name=b")))
         self.assertEqual(404, status(posted(self.here, "none", "{}")))
 
     def test_another_host_is_refused(self) -> None:
-        port, path = self.here.port, f"/{self.here.token}/"
+        port, path = self.here.port, f"/{self.here.token}/room"
         others: List[List[str]] = [
             [],
             [f"Host: evil.example:{port}"],
@@ -197,7 +220,8 @@ class LetIn(unittest.TestCase):
             [f"Host: {LOCAL}:{port}.evil.example"],
         ]
         for heads in others:
-            self.assertEqual(403, status(asked(self.here, "GET", path, None, *heads)), heads)
+            for it in (path, "/"):
+                self.assertEqual(403, status(asked(self.here, "GET", it, None, *heads)), heads)
         twice = [f"Host: {LOCAL}:{port}", "Host: evil.example"]
         self.assertEqual(400, status(asked(self.here, "GET", path, None, *twice)))
 
@@ -212,24 +236,27 @@ class LetIn(unittest.TestCase):
             f"Origin: http://localhost:{port}",
             "X-None: 1",
         ):
-            answer = posted(self.here, "line", line, head)
-            self.assertEqual(403, status(answer), head)
-            self.assertNotIn(b"Access-Control", answer)
+            for answer in (
+                posted(self.here, "line", line, head),
+                traded(self.here, self.here.key.text, head),
+            ):
+                self.assertEqual(403, status(answer), head)
+                self.assertNotIn(b"Access-Control", answer)
         own = f"Origin: http://{LOCAL}:{port}"
         for site in ("cross-site", "same-site", "none"):
             answer = posted(self.here, "line", line, own, f"Sec-Fetch-Site: {site}")
             self.assertEqual(403, status(answer), site)
-        for name in ("", "events"):
-            path = f"/{self.here.token}/{name}"
+            answer = traded(self.here, self.here.key.text, own, f"Sec-Fetch-Site: {site}")
+            self.assertEqual(403, status(answer), site)
+        for path in ("/", f"/{self.here.token}/room", f"/{self.here.token}/events"):
             for head in ("Origin: http://evil.example", "Sec-Fetch-Site: cross-site"):
                 self.assertEqual(403, status(got(self.here, path, head)))
-        self.assertEqual(
-            200, status(got(self.here, f"/{self.here.token}/", "Sec-Fetch-Site: none"))
-        )
+        self.assertEqual(200, status(got(self.here, "/", "Sec-Fetch-Site: none")))
         for method in ("OPTIONS", "PUT", "HEAD", "DELETE", "x"):
-            answer = asked(self.here, method, f"/{self.here.token}/", None, host(self.here))
-            self.assertIn(status(answer), (501, 400), method)
-            self.assertNotIn(b"Access-Control", answer)
+            for path in ("/", "/in", f"/{self.here.token}/line"):
+                answer = asked(self.here, method, path, None, host(self.here))
+                self.assertIn(status(answer), (501, 400), method)
+                self.assertNotIn(b"Access-Control", answer)
         self.assertEqual(0, self.here.room.place)
 
     def test_bodies_that_are_none(self) -> None:
@@ -244,8 +271,8 @@ class LetIn(unittest.TestCase):
             (json.dumps({"page": "x" * web_guard.MOST_BODY}), 413),
         ):
             self.assertEqual(wanted, status(posted(here, "line", body)), body[:20])
+            self.assertEqual(wanted, status(told(here, "/in", body)), body[:20])
         own = f"Origin: http://{LOCAL}:{here.port}"
-        path = f"/{here.token}/line"
         for heads, wanted in (
             (["Content-Type: text/plain", "Content-Length: 2"], 415),
             (["Content-Type: application/json"], 411),
@@ -254,8 +281,9 @@ class LetIn(unittest.TestCase):
             (["Content-Type: application/json", f"Content-Length: {'9' * 5_000}"], 413),
             (["Content-Type: application/json", "Transfer-Encoding: chunked"], 411),
         ):
-            answer = asked(here, "POST", path, None, host(here), own, *heads)
-            self.assertEqual(wanted, status(answer), heads)
+            for path in (f"/{here.token}/line", "/in"):
+                answer = asked(here, "POST", path, None, host(here), own, *heads)
+                self.assertEqual(wanted, status(answer), heads)
 
     def test_digits_that_are_none(self) -> None:
         own = f"Origin: http://{LOCAL}:{self.here.port}\r\nContent-Type: application/json"
@@ -394,7 +422,9 @@ class Lines(unittest.TestCase):
         again = Room.open(load(LOST), sessions=4)
         try:
             pages = web.serve(again, port)
-            self.assertEqual(200, status(got(pages, f"/{pages.token}/")))
+            self.assertEqual(200, status(got(pages, "/")))
+            self.assertEqual(403, status(got(pages, f"/{here.token}/room")))
+            self.assertEqual(403, status(traded(pages, here.key.text)))
             with self.assertRaises(Failure):
                 web.serve(again, port)
             pages.close()
@@ -425,7 +455,7 @@ class Hostile(unittest.TestCase):
     def serves(self, here: Served) -> None:
         """Whether the page is served at once."""
         began = time.monotonic()
-        self.assertEqual(200, status(got(here, f"/{here.token}/")))
+        self.assertEqual(200, status(got(here, f"/{here.token}/room")))
         self.assertLess(time.monotonic() - began, 5.0)
 
     def test_many_that_say_nothing_or_little(self) -> None:

@@ -1,8 +1,11 @@
 """A room with a page for browsers, as its users have it, and sessions beside the page."""
 import contextlib
+import http.client
+import json
 import pathlib
 import time
-from typing import Any, Iterable, Iterator, List, Tuple
+import urllib.parse
+from typing import Any, Iterable, Iterator, List, Optional, Tuple
 from unittest import mock
 
 from rdbg.client import Session
@@ -20,7 +23,7 @@ from tests.rooms import LOST, Process
 ENDED = (0, "")
 # Where a page asks who comes, and how one knows that it is let in.
 COMING = "#come[open]"
-IS_HERE = "document.documentElement.dataset.connected === 'yes'"
+IS_HERE = "document.documentElement?.dataset.connected === 'yes'"
 
 
 class WebRoom(Process):
@@ -28,7 +31,7 @@ class WebRoom(Process):
 
     def __init__(self, path: str, *words: str) -> None:
         super().__init__(["--sessions", "6", "--web", "0", *words], path)
-        self.address = self.token = self.said = self.file = ""
+        self.said = self.file = ""
         self.web = 0
 
     def wait(self) -> None:
@@ -37,9 +40,12 @@ class WebRoom(Process):
         assert self.process.stdout is not None
         word, self.said, self.file = self.process.stdout.readline().split()
         assert word == "web", word
-        self.address = pathlib.Path(self.file).read_text().strip()
-        *_, place, self.token, _ = self.address.split("/")
-        self.web = int(place.split(":")[1])
+        self.web = int(self.said.strip("/").split(":")[2])
+
+    @property
+    def address(self) -> str:
+        """The one that it says now, which is good once."""
+        return pathlib.Path(self.file).read_text().strip()
 
     def end_well(self) -> str:
         """Ends it as a user does, and answers what it says then; its audit is good."""
@@ -102,6 +108,18 @@ def slow(seconds: float) -> Iterator[None]:
 
     with mock.patch.object(web_mirror, "begin", begin_slowly):
         yield
+
+
+def traded(address: str) -> Optional[str]:
+    """What the room gives for the key of an address; none where it lets nobody in."""
+    place = urllib.parse.urlsplit(address)
+    heads = {"Origin": f"http://{place.netloc}", "Content-Type": "application/json"}
+    connection = http.client.HTTPConnection(place.netloc)
+    with contextlib.closing(connection):
+        connection.request("POST", "/in", json.dumps({"key": place.fragment}), heads)
+        answer = connection.getresponse()
+        assert answer.status in (200, 403), answer.status
+        return str(json.load(answer)["token"]) if answer.status == 200 else None
 
 
 def come_in(browser: Browser, address: str, name: str) -> bool:

@@ -124,7 +124,10 @@ def with_pages(
     room ends, by a `Failure`."""
     try:
         pages = web.serve(room, number, door)
-        return pages, ends.enter_context(web_address.said(pages.address, sys.stdout.isatty()))
+        is_terminal = sys.stdout.isatty()
+        where, say = ends.enter_context(web_address.said(pages.address, is_terminal))
+        pages.key.say = lambda: say(pages.address)
+        return pages, where
     except Failure:
         room.kill()
         raise

@@ -1,7 +1,6 @@
 """A room in the browser: pages that are served on this machine alone, each a member of the room."""
 import contextlib
 import io
-import secrets
 import select
 import socket
 import threading
@@ -32,6 +31,7 @@ from rdbg.rooms.web_guard import (
     one,
     refusal,
 )
+from rdbg.rooms.web_key import Key, new
 from rdbg.rooms.web_pages import Page, Pages, as_json
 
 # A page is told that it is still told something after so many seconds.
@@ -40,6 +40,8 @@ STILL_HERE = 15.0
 LAST_SECONDS = 2.0
 HTML, TEXT, EVENTS = "text/html; charset=utf-8", "text/plain; charset=utf-8", "text/event-stream"
 
+# Where a page is let in by the key of its address.
+ENTRY = "/in"
 # What a page can say, by the path that is asked, and what it is answered.
 SAID: Dict[str, Callable[[Page, str], Dict[str, str]]] = {
     "line": lambda page, line: {"reply": page.ask(line)},
@@ -87,20 +89,31 @@ class Handler(BaseHTTPRequestHandler):
         check_origin(self.headers, self.server.port, method)
         if self.path == "/" and method == "GET":
             self.server.unread.remove(self.connection)
-            return self._answer(403, HTML, self.server.door)
+            return self._answer(200, HTML, self.server.page)
+        if self.path == ENTRY and method == "POST":
+            return self._trade(self._said())
         name, query = check_token(self.path, self.server.token)
         if method == "POST":
             if name not in SAID and name not in MOVES:
                 raise Denied(404, "there is nothing")
-            said = body_of(self.headers, self.rfile)
-            self.server.unread.remove(self.connection)
-            return self._line(name, said)
+            return self._line(name, self._said())
         self.server.unread.remove(self.connection)
-        if name == "":
-            return self._answer(200, HTML, self.server.page)
-        if name != "events" or one(self.headers, "Sec-Fetch-Site") == "none":
+        if name not in ("room", "events") or one(self.headers, "Sec-Fetch-Site") == "none":
             raise Denied(404, "there is nothing")
+        if name == "room":
+            return self._answer(200, JSON, self.server.of_room)
         self._events(query)
+
+    def _said(self) -> Dict[str, str]:
+        """The texts that a request says, which has come then. Raises `Denied`."""
+        said = body_of(self.headers, self.rfile)
+        self.server.unread.remove(self.connection)
+        return said
+
+    def _trade(self, said: Dict[str, str]) -> None:
+        """Lets a page in for the key of the address. Raises `Denied`."""
+        self.server.key.use(said.get("key", ""))
+        self._answer(200, JSON, as_json({"token": self.server.token}))
 
     def _line(self, name: str, said: Dict[str, str]) -> None:
         """Does what a page says."""
@@ -190,9 +203,11 @@ class Served(ThreadingMixIn, HTTPServer):
 
     def __init__(self, room: Room, port: int, door: Door) -> None:
         self.room, self._door = room, door
-        self.token = secrets.token_urlsafe(24)
+        # (the one lets a browser in, once; the other one it has for it, and says with each request)
+        self.key, self.token = Key(), new()
         self.unread, self.pages = Unread(), Pages(room)
-        self.page, self.door = web_document.page(room.app_source), web_document.door()
+        self.page = web_document.page()
+        self.of_room = as_json(web_document.of_room(room.app_source))
         self.has_ended = False
         super().__init__((LOCAL, port), Handler)
         self.port: int = self.server_address[1]
@@ -206,8 +221,9 @@ class Served(ThreadingMixIn, HTTPServer):
 
     @property
     def address(self) -> str:
-        """Where the room's page is, with the token that lets one in."""
-        return f"http://{LOCAL}:{self.port}/{self.token}/"
+        """Where the room's page is, with the key that lets a browser in, once. (What stands behind
+        `#` a browser keeps for the page, and sends nobody.)"""
+        return f"http://{LOCAL}:{self.port}/#{self.key.text}"
 
     def server_bind(self) -> None:
         """Takes the port, also where pages of a room that has ended were there a moment ago. (The

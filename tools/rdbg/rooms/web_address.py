@@ -1,20 +1,35 @@
-"""Where a room says the address of its page, whose token lets in who has it."""
+"""Where a room says the address of its page, whose key lets one browser in, once."""
 import contextlib
+import os
+import sys
 import urllib.parse
-from typing import Iterator
+from typing import Callable, Iterator, Tuple
 
 from rdbg import own_file
 
 FILE = "address"
+# What is printed at the start, and what says another address in its place.
+Said = Tuple[str, Callable[[str], None]]
+
+
+def print_one(address: str) -> None:
+    """Says it at the terminal, in one piece, whatever else is printed meanwhile."""
+    os.write(sys.stdout.fileno(), f"web {address}\n".encode())
 
 
 @contextlib.contextmanager
-def said(address: str, is_terminal: bool) -> Iterator[str]:
-    """What is printed of it: all to a terminal; else where the page is and the path of a file that
-    has the address, for its user alone, as long as the block goes on. Raises `Failure` where that
-    can't be written."""
+def said(address: str, is_terminal: bool) -> Iterator[Said]:
+    """All of it is said at a terminal; else where the page is and the path of a file that has the
+    address, for its user alone, as long as the block goes on. Raises `Failure` where that can't be
+    written; what says another one, `OSError`."""
     if is_terminal:
-        yield address
+        yield address, print_one
         return
     with own_file.kept(FILE, f"{address}\n", "the page's address") as path:
-        yield f"{urllib.parse.urljoin(address, '/')} {path}"
+
+        def write(text: str) -> None:
+            # (all addresses are as long)
+            with open(path, "r+") as file:
+                file.write(f"{text}\n")
+
+        yield f"{urllib.parse.urldefrag(address).url} {path}", write

@@ -98,7 +98,7 @@ def check_token(path: str, token: str) -> Tuple[str, str]:
     given, slash, rest = path[1:].partition("/")
     is_same = hmac.compare_digest(given.encode("utf-8", "replace"), token.encode())
     if not is_same or not slash:
-        raise Denied(403, "the address isn't the one that the room has said")
+        raise Denied(403, "the room has let nobody in by this")
     name, _, query = rest.partition("?")
     return name, query
 

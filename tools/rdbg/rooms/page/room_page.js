@@ -61,7 +61,8 @@ class Coming {
 
 // The room as it is served: what comes, and what is said there.
 class Line {
-  constructor(hear) {
+  constructor(way, hear) {
+    this.way = way;
     this.hear = hear;
     this.name = keptName();
     this.refusals = 0;
@@ -82,7 +83,7 @@ class Line {
   }
 
   open() {
-    this.events = new EventSource(`${WAY}events?name=${encodeURIComponent(this.name)}`);
+    this.events = new EventSource(`${this.way}events?name=${encodeURIComponent(this.name)}`);
     for (const kind of ["you", "who", "notice", "refused", "end", ...MOVES]) {
       this.events.addEventListener(kind, ({ data }) => this.take(kind, JSON.parse(data)));
     }
@@ -125,10 +126,9 @@ class Line {
 
   // What is answered to something that is said: a reply, or why there is none.
   async say(what, text) {
-    const body = JSON.stringify({ page: this.key ?? "", [what]: text });
-    const headers = { "Content-Type": "application/json" };
+    const told = toldAs({ page: this.key ?? "", [what]: text });
     try {
-      const answer = await fetch(WAY + what, { method: "POST", headers, body });
+      const answer = await fetch(this.way + what, told);
       return answer.ok ? await answer.json() : { refused: (await answer.text()).trim() };
     } catch (error) {
       return { refused: "the room can't be reached" };
@@ -286,14 +286,14 @@ class RoomPage extends Viewer {
 
 // All of it: what is known before the first move has come, and what is done then.
 class RoomOnPage {
-  constructor(values) {
+  constructor(way, values) {
     Object.assign(this, values);
     document.title = `${this.file}: a room`;
     byId("title").textContent = document.title;
     this.talk = new Talk(byId("talk"));
     this.people = new People(byId("people"), byId("wheel"));
     this.watches = new Watches(byId("watches"), (text) => this.tell(text));
-    this.line = new Line((kind, it) => this.hear(kind, it));
+    this.line = new Line(way, (kind, it) => this.hear(kind, it));
     this.coming = new Coming(byId("come"), (name) => this.line.come(name));
     this.isHere = false;
     this.listen();
@@ -419,5 +419,4 @@ class RoomOnPage {
   }
 }
 
-hideWay();
-new RoomOnPage(JSON.parse(byId("of-room").textContent));
+comeIn((way, values) => new RoomOnPage(way, values));
