@@ -194,6 +194,21 @@ class Once(OnPage):
             self.assertEqual(room.said, self.value("location.href"))
             self.assertIsNone(traded(address))
 
+    def test_a_browser_that_stores_nothing(self) -> None:
+        none = (
+            "Object.defineProperty(window, 'localStorage', {get: () => { throw Error('none'); }})"
+        )
+        method = "ScriptToEvaluateOnNewDocument"
+        kept = self.browser.call(f"Page.add{method}", source=none)
+        self.addCleanup(self.browser.call, f"Page.remove{method}", **kept)
+        with web_room() as room:
+            self.assertTrue(come_in(self.browser, room.address, "ada"))
+            self.click("#tick")
+            self.at(1)
+            self.check_refused(self.browser, room.said)
+            self.visit(room, "ada")
+            self.at(1)
+
     def test_who_has_not_been_there_is_not_let_in(self) -> None:
         self.spares_errors = True
         with web_room() as room, web_room() as another, Browser() as fresh:
