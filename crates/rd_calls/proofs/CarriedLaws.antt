@@ -1,6 +1,6 @@
 -- What is proved of each move that carries its operands, with a row for each.
-use Rattle.std.proofs.Common.{◌≡◌, ◌≢◌, ◌∙◌, ◌≤◌, ◌+◌, ◌*◌, ℕ, Bool, true, false, cond, None, Some, Option, ap, length, refl, set, subst, sym, arith}
-use Rattle.std.specs.Prelude.{Ok, Err, nat_eq}
+use Rattle.std.proofs.Common.{◌≡◌, ◌≢◌, ◌∙◌, ◌≤◌, ◌+◌, ◌*◌, ℕ, Bool, true, false, cond, None, Some, Option, ap, length, refl, set, subst, sym, arith, List}
+use Rattle.std.specs.Prelude.{Result, Ok, Err, OnErr, OnOk, nat_eq}
 use Rattle.std.proofs.lemmas.Bool.{false≢true}
 use Rattle.std.proofs.lemmas.Bool.Decides.{nat_tests}
 use Rattle.rd_app.specs.Application.{Application, IsApplication, priorities_of}
@@ -9,6 +9,8 @@ use Rattle.rd_notify.specs.declared.entries.EntryState.TheVariants.{Received}
 use Rattle.rd_refusal.specs.declared.refusal.Refusal.{Refusal}
 use Rattle.rd_refusal.specs.declared.refusal.Refusal.TheVariants.{BadEdit, NoIsr, NoMemory}
 use Rattle.rd_state.specs.declared.phase.Held.{Held}
+use Rattle.rd_state.specs.Change.{Change}
+use Rattle.rd_state.specs.Edit.{Base, Edit as Editing, GivesUp, Reaches}
 use Rattle.rd_state.specs.Settled.{IsSettled}
 use Rattle.rd_state.specs.Sizes.{IsSized}
 use Rattle.rd_state.specs.Snapshot.{Snapshot, task_at}
@@ -21,13 +23,15 @@ use Rattle.rd_moves.specs.Edits.{IsEditOf, PlainEdit}
 use Rattle.rd_moves.specs.Interrupts.{IsInterruptOf, PlainInterrupt}
 use Rattle.rd_moves.specs.declared.carried.Carried.TheVariants.{Edit, Interrupt}
 use Rattle.rd_moves.specs.declared.edit.Edit.TheVariants as edit
-use Rattle.rd_moves.specs.declared.moves.Move.TheVariants.{Carried}
+use Rattle.rd_moves.specs.Moves.{PlainMove}
+use Rattle.rd_moves.specs.declared.moves.Move.TheVariants.{Carried, Core, Tick}
 use Rattle.rd_edits.specs.Edits.{edit_cost, edited, is_good_edit}
 use Rattle.rd_interrupts.specs.Interrupts.{after_interrupt, interrupt_cost}
 use Rattle.rd_interrupts.proofs.Offered.{IsSettled-interrupt, IsValid-interrupt, interrupt-handles, interrupt-received, interrupt-sleeps}
 use Rattle.rd_edits.proofs.Offered.{IsValid-edited, edited-entry_state, edited-handles, edited-settled}
 use Rattle.rd_calls.specs.Carried.{CarriedLeavesSettled, carried_cost, carried_disturbs, carried_out, edits_task, handles_carried, step_of_carried, unless_refused}
 use Rattle.rd_calls.specs.Carried.{why_refused}
+use Rattle.rd_calls.specs.Step.{CanPlay, IsPlayed, LeavesSettled}
 use Rattle.rd_calls.proofs.PlayLaws.{Leads, most_is_few}
 
 -- ---- when it is refused
@@ -118,6 +122,36 @@ pub carried-settled : (app : Application) (s : Snapshot) (carried : PlainCarried
     → CarriedLeavesSettled app s carried s' → IsSettled (priorities_of app) s'
 carried-settled app s (Edit edit) s' before leaves = leaves before
 carried-settled app s (Interrupt interrupt) s' before leaves = leaves
+
+-- whichever move it is
+settled-after : (app : Application) (s : Snapshot) (move : PlainMove) (s' : Snapshot) → IsSettled (priorities_of app) s → LeavesSettled app s move s'
+    → IsSettled (priorities_of app) s'
+settled-after app s (Core core) s' before leaves = leaves
+settled-after app s Tick s' before leaves = leaves
+settled-after app s (Carried carried) s' before leaves = carried-settled app s carried s' before leaves
+
+-- A move that was made, or that gave up, began where it began.
+base-from : {T E : Type 0} (r : Result T E) (target : Snapshot) (cost : ℕ) (begun made : Editing) → OnOk r (Reaches begun made target cost)
+    → OnErr r (GivesUp begun made cost) → made.base ≡ begun.base
+base-from r target cost begun made =
+    elim r as (λ q. OnOk q (Reaches begun made target cost) → OnErr q (GivesUp begun made cost) → made.base ≡ begun.base)
+    [ Ok x ↦ λ f g. f.base | Err y ↦ λ f g. g.base ]
+
+-- Behind a move, made or not, the next one can be made: where nothing calls for settling now, nothing did where it began.
+pub CanPlay-from : {T E : Type 0} (r : Result T E) (app : Application) (s : Snapshot) (move : PlainMove) (target : Snapshot) (cost : ℕ) (begun made now : Editing)
+    (changes : List Change) → IsValid app s → (begun.base.calm ≡ true → IsSettled (priorities_of app) s) → OnOk r (Reaches begun made target cost)
+    → OnErr r (GivesUp begun made cost) → (now.calm ≡ true → made.base.calm ≡ true) → OnOk r (IsPlayed app s move now.now changes) → OnErr r (now.now ≡ s)
+    → CanPlay app now
+CanPlay-from r app s move target cost begun made now changes valid calm reaches gives since =
+    let base = base-from r target cost begun made reaches gives in
+    let was : now.calm ≡ true → IsSettled (priorities_of app) s = λ is. calm (sym (ap (λ (b : Base). b.calm) base) ∙ since is) in
+    elim r as (λ q. OnOk q (IsPlayed app s move now.now changes) → OnErr q (now.now ≡ s) → CanPlay app now) [
+      | Ok x ↦ λ played same. record { valid = played.valid; calm = λ is. settled-after app s move now.now (was is) played.settled }
+      | Err y ↦ λ played same. record {
+        valid = subst (IsValid app) (sym same) valid;
+        calm = λ is. subst (IsSettled (priorities_of app)) (sym same) (was is);
+      }
+    ]
 
 -- ---- handles, entries and tasks that sleep
 

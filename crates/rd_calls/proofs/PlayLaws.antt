@@ -35,6 +35,7 @@ use Rattle.rd_stream.specs.StreamSnapshot.{StreamSnapshot}
 use Rattle.rd_state.specs.Change.{Change}
 use Rattle.rd_state.specs.Change.{weight_of}
 use Rattle.rd_state.specs.Edit.{Base, Edit, GivesUp, GoesOn, Reaches, added, begun_at, capacity_of, room_for}
+use Rattle.rd_state.specs.PackedChanges.{all_packed}
 use Rattle.rd_state.specs.Sizes.{IsSized}
 use Rattle.rd_state.specs.Snapshot.{Snapshot, core_at, queue_at}
 use Rattle.rd_state.specs.Undoing.{undone, CanUndo}
@@ -253,3 +254,22 @@ pub short-from : {T E : Type 0} (r : Result T E) (app : Application) (s : Snapsh
 short-from r app s move target cost room begun made same leads =
     elim r as (λ q. OnErr q (GivesUp begun made cost) → OnErr q (room < room_for (record_limit app s move)))
     [ Ok x ↦ λ f. tt | Err y ↦ λ f. omega (arith, same, f.short, leads.few) ]
+
+-- the room that is left, where it was made
+pub room-from : {T E : Type 0} (r : Result T E) (app : Application) (s : Snapshot) (move : PlainMove) (target : Snapshot) (cost room now : ℕ) (begun made : Edit)
+    → begun.room ≡ room → Leads app s move target cost → OnOk r (Reaches begun made target cost) → OnOk r (now ≡ made.room)
+    → OnOk r (room ≤ now + room_for (record_limit app s move))
+room-from r app s move target cost room now begun made same leads =
+    elim r as (λ q. OnOk q (Reaches begun made target cost) → OnOk q (now ≡ made.room) → OnOk q (room ≤ now + room_for (record_limit app s move)))
+    [ Ok x ↦ λ f g. omega (arith, same, f.room, g, leads.few) | Err y ↦ λ f g. tt ]
+
+-- and where it gave up, once its changes are taken back
+pub err_room-from : {T E : Type 0} (r : Result T E) (cost : ℕ) (begun made now : Edit) → begun.base.recorded ≡ begun.changes → capacity_of now ≡ capacity_of made
+    → OnErr r (GivesUp begun made cost) → OnErr r (now.changes ≡ made.base.recorded) → OnErr r (begun.room ≤ now.room)
+err_room-from r cost begun made now here capacity =
+    elim r as (λ q. OnErr q (GivesUp begun made cost) → OnErr q (now.changes ≡ made.base.recorded) → OnErr q (begun.room ≤ now.room)) [
+      | Ok x ↦ λ f g. tt
+      | Err y ↦ λ f g.
+          let same : now.changes ≡ begun.changes = g ∙ ap (λ (b : Base). b.recorded) f.base ∙ here in
+          omega (arith, ap (λ (changes : List Change). length (all_packed changes)) same, f.grows, capacity)
+    ]

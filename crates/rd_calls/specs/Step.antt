@@ -2,7 +2,7 @@
 -- is done.
 use Rattle.std.specs.Prelude.{ℕ, ◌≡◌, ◌+◌, ◌*◌, ◌%◌, ◌<◌, ◌≤◌, List, length, drop, position, nat_lt}
 use Rattle.std.specs.Prelude.{if◌then◌else◌, Option, None, Some, is_some, Result, Ok, Err, OnErr}
-use Rattle.std.specs.Prelude.{OnOk, take}
+use Rattle.std.specs.Prelude.{OnOk, take, true}
 use Rattle.rd_app.specs.declared.instr.Instr.{Instr}
 use Rattle.rd_app.specs.declared.instr.Instr.TheVariants.{Local, Queue, QueueSet, Stream, Message}
 use Rattle.rd_app.specs.declared.instr.Instr.TheVariants.{Group, Notify}
@@ -172,16 +172,26 @@ pub record IsPlayed (app : Application) (s : Snapshot) (move : PlainMove) (s' : 
   pub valid : IsValid app s'
   pub settled : LeavesSettled app s move s'
 
+-- The next move can be made here at once: the state is valid, and settled where nothing has called
+-- for settling.
+pub record CanPlay (app : Application) (edit : editing.Edit) : Type 0 where
+  pub valid : IsValid app edit.now
+  pub calm : edit.calm ≡ true → IsSettled (priorities_of app) edit.now
+
 -- What a function answers that makes a move after others, and records it: it is made, and its
--- record stands behind theirs, or there is no memory for it, and nothing has changed.
+-- record stands behind theirs and takes no more of the room than so much, or there is no memory for
+-- it, and nothing has changed. Either way the next move can be made.
 pub record Plays (app : Application) (move : PlainMove) (old new : editing.Edit)
     (made : Result (Unit {0}) NoMemory) : Type 0 where
   pub before : OnOk made (take (length old.changes) new.changes ≡ old.changes)
   pub played : OnOk made (IsPlayed app old.now move new.now (added old.changes new.changes))
+  pub room : OnOk made (old.room ≤ new.room + room_for (record_limit app old.now move))
   pub short : OnErr made (old.room < room_for (record_limit app old.now move))
   pub state : OnErr made (new.now ≡ old.now)
   pub changes : OnErr made (new.changes ≡ old.changes)
+  pub err_room : OnErr made (old.room ≤ new.room)
   pub grows : capacity_of old ≤ capacity_of new
+  pub can_play : CanPlay app new
 
 -- The registers, objects, tasks and entries that an instruction names are there, where there are so
 -- many entries.

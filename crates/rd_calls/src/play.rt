@@ -74,11 +74,15 @@ fn finish(editing: &mut Editing, made: Result<(), NoMemory>) -> Result<(), NoMem
     ensures made { result ≡ made }
     ensures state { OnOk made (editing.new.now ≡ editing.old.now) }
     ensures record { OnOk made (GoesOn editing.old editing.new.changes) }
+    ensures room { OnOk made (editing.new.room ≡ editing.old.room) }
     ensures capacity { capacity_of editing.new ≡ capacity_of editing.old }
     ensures err { OnErr made (editing.new.now ≡ editing.old.base.state) }
     ensures err_record { OnErr made (editing.new.changes ≡ editing.old.base.recorded) }
     ensures sized { IsSized editing.new.now }
+    ensures calm { editing.new.calm ≡ true → editing.old.base.calm ≡ true }
 {
+    // (where nothing calls for settling now, nothing did where the move began)
+    let _ = editing.is_calm();
     if made.is_err() {
         editing.roll_back();
     }
@@ -167,7 +171,8 @@ pub fn move_answer(app: &Program, state: &State, action: &Move<Lent<'_>>) -> Opt
 /// can't be made, `NoIsr` where an interrupt comes to an application of profile 1, `NoMemory` where
 /// a growth was refused, as none is where the record has room for the move. There is no other. The
 /// record keeps the memory that it has. Where it says that nothing calls for settling, the state is
-/// settled.
+/// settled, and so it is afterwards: the next move can be made at once, whether this one was or
+/// not, and the record has room for both where it had room for as much as both may take.
 pub fn play_on(editing: &mut Editing, app: &Program, action: &Move<Lent<'_>>) -> Result<(), Refusal>
     requires valid { IsValid app.now editing.old.now }
     requires named { IsMoveOf app.now action.now }
@@ -192,6 +197,13 @@ pub fn play_on(editing: &mut Editing, app: &Program, action: &Move<Lent<'_>>) ->
     ensures err { OnErr result (editing.new.now ≡ editing.old.now) }
     ensures err_record { OnErr result (editing.new.changes ≡ editing.old.changes) }
     ensures grows { capacity_of editing.old ≤ capacity_of editing.new }
+
+    // What the next move needs: its conditions hold, and no more of the room is taken than so much.
+    ensures valid { IsValid app.now editing.new.now }
+    ensures calm { editing.new.calm ≡ true → IsSettled (priorities_of app.now) editing.new.now }
+    ensures room { OnOk result (editing.old.room
+        ≤ editing.new.room + room_for (record_limit app.now editing.old.now action.now)) }
+    ensures err_room { OnErr result (editing.old.room ≤ editing.new.room) }
 {
     match action {
         Move::Core { core } => {
