@@ -18,7 +18,7 @@ struct Run {
     cores: &'static [usize],
 }
 
-const RUNS: [Run; 8] = [
+const RUNS: [Run; 10] = [
     Run {
         name: "overwrite_in_a_set",
         app: concat!(
@@ -27,7 +27,7 @@ const RUNS: [Run; 8] = [
             r#""tasks":[{"name":"t0","priority":1,"code":["data 07","over q0","data 08","#,
             r#""over q0","select s0 0","recv q0 0","select s0 0","end"]}]}"#,
         ),
-        cores: &[0, 0, 0, 0, 0, 0],
+        cores: &[0, 0, 0, 0, 0, 0, 0],
     },
     Run {
         name: "full_set",
@@ -46,7 +46,17 @@ const RUNS: [Run; 8] = [
             r#"{"name":"t1","priority":1,"code":["notify t0 0 0 none","data 010203","#,
             r#""swrite b0 0","end"]}]}"#,
         ),
-        cores: &[0, 1, 1, 1],
+        cores: &[0, 1, 1, 1, 0],
+    },
+    Run {
+        name: "foreign_notification_ends_a_read_with_nothing",
+        app: concat!(
+            r#"{"profile":1,"cores":2,"streams":[{"name":"b0","size":8,"trigger":0}],"#,
+            r#""tasks":[{"name":"t0","priority":1,"code":["sread b0 8 max","end"]},"#,
+            r#"{"name":"t1","priority":1,"code":["notify t0 0 0 none","data 010203","#,
+            r#""swrite b0 0","end"]}]}"#,
+        ),
+        cores: &[0, 1, 0],
     },
     Run {
         name: "trigger_level",
@@ -56,7 +66,7 @@ const RUNS: [Run; 8] = [
             r#"{"name":"t1","priority":1,"code":["data 010203","swrite b0 0","data 04","#,
             r#""swrite b0 0","end"]}]}"#,
         ),
-        cores: &[0, 0, 0, 0, 0],
+        cores: &[0, 0, 0, 0, 0, 0],
     },
     Run {
         name: "message_too_long_for_its_reader",
@@ -65,6 +75,15 @@ const RUNS: [Run; 8] = [
             r#""tasks":[{"name":"t0","priority":1,"code":["data 61626364656667","#,
             r#""mwrite m0 max","data 616263646566","mwrite m0 max","mread m0 5 0","#,
             r#""mread m0 6 0","end"]}]}"#,
+        ),
+        cores: &[0, 0, 0, 0, 0, 0],
+    },
+    Run {
+        name: "values_of_a_notification",
+        app: concat!(
+            r#"{"profile":1,"cores":1,"tasks":[{"name":"t0","priority":1,"#,
+            r#""code":["notify t0 0 5 setif","notify t0 0 6 setif","#,
+            r#""notify t0 0 4294967295 set","notify t0 0 0 inc","end"]}]}"#,
         ),
         cores: &[0, 0, 0, 0],
     },
