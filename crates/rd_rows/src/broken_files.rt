@@ -40,6 +40,7 @@ const DAMAGED: [Refused; 6] = [
 ];
 
 // Wherever the file ends before its end, it is no JSON. (No byte of it is the first such place.)
+// Shows `read_app`: `exact`.
 #[test]
 fn cut_off(rt: HostRuntime) -> Result<(), Fail> {
     let whole = WHOLE.as_bytes();
@@ -52,7 +53,8 @@ fn cut_off(rt: HostRuntime) -> Result<(), Fail> {
     Ok(())
 }
 
-// Wherever a byte that no text has stands in the place of another, the file is no JSON.
+// Wherever a byte that no text has stands in the place of another, the file is no JSON. Shows
+// `read_app`: `exact`, `memory_text`.
 #[test]
 fn no_text(rt: HostRuntime) -> Result<(), Fail> {
     let whole = WHOLE.as_bytes();
@@ -66,7 +68,7 @@ fn no_text(rt: HostRuntime) -> Result<(), Fail> {
     Ok(())
 }
 
-// Arrays in arrays, more deeply than the reader of JSON goes.
+// Arrays in arrays, more deeply than the reader of JSON goes. Shows `read_app`: `exact`.
 #[test]
 fn nested(rt: HostRuntime) -> Result<(), Fail> {
     let mut text = vec![in rt.alloc(); b'['; 200]?;
@@ -78,7 +80,7 @@ fn nested(rt: HostRuntime) -> Result<(), Fail> {
     Ok(())
 }
 
-// A file that is JSON and no application is refused by its first fault.
+// A file that is JSON and no application is refused by its first fault. Shows `read_app`: `exact`.
 #[test]
 fn damaged(rt: HostRuntime) -> Result<(), Fail> {
     assert_refused(&rt, &DAMAGED)

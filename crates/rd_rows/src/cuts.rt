@@ -58,7 +58,7 @@ where
 }
 
 // All lines that were read are answered, in their order, in one piece, byte by byte and cut
-// anywhere; so is a last line without its LF.
+// anywhere; so is a last line without its LF. Shows `session`: `heard` (`Talks`, `lines_of`).
 #[test]
 fn each_cut(rt: HostRuntime) {
     for script in &SCRIPTS {

@@ -68,7 +68,8 @@ where
     Ok(())
 }
 
-// What a read that fails leaves, each of them in turn.
+// What a read that fails leaves, each of them in turn. Shows `session`: `heard` (`ReadFailed`,
+// `faults`, `reads`), `reads`.
 #[test]
 fn each_read_fails(rt: HostRuntime) -> Result<(), Fail> {
     for reads in 0..8 {
@@ -93,7 +94,8 @@ where
     assert_same(rt, whole_lines(target.bytes.as_slice()), writes.min(6));
 }
 
-// What a write that fails leaves, each of them in turn.
+// What a write that fails leaves, each of them in turn. Shows `session`: `heard` (`BreaksOff`:
+// `out`).
 #[test]
 fn each_write_fails(rt: HostRuntime) {
     for writes in 0..8 {
@@ -139,7 +141,8 @@ where
     assert_same(rt, whole_lines(written).saturating_add(1), writes);
 }
 
-// What a write that fails amid its bytes leaves, each of them in turn.
+// What a write that fails amid its bytes leaves, each of them in turn. Shows `session`: `heard`
+// (`BreaksOff`: `out`).
 #[test]
 fn each_write_breaks_off(rt: HostRuntime) {
     for writes in 1..7 {

@@ -110,7 +110,8 @@ fn each_line_passes_the_gate(rt: HostRuntime) -> Result<(), Fail> {
     Ok(())
 }
 
-// So does the line that is too long, behind which there is no other.
+// So does the line that is too long, behind which there is no other. Shows `session`: `heard`
+// (`LongLine`, `Called`).
 #[test]
 fn a_long_line_passes_the_gate(rt: HostRuntime) -> Result<(), Fail> {
     let mut lines = Vec::from_slice(rt.alloc(), b"step 0\nfly\n")?;

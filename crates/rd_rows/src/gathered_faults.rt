@@ -174,7 +174,8 @@ fn lose_each_write<H: Wait + Abort + AllocGlobal>(
 }
 
 // Behind a write that has failed no line is asked, also amid the lines of one read: answers in few
-// words, which are all given to the write before the next line is asked.
+// words, which are all given to the write before the next line is asked. Shows `session`: `heard`
+// (`BreaksOff`: `given`, `unsaid`, `faults`).
 #[test]
 fn few_words(rt: HostRuntime) -> Result<(), Fail> {
     let script = Script {
@@ -185,7 +186,8 @@ fn few_words(rt: HostRuntime) -> Result<(), Fail> {
     lose_each_write(&rt, script, 2)
 }
 
-// And views, of which one may be made that is never written.
+// And views, of which one may be made that is never written. Shows `session`: `heard` (`BreaksOff`:
+// `given`, `no_room`, `faults`).
 #[test]
 fn views(rt: HostRuntime) -> Result<(), Fail> {
     let script = Script {

@@ -65,7 +65,7 @@ where
 }
 
 // Behind the end of the input nothing more is read, wherever it is; what stands behind the last LF
-// is a line then.
+// is a line then. Shows `session`: `heard` (`AtInputEnd`, `ends`, `reads`), `reads`.
 #[test]
 fn each_end_of_input(rt: HostRuntime) -> Result<(), Fail> {
     for cut in 0..LINES.len() {
@@ -96,7 +96,8 @@ where
     assert_same(rt, source.calls, reads);
 }
 
-// Behind a line that is too long nothing more is read, however many bytes a read brings.
+// Behind a line that is too long nothing more is read, however many bytes a read brings. Shows
+// `session`: `heard` (`LongLine`, `are_pages`), `reads`.
 #[test]
 fn long_line_ends_the_reads(rt: HostRuntime) -> Result<(), Fail> {
     let mut bytes = Vec::from_slice(rt.alloc(), b"step 0\n")?;

@@ -50,13 +50,15 @@ where
     Ok(())
 }
 
-// A line is a command exactly where its words spell one; each other is answered `no Syntax`.
+// A line is a command exactly where its words spell one; each other is answered `no Syntax`. Shows
+// `parse_line`: `exact`, `spelled`.
 #[test]
 fn no_commands(rt: HostRuntime) -> Result<(), Fail> {
     assert_lines(&rt, &NO_COMMANDS, "ok at 1\nno Syntax\n")
 }
 
-// Spaces don't matter, nor do zeros in front of a number, nor one CR at the end.
+// Spaces don't matter, nor do zeros in front of a number, nor one CR at the end. Shows
+// `parse_line`: `only`; of the CR `session`: `heard` (`lines_of`).
 #[test]
 fn commands(rt: HostRuntime) -> Result<(), Fail> {
     assert_lines(&rt, &STEPS, "ok at 1\nok at 2\n")

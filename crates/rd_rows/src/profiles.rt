@@ -137,7 +137,8 @@ fn cores_of_profiles(rt: HostRuntime) -> Result<(), Fail> {
     assert_rows(&rt, &ROWS)
 }
 
-// A file with another profile, or with more cores than its profile has, is refused.
+// A file with another profile, or with more cores than its profile has, is refused. Shows
+// `read_app`: `exact`.
 #[test]
 fn refused_profiles(rt: HostRuntime) -> Result<(), Fail> {
     assert_refused(&rt, &REFUSED)

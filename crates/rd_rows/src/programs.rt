@@ -138,7 +138,8 @@ const MISSING_FILES: [&[&str]; 3] = [
     &["run", "--app", "."],
 ];
 
-// Words that spell no command line have status 2, and nothing is run.
+// Words that spell no command line have status 2, and nothing is run. Shows `options`: `asked`;
+// that the status is 2 is only tested.
 #[test]
 fn bad_command_line(rt: HostRuntime) -> Result<(), Fail> {
     let errors = "rdbg: bad command line\n";
@@ -160,7 +161,7 @@ fn moves_are_limited(rt: HostRuntime) -> Result<(), Fail> {
     assert_runs(&rt, &ONE_MOVE, commands, 0, replies, "")
 }
 
-// Which files can't be read.
+// Which files can't be read. Shows `app_of_opened`: `failed`; when opening fails is only tested.
 #[test]
 fn missing_file(rt: HostRuntime) -> Result<(), Fail> {
     let errors = "rdbg: cannot read the file\n";
@@ -205,7 +206,8 @@ fn help(rt: HostRuntime) -> Result<(), Fail> {
     assert_runs(&rt, &ASKS_FOR_HELP_OF_RUN, "step 0\n", 0, HELP_OF_RUN, "")
 }
 
-// A file of 1,048,576 bytes is read, one with a byte more isn't.
+// A file of 1,048,576 bytes is read, one with a byte more isn't. Shows `read_application`: `long`,
+// `fault`.
 #[test]
 fn long_files(rt: HostRuntime) -> Result<(), Fail> {
     let mut text = vec![in rt.alloc(); b' '; 1_048_576]?;
@@ -217,7 +219,8 @@ fn long_files(rt: HostRuntime) -> Result<(), Fail> {
     Ok(())
 }
 
-// Faults are found in the order command line, file, application.
+// Faults are found in the order command line, file, application. Shows `options`: `asked`, and
+// `load`: `refused`; the order is only tested.
 #[test]
 fn refused_files(rt: HostRuntime) -> Result<(), Fail> {
     let no_room = concat!(

@@ -161,7 +161,8 @@ fn fail_a_read<L: Setup, H: Wait + Abort + AllocGlobal>(
 
 // What a read that fails leaves, each of them in turn: the lines that were whole are answered, no
 // read is tried again, nobody has the wheel whose read has failed, and the history has just the
-// entries of the lines that were answered.
+// entries of the lines that were answered. Shows `session`: `heard` (`ReadFailed`, `faults`,
+// `reads`), and `Hall::finish`: `accounted`; that who has failed has left is only tested.
 #[test]
 fn each_read_fails_in_a_hall(rt: HostRuntime) -> Result<(), Fail> {
     for reads in 0..9 {

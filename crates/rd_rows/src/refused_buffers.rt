@@ -237,7 +237,7 @@ const REFUSED_BUFFER_CALLS: [Refused; 29] = [
     },
 ];
 
-// An application of buffers is refused by its first fault.
+// An application of buffers is refused by its first fault. Shows `read_app`: `exact`.
 #[test]
 fn refused_buffers(rt: HostRuntime) -> Result<(), Fail> {
     assert_refused(&rt, &REFUSED_STREAMS)?;

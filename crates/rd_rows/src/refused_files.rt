@@ -301,7 +301,8 @@ const REFUSED_NOTIFICATIONS: [Refused; 23] = [
     },
 ];
 
-// An application is refused by its first fault, and the program says which.
+// An application is refused by its first fault, and the program says which. Shows `read_app`:
+// `exact`.
 #[test]
 fn refused_files(rt: HostRuntime) -> Result<(), Fail> {
     assert_refused(&rt, &REFUSED_FILES)?;

@@ -146,7 +146,7 @@ const REFUSED_GROUP_CALLS: [Refused; 20] = [
     },
 ];
 
-// An application of event groups is refused by its first fault.
+// An application of event groups is refused by its first fault. Shows `read_app`: `exact`.
 #[test]
 fn refused_groups(rt: HostRuntime) -> Result<(), Fail> {
     assert_refused(&rt, &REFUSED_GROUPS)?;

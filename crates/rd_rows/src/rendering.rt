@@ -87,7 +87,8 @@ fn nothing(rt: HostRuntime) {
     );
 }
 
-// A reply that is written by itself is its line to the last byte, or a front of it.
+// A reply that is written by itself is its line to the last byte, or a front of it. Shows `render`:
+// `says`, `given`, `faults`.
 #[test]
 fn few_words(rt: HostRuntime) {
     let told = Short::Done { at: 3 };
@@ -107,7 +108,7 @@ fn look(rt: &(impl AllocGlobal + Abort), desk: &mut Desk) {
     assert_line(rt, &receipt.entry.reply, line, "c");
 }
 
-// So is a view.
+// So is a view. Shows the same.
 #[test]
 fn view(rt: HostRuntime) -> Result<(), Fail> {
     let mut desk = open(&rt, 100)?;

@@ -232,7 +232,8 @@ where
     Ok(())
 }
 
-// A line of more than 1,024 bytes, its CR among them, is answered once, and is the last.
+// A line of more than 1,024 bytes, its CR among them, is answered once, and is the last. Shows
+// `session`: `heard` (`Talks`, `LongLine`).
 #[test]
 fn long_lines(rt: HostRuntime) -> Result<(), Fail> {
     for line in &LONG_LINES {
@@ -274,7 +275,8 @@ fn one_write_for_a_read(rt: HostRuntime) -> Result<(), Fail> {
     Ok(())
 }
 
-// What was read as whole lines before a fault is answered. The beginning of a line isn't.
+// What was read as whole lines before a fault is answered. The beginning of a line isn't. Shows
+// `session`: `heard` (`ReadFailed`, `BreaksOff`).
 #[test]
 fn faults(rt: HostRuntime) -> Result<(), Fail> {
     let alloc = rt.alloc();

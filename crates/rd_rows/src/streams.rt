@@ -69,7 +69,7 @@ where
     assert_same(rt, writer.flushed.as_slice(), expected.as_bytes());
 }
 
-// An interrupted read is tried again.
+// An interrupted read is tried again. No contract says so: it is only tested.
 #[test]
 fn interrupted_reads(rt: HostRuntime) -> Result<(), Fail> {
     let mut source = Source::new(b"step 0\nstep 0\nback 1");
@@ -82,7 +82,7 @@ fn interrupted_reads(rt: HostRuntime) -> Result<(), Fail> {
     Ok(())
 }
 
-// No answer is kept back.
+// No answer is kept back. No contract says so: it is only tested.
 #[test]
 fn answers_are_flushed(rt: HostRuntime) -> Result<(), Fail> {
     let mut whole = Source::new(b"step 0\nshow queue q1\n");

@@ -291,7 +291,8 @@ fn the_wheel(rt: HostRuntime) -> Result<(), Fail> {
     Ok(())
 }
 
-// Who ends a connection at once was a session all the same.
+// Who ends a connection at once was a session all the same. No contract says what a connection
+// carried: it is only tested.
 #[test]
 fn ends_at_once(rt: HostRuntime) -> Result<(), Fail> {
     let account = serve(&rt, 100, Some(Guest::EndsAtOnce))?;
@@ -300,7 +301,7 @@ fn ends_at_once(rt: HostRuntime) -> Result<(), Fail> {
 }
 
 // Who finds the history full is told so, also when its lines are on their way, and counts as one
-// fault.
+// fault. Shows `Hall::join`: `refused`; what the connection is told is only tested.
 #[test]
 fn finds_no_place(rt: HostRuntime) -> Result<(), Fail> {
     let account = serve(&rt, 3, Some(Guest::FindsNoPlace))?;

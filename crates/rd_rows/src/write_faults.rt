@@ -177,14 +177,15 @@ fn fail_each_write<H: Wait + Abort + AllocGlobal>(rt: &H, by: By) -> Result<(), 
 
 // What a write that fails leaves, each of them in turn, at once or amid its bytes: the beginning of
 // the texts is out, each command that was served is in the history with its receipt, no line is
-// asked behind the first whose answer isn't wholly out, and the gate isn't told of that line.
+// asked behind the first whose answer isn't wholly out, and the gate isn't told of that line. Shows
+// `session`: `heard` (`BreaksOff`: `out`, `unsaid`, `called`), and `Hall::finish`: `accounted`.
 #[test]
 fn each_write_fails_in_a_hall(rt: HostRuntime) -> Result<(), Fail> {
     fail_each_write(&rt, By::Lines)
 }
 
 // The same where one write has all answers: all lines were asked before it, and the gate is told of
-// none.
+// none. Shows `session`: `heard` (`BreaksOff`: `lost`, `called`), and `Hall::finish`: `accounted`.
 #[test]
 fn the_one_write_fails_in_a_hall(rt: HostRuntime) -> Result<(), Fail> {
     fail_each_write(&rt, By::OneRead)
