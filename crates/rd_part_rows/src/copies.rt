@@ -10,7 +10,8 @@ use std::alloc::Global;
 use std::process::Abort;
 use std::test::Fail;
 
-// A run: its name, the application, and which cores move, in order.
+// A run: its name, the application, and which cores move, in order, up to the last state of the
+// worked run of that name.
 #[derive(Clone, Copy)]
 struct Run {
     name: &'static str,
@@ -18,7 +19,24 @@ struct Run {
     cores: &'static [usize],
 }
 
-const RUNS: [Run; 10] = [
+// A reader that is notified, and a write behind that.
+const FOREIGN_NOTIFICATION: &str = concat!(
+    r#"{"profile":1,"cores":2,"streams":[{"name":"b0","size":8,"trigger":0}],"#,
+    r#""tasks":[{"name":"t0","priority":1,"code":["sread b0 8 max","end"]},"#,
+    r#"{"name":"t1","priority":1,"code":["notify t0 0 0 none","data 010203","#,
+    r#""swrite b0 0","end"]}]}"#,
+);
+
+const RUNS: [Run; 11] = [
+    Run {
+        name: "undo_to_boot",
+        app: concat!(
+            r#"{"profile":1,"cores":1,"queues":[{"name":"q0","length":2,"item":1}],"#,
+            r#""tasks":[{"name":"t0","priority":1,"code":["data 41","send q0 0","#,
+            r#""send q0 0","send q0 0","end"]}]}"#,
+        ),
+        cores: &[0, 0, 0, 0],
+    },
     Run {
         name: "overwrite_in_a_set",
         app: concat!(
@@ -40,22 +58,12 @@ const RUNS: [Run; 10] = [
     },
     Run {
         name: "foreign_notification_ends_a_read",
-        app: concat!(
-            r#"{"profile":1,"cores":2,"streams":[{"name":"b0","size":8,"trigger":0}],"#,
-            r#""tasks":[{"name":"t0","priority":1,"code":["sread b0 8 max","end"]},"#,
-            r#"{"name":"t1","priority":1,"code":["notify t0 0 0 none","data 010203","#,
-            r#""swrite b0 0","end"]}]}"#,
-        ),
+        app: FOREIGN_NOTIFICATION,
         cores: &[0, 1, 1, 1, 0],
     },
     Run {
-        name: "foreign_notification_ends_a_read_with_nothing",
-        app: concat!(
-            r#"{"profile":1,"cores":2,"streams":[{"name":"b0","size":8,"trigger":0}],"#,
-            r#""tasks":[{"name":"t0","priority":1,"code":["sread b0 8 max","end"]},"#,
-            r#"{"name":"t1","priority":1,"code":["notify t0 0 0 none","data 010203","#,
-            r#""swrite b0 0","end"]}]}"#,
-        ),
+        name: "foreign_notification_ends_a_read, where it runs before the write",
+        app: FOREIGN_NOTIFICATION,
         cores: &[0, 1, 0],
     },
     Run {
@@ -77,15 +85,6 @@ const RUNS: [Run; 10] = [
             r#""mread m0 6 0","end"]}]}"#,
         ),
         cores: &[0, 0, 0, 0, 0, 0],
-    },
-    Run {
-        name: "values_of_a_notification",
-        app: concat!(
-            r#"{"profile":1,"cores":1,"tasks":[{"name":"t0","priority":1,"#,
-            r#""code":["notify t0 0 5 setif","notify t0 0 6 setif","#,
-            r#""notify t0 0 4294967295 set","notify t0 0 0 inc","end"]}]}"#,
-        ),
-        cores: &[0, 0, 0, 0],
     },
     Run {
         name: "one_set_wakes_two",
@@ -119,6 +118,15 @@ const RUNS: [Run; 10] = [
             r#"{"name":"t15","priority":1,"code":["gset g0 1","end"]}]}"#,
         ),
         cores: &[0, 1, 2, 3, 4, 5, 6, 7, 8, 9, 10, 11, 12, 13, 14, 15],
+    },
+    Run {
+        name: "set_without_overwrite",
+        app: concat!(
+            r#"{"profile":1,"cores":1,"tasks":[{"name":"t0","priority":1,"#,
+            r#""code":["notify t0 0 5 setif","notify t0 0 6 setif","#,
+            r#""notify t0 0 4294967295 set","notify t0 0 0 inc","end"]}]}"#,
+        ),
+        cores: &[0, 0, 0, 0],
     },
     Run {
         name: "take_counts_down",
