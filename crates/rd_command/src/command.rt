@@ -63,6 +63,17 @@ impl<'w, 'l> Command<'w, 'l> {
         self.line
     }
 
+    /// The same command once more, whose words lie where they lay.
+    pub fn copy(&self) -> Command<'w, 'l>
+        ensures { result ≡ self.now }
+    {
+        Command {
+            line: self.line,
+            keyword: self.keyword,
+            operands: self.operands,
+        }
+    }
+
     /// What holds of every command: the words of its operands have the forms that its keyword asks
     /// for, that of a count the form of one.
     pub fn keeps(&self)

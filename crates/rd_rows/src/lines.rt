@@ -1,7 +1,14 @@
 //! Lines to the built-in application, one by one: which are commands.
 
+use crate::asserts::assert_same;
 use crate::memory::Source;
 use crate::rows::answers;
+use rd_command::binding::bind;
+use rd_command::command::parse_line;
+use rd_command::known::Known;
+use rd_command::order::Order;
+use rd_command::word::Behind;
+use rd_names::app::App;
 use std::alloc::AllocGlobal;
 use std::net::{Net, TcpListener, TcpStream};
 use std::process::Abort;
@@ -62,4 +69,37 @@ fn no_commands(rt: HostRuntime) -> Result<(), Fail> {
 #[test]
 fn commands(rt: HostRuntime) -> Result<(), Fail> {
     assert_lines(&rt, &STEPS, "ok at 1\nok at 2\n")
+}
+
+// The lines of one command each.
+const COMMANDS: [&str; 4] = [
+    "step 0",
+    "show moves",
+    "until count q0 = 2 100",
+    " poke  reg t0 0 7",
+];
+
+// A copy of a command is the command, and is bound to the same.
+fn assert_copied(rt: &impl Abort, known: &Known, line: &str) {
+    let mut behind = Behind::new();
+    let Ok(command) = parse_line(line.as_bytes(), &mut behind) else {
+        panic!(rt; "{line} is no command");
+    };
+    let copy = command.copy();
+    assert_same(rt, copy.line(), line.as_bytes());
+    assert_same(rt, copy.needs_wheel(), command.needs_wheel());
+    let bound = bind(&copy, known);
+    assert_same(rt, bound.is_ok(), bind(&command, known).is_ok());
+    let order = Order::new(&copy, known, &bound);
+    assert_same(rt, order.needs_wheel(), command.needs_wheel());
+}
+
+#[test]
+fn copied(rt: HostRuntime) -> Result<(), Fail> {
+    let app = App::builtin(rt.alloc())?;
+    let known = Known::of(rt.alloc(), &app)?;
+    for line in &COMMANDS {
+        assert_copied(&rt, &known, *line);
+    }
+    Ok(())
 }
