@@ -1,0 +1,3 @@
+-- The files of definitions of rd_goal.
+pub mod Claims
+pub mod Goals
