@@ -2,4 +2,7 @@
 #![tactic(auto)]
 
 pub mod claim;
+mod claim_words;
 pub mod goal;
+pub mod reading;
+mod words;

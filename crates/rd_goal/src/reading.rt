@@ -1,0 +1,324 @@
+//! Goals as words: what a goal is read from.
+
+ghost use Rattle.std.specs.Prelude.{◌≡◌, IfOk};
+ghost use Rattle.rd_goal.specs.Goals.{IsGoalOf, IsRowOf};
+
+use crate::claim_words::claim;
+use crate::goal::{Goal, MAX_ROWS, Row};
+use crate::words::Reader;
+use arrayvec::ArrayVec;
+use rd_bytes::no_memory::NoMemory;
+use rd_names::app::App;
+use std::alloc::{AllocError, Global};
+use std::marker::Model;
+use thiserror::Error;
+
+/// What a goal has at a place.
+#[derive(Clone, Copy, Debug)]
+pub enum Wanted {
+    /// A claim, `not` or `(`.
+    Claim,
+    /// A number of at most 4,294,967,295.
+    Number,
+    /// A register, 0 to 7.
+    Register,
+    /// The index of a notification entry that each task has.
+    Index,
+    /// The number of an instruction of the task's script.
+    Instruction,
+    /// The name of a queue.
+    Queue,
+    /// The name of a queue set.
+    QueueSet,
+    /// The name of a stream buffer.
+    Stream,
+    /// The name of a message buffer.
+    Message,
+    /// The name of an event group.
+    Group,
+    /// The name of a task.
+    Task,
+    /// `=`, `<` or `>`.
+    Comparison,
+    /// What a phase is called.
+    Phase,
+    /// A place where a task waits.
+    Place,
+    /// `and`, `or`, `)`, or the end.
+    Join,
+}
+
+/// Why words are no goal. Words go by number, the first one is 1; a parenthesis is a word.
+#[derive(Debug, Drop, Error)]
+pub enum NoGoal {
+    /// A word isn't what stands there.
+    #[error("another word is wanted there")]
+    Wanted { what: Wanted, at: usize },
+    /// The words end where something is wanted.
+    #[error("the goal ends too early")]
+    Ends { what: Wanted },
+    /// The name is that of a stream buffer and of a message buffer.
+    #[error("a stream buffer and a message buffer have this name")]
+    Either { at: usize },
+    /// A parenthesis is closed that isn't open.
+    #[error("this parenthesis isn't open")]
+    Unopened { at: usize },
+    /// A parenthesis is open at the end.
+    #[error("a parenthesis isn't closed")]
+    Unclosed,
+    /// It has more than 64 claims, `and`, `or`, `not` and parentheses.
+    #[error("the goal is too long")]
+    TooLong,
+    /// There is no memory for it.
+    #[error("there is no memory for the goal")]
+    NoMemory,
+}
+
+impl From<AllocError> for NoGoal {
+    fn from(_error: AllocError) -> NoGoal {
+        NoGoal::NoMemory
+    }
+}
+
+impl From<NoMemory> for NoGoal {
+    fn from(_error: NoMemory) -> NoGoal {
+        NoGoal::NoMemory
+    }
+}
+
+// What waits for its right operand: an operator, or a parenthesis that is open.
+#[derive(Clone, Copy, Default, PartialEq, Eq)]
+enum Pending {
+    #[default]
+    Open,
+    Either,
+    Both,
+    Not,
+}
+
+// A goal that is being read: its rows so far, the rows that no other joins yet, and the operators
+// that wait. (An operator that binds less than one before it waits for that one.)
+#[derive(Drop)]
+struct Draft<'r, 'a> {
+    reader: Reader<'r, 'a>,
+    goal: Goal,
+    rows: ArrayVec<usize, MAX_ROWS>,
+    pending: ArrayVec<Pending, MAX_ROWS>,
+}
+
+impl<'r, 'a> Model for Draft<'r, 'a> {
+    ghost use Rattle.rd_names.specs.Apps.{AppView};
+    ghost use Rattle.rd_goal.specs.Goals.{IsGoalOf};
+
+    ghost Value = { AppView };
+
+    ghost view = { λ d. d.reader };
+
+    ghost invariant = { λ d. IsGoalOf d.reader.runs d.goal };
+}
+
+impl Pending {
+    // How much it binds: whatever binds as much or more is joined before it.
+    fn strength(self) -> u8 {
+        match self {
+            Pending::Open => 0,
+            Pending::Either => 1,
+            Pending::Both => 2,
+            Pending::Not => 3,
+        }
+    }
+}
+
+impl<'r, 'a> Draft<'r, 'a> {
+    fn new(alloc: Global, reader: Reader<'r, 'a>) -> Draft<'r, 'a>
+        ensures { result ≡ reader.entry }
+    {
+        Draft {
+            reader,
+            goal: Goal::new(alloc),
+            rows: ArrayVec::new(),
+            pending: ArrayVec::new(),
+        }
+    }
+
+    // Adds a row, which no other joins yet.
+    fn add(&mut self, row: Row) -> Result<(), NoGoal>
+        requires { IsRowOf self.old.runs row }
+        ensures { self.new ≡ self.old }
+    {
+        let number = self.goal.len();
+        if number >= MAX_ROWS {
+            return Err(NoGoal::TooLong);
+        }
+        self.goal.add(row)?;
+        self.rows.try_push(number).map_err(|_| NoGoal::TooLong)
+    }
+
+    // Has an operator wait for its right operand, or for its parenthesis to be closed.
+    fn pend(&mut self, operator: Pending) -> Result<(), NoGoal>
+        ensures { self.new ≡ self.old }
+    {
+        self.pending.try_push(operator).map_err(|_| NoGoal::TooLong)
+    }
+
+    // The last row that no other joins yet.
+    fn operand(&mut self) -> usize
+        ensures { self.new ≡ self.old }
+    {
+        self.rows.pop().unwrap_or(0)
+    }
+
+    // Joins the last rows by an operator.
+    fn join(&mut self, operator: Pending) -> Result<(), NoGoal>
+        ensures { self.new ≡ self.old }
+    {
+        let other = self.operand();
+        match operator {
+            Pending::Not => self.add(Row::Not { row: other }),
+            Pending::Both => {
+                let one = self.operand();
+                self.add(Row::Both { one, other })
+            }
+            Pending::Either => {
+                let one = self.operand();
+                self.add(Row::Either { one, other })
+            }
+            Pending::Open => Err(NoGoal::Unclosed),
+        }
+    }
+
+    // Joins by the last operators, as far as they bind so much or more.
+    fn settle(&mut self, strength: u8) -> Result<(), NoGoal>
+        ensures { self.new ≡ self.old }
+    {
+        for _ in 0..MAX_ROWS {
+            match self.pending.last().copied() {
+                Some(operator) if operator.strength() >= strength => {
+                    let _ = self.pending.pop();
+                    self.join(operator)?;
+                }
+                Some(_) | None => return Ok(()),
+            }
+        }
+        Ok(())
+    }
+
+    // Closes a parenthesis.
+    fn close(&mut self) -> Result<(), NoGoal>
+        ensures { self.new ≡ self.old }
+    {
+        self.settle(Pending::Either.strength())?;
+        match self.pending.pop() {
+            Some(_open) => Ok(()),
+            None => Err(self.reader.unopened()),
+        }
+    }
+
+    // Reads what begins a formula, and answers whether another one is wanted behind it.
+    fn begin(&mut self) -> Result<bool, NoGoal>
+        ensures { self.new ≡ self.old }
+    {
+        if self.reader.takes(b"not") {
+            self.pend(Pending::Not)?;
+            return Ok(true);
+        }
+        if self.reader.takes(b"(") {
+            self.pend(Pending::Open)?;
+            return Ok(true);
+        }
+        let claim = claim(&mut self.reader)?;
+        self.add(Row::Says { claim })?;
+        Ok(false)
+    }
+
+    // Reads what follows a formula, and answers whether another one is wanted behind it.
+    fn go_on(&mut self) -> Result<bool, NoGoal>
+        ensures { self.new ≡ self.old }
+    {
+        match self.reader.next(Wanted::Join)? {
+            b"and" => {
+                self.settle(Pending::Both.strength())?;
+                self.pend(Pending::Both)?;
+                Ok(true)
+            }
+            b"or" => {
+                self.settle(Pending::Either.strength())?;
+                self.pend(Pending::Either)?;
+                Ok(true)
+            }
+            b")" => {
+                self.close()?;
+                Ok(false)
+            }
+            _ => Err(self.reader.wanted(Wanted::Join)),
+        }
+    }
+
+    // The goal, where its last formula has ended.
+    fn end(self) -> Result<Goal, NoGoal>
+        ensures { IfOk result (IsGoalOf self.entry.runs) }
+    {
+        let mut draft = self;
+        draft.settle(Pending::Either.strength())?;
+        if draft.pending.is_empty() {
+            Ok(draft.goal)
+        } else {
+            Err(NoGoal::Unclosed)
+        }
+    }
+}
+
+/// The goal that these words are in the application: claims, joined by `not`, `and` and `or`, of
+/// which the first binds most and the last least, and by parentheses, each of which is a word. The
+/// goal names what the application has. The claims are:
+///
+/// - a condition of the language: `count Q = N`, `bytes B`, `msgs M`, `bits G`, `reg K R`, `pc K`,
+///   `note K I`, `tick`, each with `=`, `<` or `>`, and `phase K NAME`;
+/// - `bits G & MASK = V`, `note K I & MASK = V`, `reg K R & MASK = V`, and `reg K R = reg K2 R2`;
+/// - `at K N`, `waits K`, `waits K PLACE`, `runs K`, `ended K`, `failed K`, `failed`, `finished`,
+///   `asleep`, as `Claim` says. PLACE is `recv Q`, `send Q`, `select S`, `read B`, `write B`, `note
+///   I` or `group G`; `sread`, `swrite`, `mread` and `mwrite` say which kind of buffer it is.
+pub fn read_goal(alloc: Global, app: &App, words: &[&[u8]]) -> Result<Goal, NoGoal>
+    ensures { IfOk result (IsGoalOf app.now.runs) }
+{
+    let mut draft = Draft::new(alloc, Reader::new(app, words));
+    let mut is_wanted = true;
+    for _ in 0..words.len() {
+        if draft.reader.is_over() {
+            break;
+        }
+        is_wanted = if is_wanted {
+            draft.begin()?
+        } else {
+            draft.go_on()?
+        };
+    }
+    if is_wanted {
+        return Err(NoGoal::Ends {
+            what: Wanted::Claim,
+        });
+    }
+    draft.end()
+}
+
+/// The words of a text: parentheses are words by themselves, and spaces part the others.
+pub fn words_of<'a>(alloc: Global, text: &'a [u8]) -> Result<Vec<&'a [u8]>, AllocError> {
+    let mut words = Vec::new(alloc);
+    let mut begun = 0;
+    for at in 0..text.len() {
+        let byte = text[at];
+        if byte == b' ' || byte == b'(' || byte == b')' {
+            if begun < at {
+                words.push(&text[begun..at])?;
+            }
+            if byte != b' ' {
+                words.push(&text[at..at + 1])?;
+            }
+            begun = at + 1;
+        }
+    }
+    if begun < text.len() {
+        words.push(&text[begun..])?;
+    }
+    Ok(words)
+}

@@ -1,0 +1,282 @@
+//! The words of a goal, looked up in an application one after another.
+
+ghost use Rattle.std.specs.Prelude.{◌≡◌, ◌<◌, length, IfOk};
+ghost use Rattle.rd_app.specs.declared.instr.TheConstants.{REGISTERS};
+ghost use Rattle.rd_names.specs.Names.{names_of};
+
+use crate::reading::{NoGoal, Wanted};
+use rd_app::instr::REGISTERS;
+use rd_condition::condition::{Comparison, PhaseName};
+use rd_names::app::App;
+use rd_text::kind::Kind;
+use rd_text::words::{name, number};
+use std::marker::Model;
+
+/// Reads the words of a goal, which stands in this application.
+#[derive(Drop)]
+pub(crate) struct Reader<'r, 'a> {
+    app: &'r App,
+    words: &'r [&'a [u8]],
+    // how many of the words are read
+    read: usize,
+}
+
+impl<'r, 'a> Model for Reader<'r, 'a> {
+    ghost use Rattle.std.specs.Prelude.{◌≤◌, length};
+    ghost use Rattle.rd_names.specs.Apps.{AppView};
+
+    ghost Value = { AppView };
+
+    ghost view = { λ r. r.app.now };
+
+    ghost invariant = { λ r. r.read ≤ length r.words.now };
+}
+
+impl<'r, 'a> Reader<'r, 'a> {
+    /// Reads these words in this application.
+    pub(crate) fn new(app: &'r App, words: &'r [&'a [u8]]) -> Reader<'r, 'a>
+        ensures { result ≡ app.now }
+    {
+        Reader {
+            app,
+            words,
+            read: 0,
+        }
+    }
+
+    /// The application.
+    pub(crate) fn app(&self) -> &'r App
+        ensures { result.now ≡ self.now }
+    {
+        self.app
+    }
+
+    /// Whether all words are read.
+    pub(crate) fn is_over(&self) -> bool {
+        self.read == self.words.len()
+    }
+
+    /// Whether the word that comes next is this one.
+    pub(crate) fn is_ahead(&self, wanted: &[u8]) -> bool {
+        match self.words.get(self.read) {
+            Some(word) => *word == wanted,
+            None => false,
+        }
+    }
+
+    /// Whether the word that comes next belongs to the claim that is being read: there is one, and
+    /// it doesn't join the claim to others.
+    pub(crate) fn is_at_operand(&self) -> bool {
+        !self.is_over() && !self.is_ahead(b"and") && !self.is_ahead(b"or") && !self.is_ahead(b")")
+    }
+
+    /// That word, which is read now, if there is such a one.
+    pub(crate) fn operand(&mut self) -> Option<&'a [u8]>
+        ensures { self.new ≡ self.old }
+    {
+        if !self.is_at_operand() {
+            return None;
+        }
+        let word = self.words.get(self.read).copied()?;
+        self.read += 1;
+        Some(word)
+    }
+
+    /// Whether the word that comes next is the name of a stream buffer, and of no message buffer,
+    /// or the other way round.
+    pub(crate) fn names_stream(&self) -> Result<bool, NoGoal> {
+        let Some(name) = self.words.get(self.read).and_then(|word| name(word)) else {
+            return Ok(true);
+        };
+        let is_stream = self.app.find(Kind::Stream, name).is_some();
+        let is_message = self.app.find(Kind::Message, name).is_some();
+        if is_stream && is_message {
+            return Err(NoGoal::Either { at: self.read + 1 });
+        }
+        Ok(!is_message)
+    }
+
+    /// Reads the word that comes next, and answers whether it is this one; if not, it stays.
+    pub(crate) fn takes(&mut self, wanted: &[u8]) -> bool
+        ensures { self.new ≡ self.old }
+    {
+        match self.words.get(self.read) {
+            Some(word) if *word == wanted => {
+                self.read += 1;
+                true
+            }
+            Some(_) | None => false,
+        }
+    }
+
+    /// That something else was wanted than the word that was read last.
+    pub(crate) fn wanted(&self, what: Wanted) -> NoGoal {
+        NoGoal::Wanted {
+            what,
+            at: self.read,
+        }
+    }
+
+    /// That the parenthesis that was read last closes none.
+    pub(crate) fn unopened(&self) -> NoGoal {
+        NoGoal::Unopened { at: self.read }
+    }
+
+    /// The next word, where something is wanted.
+    pub(crate) fn next(&mut self, what: Wanted) -> Result<&'a [u8], NoGoal>
+        ensures { self.new ≡ self.old }
+    {
+        match self.words.get(self.read) {
+            Some(word) => {
+                self.read += 1;
+                Ok(*word)
+            }
+            None => Err(NoGoal::Ends { what }),
+        }
+    }
+
+    /// The next word, as a number.
+    pub(crate) fn number(&mut self) -> Result<u32, NoGoal>
+        ensures { self.new ≡ self.old }
+    {
+        let word = self.next(Wanted::Number)?;
+        match number(word) {
+            Some(number) => Ok(number),
+            None => Err(self.wanted(Wanted::Number)),
+        }
+    }
+
+    // The next word, as a number below a limit.
+    fn below(&mut self, limit: usize, what: Wanted) -> Result<usize, NoGoal>
+        ensures below { IfOk result (λ number. number < limit) }
+        ensures app { self.new ≡ self.old }
+    {
+        let word = self.next(what)?;
+        match number(word) {
+            Some(number) if (number as usize) < limit => Ok(number as usize),
+            _ => Err(self.wanted(what)),
+        }
+    }
+
+    /// The next word, as a register.
+    pub(crate) fn register(&mut self) -> Result<usize, NoGoal>
+        ensures register { IfOk result (λ register. register < REGISTERS) }
+        ensures app { self.new ≡ self.old }
+    {
+        self.below(REGISTERS, Wanted::Register)
+    }
+
+    /// The next word, as the index of a notification entry.
+    pub(crate) fn index(&mut self) -> Result<usize, NoGoal>
+        ensures index { IfOk result (λ index. index < self.old.runs.entries) }
+        ensures app { self.new ≡ self.old }
+    {
+        let entries = self.app.program().entries();
+        self.below(entries, Wanted::Index)
+    }
+
+    /// The next word, as the number of an instruction of the task's script.
+    pub(crate) fn instruction(&mut self, task: usize) -> Result<usize, NoGoal>
+        requires { task < length self.old.runs.tasks }
+        ensures { self.new ≡ self.old }
+    {
+        let instructions = self.app.code(task).len();
+        self.below(instructions, Wanted::Instruction)
+    }
+
+    // The next word, as the number of the thing of that kind that it names.
+    fn named(&mut self, kind: Kind, what: Wanted) -> Result<usize, NoGoal>
+        ensures named { IfOk result (λ number. number < length (names_of kind self.old.names)) }
+        ensures app { self.new ≡ self.old }
+    {
+        let word = self.next(what)?;
+        let Some(name) = name(word) else {
+            return Err(self.wanted(what));
+        };
+        match self.app.find(kind, name) {
+            Some(number) => Ok(number),
+            None => Err(self.wanted(what)),
+        }
+    }
+
+    /// The next word, as a queue.
+    pub(crate) fn queue(&mut self) -> Result<usize, NoGoal>
+        ensures queue { IfOk result (λ queue. queue < length self.old.runs.objects.queues) }
+        ensures app { self.new ≡ self.old }
+    {
+        self.app.limits();
+        self.named(Kind::Queue, Wanted::Queue)
+    }
+
+    /// The next word, as a queue set.
+    pub(crate) fn queue_set(&mut self) -> Result<usize, NoGoal>
+        ensures queue_set { IfOk result (λ queue_set. queue_set < length self.old.runs.objects.queue_sets) }
+        ensures app { self.new ≡ self.old }
+    {
+        self.app.limits();
+        self.named(Kind::QueueSet, Wanted::QueueSet)
+    }
+
+    /// The next word, as a stream buffer.
+    pub(crate) fn stream(&mut self) -> Result<usize, NoGoal>
+        ensures stream { IfOk result (λ stream. stream < length self.old.runs.objects.streams) }
+        ensures app { self.new ≡ self.old }
+    {
+        self.app.limits();
+        self.named(Kind::Stream, Wanted::Stream)
+    }
+
+    /// The next word, as a message buffer.
+    pub(crate) fn message(&mut self) -> Result<usize, NoGoal>
+        ensures message { IfOk result (λ message. message < length self.old.runs.objects.messages) }
+        ensures app { self.new ≡ self.old }
+    {
+        self.app.limits();
+        self.named(Kind::Message, Wanted::Message)
+    }
+
+    /// The next word, as an event group.
+    pub(crate) fn group(&mut self) -> Result<usize, NoGoal>
+        ensures group { IfOk result (λ group. group < length self.old.runs.objects.groups) }
+        ensures app { self.new ≡ self.old }
+    {
+        self.app.limits();
+        self.named(Kind::Group, Wanted::Group)
+    }
+
+    /// The next word, as a task.
+    pub(crate) fn task(&mut self) -> Result<usize, NoGoal>
+        ensures task { IfOk result (λ task. task < length self.old.runs.tasks) }
+        ensures app { self.new ≡ self.old }
+    {
+        self.app.limits();
+        self.named(Kind::Task, Wanted::Task)
+    }
+
+    /// The next word, as how amounts are compared.
+    pub(crate) fn comparison(&mut self) -> Result<Comparison, NoGoal>
+        ensures { self.new ≡ self.old }
+    {
+        match self.next(Wanted::Comparison)? {
+            b"=" => Ok(Comparison::Equal),
+            b"<" => Ok(Comparison::Less),
+            b">" => Ok(Comparison::Greater),
+            _ => Err(self.wanted(Wanted::Comparison)),
+        }
+    }
+
+    /// The next word, as what a phase is called.
+    pub(crate) fn phase(&mut self) -> Result<PhaseName, NoGoal>
+        ensures { self.new ≡ self.old }
+    {
+        match self.next(Wanted::Phase)? {
+            b"run" => Ok(PhaseName::Run),
+            b"again" => Ok(PhaseName::Again),
+            b"given" => Ok(PhaseName::Given),
+            b"wait" => Ok(PhaseName::Wait),
+            b"ended" => Ok(PhaseName::Ended),
+            b"failed" => Ok(PhaseName::Failed),
+            _ => Err(self.wanted(Wanted::Phase)),
+        }
+    }
+}
