@@ -20,7 +20,7 @@ use Rattle.rd_session.specs.Lines.{Line, Whole, Long}
 use Rattle.rd_session.specs.Replies.{Answer, Served, Unserved, Syntax, TooLong, refusal_line, refusal_of, reply_line, text}
 use Rattle.rd_session.specs.Answers.{AreAnswers, BreaksOff, HasNoRoom, IsAnswerTo, Talk, Talks, receipt_in, receipts_in, texts, with_all}
 use Rattle.rd_session.specs.Gathering.{AreOut, Spot, Talking, spot}
-use Rattle.rd_session.proofs.CallLaws.{Called-begun, Called-none, Called-out, Called-same}
+use Rattle.rd_session.proofs.CallLaws.{Called-begun, Called-none, Called-out, Called-same, Called-weak}
 
 -- ---- texts and receipts
 
@@ -117,7 +117,7 @@ AreAnswers-append (x ∷ xs) ys (a ∷ as') bs one two = (one.0, AreAnswers-appe
 
 -- ---- where a session is, one step after the other
 
-pub Talking-new : (start : Talk) (pending : PendingView) → pending.bytes ≡ [] → pending.begun ≡ 0 → pending.out ≡ 0 → Talking start [] [] (record { talk = start; pending = pending })
+pub Talking-new : (start : Talk) (pending : PendingView) → pending.bytes ≡ [] → pending.begun ≡ 0 → pending.out ≡ 0 → Talking start [] [] 0 (record { talk = start; pending = pending })
 Talking-new start pending bytes begun out = record {
   answers = [];
   told = [];
@@ -138,7 +138,7 @@ Talking-new start pending bytes begun out = record {
 pub Talking-begun : (who : ℕ) (start : Talk) (heard : List Line) (seat after : SeatView) (line : Line) (answer : Answer) (sink : SinkView) (calls calls' : Option (List Call)) (pending pending' : PendingView) (number : ℕ)
     → start.seat.who ≡ who → IsAnswerTo line answer → after ≡ with_all seat (receipt_in answer)
     → Adds calls calls' (Before who number ∷ []) → number ≡ pending.begun + 1 → pending'.bytes ≡ pending.bytes → pending'.begun ≡ pending.begun + 1 → pending'.out ≡ pending.out
-    → Talking start heard [] (spot seat sink calls pending) → Talking start (heard ++ line ∷ []) (answer ∷ []) (spot after sink calls' pending')
+    → Talking start heard [] 0 (spot seat sink calls pending) → Talking start (heard ++ line ∷ []) (answer ∷ []) 0 (spot after sink calls' pending')
 Talking-begun who start heard seat after line answer sink calls calls' pending pending' number is to_line gained added number_is bytes begun out t = record {
   answers = t.answers ++ answer ∷ [];
   told = t.told;
@@ -159,7 +159,7 @@ Talking-begun who start heard seat after line answer sink calls calls' pending p
 -- a text was gathered
 pub Talking-gathered : (start : Talk) (heard : List Line) (seat : SeatView) (answer : Answer) (line : List ℕ) (sink : SinkView) (calls : Option (List Call)) (pending pending' : PendingView)
     → text answer ≡ line → pending'.bytes ≡ pending.bytes ++ line → pending'.begun ≡ pending.begun → pending'.out ≡ pending.out
-    → Talking start heard (answer ∷ []) (spot seat sink calls pending) → Talking start heard [] (spot seat sink calls pending')
+    → Talking start heard (answer ∷ []) 0 (spot seat sink calls pending) → Talking start heard [] 0 (spot seat sink calls pending')
 Talking-gathered start heard seat answer line sink calls pending pending' says bytes begun out t = record {
   answers = t.answers;
   told = t.told;
@@ -186,7 +186,7 @@ pub Talking-flushed : (who upto : ℕ) (start : Talk) (heard : List Line) (unsai
     → start.seat.who ≡ who → upto + length unsaid ≡ pending.begun
     → Appends sink.contents sink'.contents pending.bytes → Appends sink.given sink'.given pending.bytes → sink'.faults ≡ sink.faults → AreOut who pending.out upto calls calls'
     → pending'.bytes ≡ [] → pending'.begun ≡ pending.begun → pending'.out ≡ upto
-    → Talking start heard unsaid (spot seat sink calls pending) → Talking start heard unsaid (spot seat sink' calls' pending')
+    → Talking start heard unsaid 0 (spot seat sink calls pending) → Talking start heard unsaid (length unsaid) (spot seat sink' calls' pending')
 Talking-flushed who upto start heard unsaid seat sink sink' calls calls' pending pending' is all contents given faults outs bytes begun out t =
     let sum : length t.answers ≡ length (t.told ++ t.waiting) + length unsaid = ap length t.split ∙ length-append (t.told ++ t.waiting) unsaid in
     let reached : upto ≡ length (t.told ++ t.waiting) = omega (arith, sum, all, t.begun_is) in
@@ -203,8 +203,8 @@ Talking-flushed who upto start heard unsaid seat sink sink' calls calls' pending
       gathered = bytes;
       begun_is = begun ∙ t.begun_is;
       out_is = out ∙ reached;
-      called = Called-out start.seat.who start.calls calls calls' pending.out upto (length t.answers) (length t.told) (length (t.told ++ t.waiting)) t.called
-          (subst (λ (w : ℕ). AreOut w pending.out upto calls calls') (sym is) outs) t.out_is reached (omega (arith, sum));
+      called = Called-out start.seat.who start.calls calls calls' pending.out upto (length t.answers) (length t.told) (length (t.told ++ t.waiting)) 0 (length unsaid) t.called
+          (subst (λ (w : ℕ). AreOut w pending.out upto calls calls') (sym is) outs) t.out_is reached (sym sum);
     }
 
 -- nothing waits, and a text was written by itself
@@ -212,7 +212,7 @@ pub Talking-alone : (who : ℕ) (start : Talk) (heard : List Line) (seat : SeatV
     → start.seat.who ≡ who → text answer ≡ line → pending.bytes ≡ []
     → Appends sink.contents sink'.contents line → Appends sink.given sink'.given line → sink'.faults ≡ sink.faults → AreOut who pending.out pending.begun calls calls'
     → pending'.bytes ≡ [] → pending'.begun ≡ pending.begun → pending'.out ≡ pending.begun
-    → Talking start heard (answer ∷ []) (spot seat sink calls pending) → Talking start heard [] (spot seat sink' calls' pending')
+    → Talking start heard (answer ∷ []) 1 (spot seat sink calls pending) → Talking start heard [] 0 (spot seat sink' calls' pending')
 Talking-alone who start heard seat answer line sink sink' calls calls' pending pending' is says none contents given faults outs bytes begun out t =
     let nothing : texts (t.told ++ t.waiting) ≡ texts t.told = texts_append t.told t.waiting ∙ ap (λ (bs : List ℕ). texts t.told ++ bs) (sym t.gathered ∙ none) ∙ append-nil (texts t.told) in
     let one : line ≡ texts (answer ∷ []) = sym says ∙ sym (append-nil (text answer)) in
@@ -229,7 +229,7 @@ Talking-alone who start heard seat answer line sink sink' calls calls' pending p
       gathered = bytes;
       begun_is = begun ∙ t.begun_is;
       out_is = out ∙ t.begun_is ∙ ap length t.split;
-      called = Called-out start.seat.who start.calls calls calls' pending.out pending.begun (length t.answers) (length t.told) (length ((t.told ++ t.waiting) ++ answer ∷ [])) t.called
+      called = Called-out start.seat.who start.calls calls calls' pending.out pending.begun (length t.answers) (length t.told) (length ((t.told ++ t.waiting) ++ answer ∷ [])) 1 0 t.called
           (subst (λ (w : ℕ). AreOut w pending.out pending.begun calls calls') (sym is) outs) t.out_is (t.begun_is ∙ ap length t.split) (omega (arith, ap length t.split));
     }
 
@@ -239,7 +239,7 @@ Talking-alone who start heard seat answer line sink sink' calls calls' pending p
 pub Talking-lost : (start : Talk) (heard : List Line) (unsaid : List Answer) (seat : SeatView) (sink sink' : SinkView) (calls : Option (List Call)) (pending : PendingView)
     → HasNoRoom pending.bytes unsaid → (front : List ℕ) × IsFront front pending.bytes × Appends sink.contents sink'.contents front → Appends sink.given sink'.given pending.bytes
     → sink'.faults ≡ sink.faults + 1
-    → Talking start heard unsaid (spot seat sink calls pending) → BreaksOff heard start (record { seat = seat; sink = sink'; calls = calls })
+    → Talking start heard unsaid 0 (spot seat sink calls pending) → BreaksOff heard start (record { seat = seat; sink = sink'; calls = calls })
 Talking-lost start heard unsaid seat sink sink' calls pending room says given faults t = record {
   heard = heard;
   rest = [];
@@ -255,14 +255,15 @@ Talking-lost start heard unsaid seat sink sink' calls pending room says given fa
   out = Appends-append start.sink.contents sink.contents sink'.contents (texts t.told) says.0 t.out says.2;
   given = taken start.sink.given sink.given sink'.given t.told t.waiting pending.bytes t.given given t.gathered;
   faults = omega (arith, faults, t.faults);
-  called = Called-same start.seat.who start.calls calls (length t.answers) (length ((t.told ++ t.waiting) ++ unsaid)) (length t.told) (length t.told) t.called (ap length t.split) refl;
+  called = Called-same start.seat.who start.calls calls (length t.answers) (length ((t.told ++ t.waiting) ++ unsaid)) (length t.told) (length t.told) 1
+      (Called-weak start.seat.who start.calls calls (length t.answers) (length t.told) 0 1 (omega arith) t.called) (ap length t.split) refl;
 }
 
 -- It was given a text by itself, where nothing waits.
 pub Talking-lost_alone : (start : Talk) (heard : List Line) (seat : SeatView) (answer : Answer) (line : List ℕ) (sink sink' : SinkView) (calls : Option (List Call)) (pending : PendingView)
     → text answer ≡ line → pending.bytes ≡ [] → pending.out + 1 ≡ pending.begun
     → (front : List ℕ) × IsFront front line × Appends sink.contents sink'.contents front → Appends sink.given sink'.given line → sink'.faults ≡ sink.faults + 1
-    → Talking start heard (answer ∷ []) (spot seat sink calls pending) → BreaksOff heard start (record { seat = seat; sink = sink'; calls = calls })
+    → Talking start heard (answer ∷ []) 1 (spot seat sink calls pending) → BreaksOff heard start (record { seat = seat; sink = sink'; calls = calls })
 Talking-lost_alone start heard seat answer line sink sink' calls pending says none counts fails given faults t =
     let sum : length t.answers ≡ length (t.told ++ t.waiting) + 1 = ap length t.split ∙ length_push (t.told ++ t.waiting) answer in
     let nobody : t.waiting ≡ [] = no_answers t.waiting (omega (arith, sum, length-append t.told t.waiting, counts, t.begun_is, t.out_is)) in
@@ -284,7 +285,7 @@ Talking-lost_alone start heard seat answer line sink sink' calls pending says no
       out = Appends-append start.sink.contents sink.contents sink'.contents (texts t.told) fails.0 t.out fails.2;
       given = taken start.sink.given sink.given sink'.given t.told (answer ∷ []) line t.given given one;
       faults = omega (arith, faults, t.faults);
-      called = Called-same start.seat.who start.calls calls (length t.answers) (length ((t.told ++ answer ∷ []) ++ [])) (length t.told) (length t.told) t.called (ap length split) refl;
+      called = Called-same start.seat.who start.calls calls (length t.answers) (length ((t.told ++ answer ∷ []) ++ [])) (length t.told) (length t.told) 1 t.called (ap length split) refl;
     }
 
 -- lines that nobody came to
@@ -309,7 +310,7 @@ BreaksOff-more xs ys old new off = record {
 
 -- ---- all is written
 
-pub Talks-of : (heard : List Line) (start : Talk) (now : Spot) → now.pending.out ≡ now.pending.begun → Talking start heard [] now → Talks heard start now.talk
+pub Talks-of : (heard : List Line) (start : Talk) (now : Spot) → now.pending.out ≡ now.pending.begun → Talking start heard [] 0 now → Talks heard start now.talk
 Talks-of heard start now all t =
     let sum : length t.answers ≡ length (t.told ++ t.waiting) + 0 = ap length t.split ∙ length-append (t.told ++ t.waiting) [] in
     let nobody : t.waiting ≡ [] = no_answers t.waiting (omega (arith, sum, length-append t.told t.waiting, all, t.begun_is, t.out_is)) in
@@ -322,5 +323,5 @@ Talks-of heard start now all t =
       out = subst (λ (l : List Answer). Appends start.sink.contents now.talk.sink.contents (texts l)) same t.out;
       given = subst (λ (l : List Answer). Appends start.sink.given now.talk.sink.given (texts l)) same t.given;
       faults = t.faults;
-      called = Called-same start.seat.who start.calls now.talk.calls (length t.answers) (length t.answers) (length t.told) (length t.answers) t.called refl (ap length same);
+      called = Called-same start.seat.who start.calls now.talk.calls (length t.answers) (length t.answers) (length t.told) (length t.answers) 0 t.called refl (ap length same);
     }

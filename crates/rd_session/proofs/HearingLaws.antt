@@ -20,12 +20,12 @@ use Rattle.rd_session.proofs.LineLaws.{line_cut, lines_from-append, long_cut, pa
 -- ---- lines behind one another
 
 pub HearsMore-none : (old : Spot) → HearsMore [] old old
-HearsMore-none old start heard who t = subst (λ (ls : List Line). Talking start ls [] old) (sym (append-nil heard)) t
+HearsMore-none old start heard who t = subst (λ (ls : List Line). Talking start ls [] 0 old) (sym (append-nil heard)) t
 
 pub HearsMore-then : (xs ys : List Line) (old between new : Spot) → between.talk.seat.who ≡ old.talk.seat.who → HearsMore xs old between → HearsMore ys between new
     → HearsMore (xs ++ ys) old new
 HearsMore-then xs ys old between new same one two start heard who t =
-    subst (λ (ls : List Line). Talking start ls [] new) (append_assoc heard xs ys) (two start (heard ++ xs) (who ∙ sym same) (one start heard who t))
+    subst (λ (ls : List Line). Talking start ls [] 0 new) (append_assoc heard xs ys) (two start (heard ++ xs) (who ∙ sym same) (one start heard who t))
 
 pub BreaksAmid-then : (xs ys : List Line) (old between : Spot) (new : Talk) → between.talk.seat.who ≡ old.talk.seat.who → HearsMore xs old between → BreaksAmid ys between new
     → BreaksAmid (xs ++ ys) old new
@@ -131,7 +131,7 @@ pub record Hears (had now : SourceView) (start : Talk) (spot : Spot) (held : Lis
   pub pages : List (List ℕ)
   pub are_pages : ArePages (Some []) pages
   pub read : Consumes had.remaining now.remaining (bytes_of pages)
-  pub told : Talking start (lines_from (Some []) (bytes_of pages)) [] spot
+  pub told : Talking start (lines_from (Some []) (bytes_of pages)) [] 0 spot
   pub rest : rest_from (Some []) (bytes_of pages) ≡ Some held
   pub part : front_of held ≡ front.Part
   pub who : start.seat.who ≡ spot.talk.seat.who
@@ -139,7 +139,7 @@ pub record Hears (had now : SourceView) (start : Talk) (spot : Spot) (held : Lis
   pub ends : now.ends ≡ 0
   pub faults : now.faults ≡ 0
 
-pub Hears-new : (had : SourceView) (start : Talk) (spot : Spot) (held : List ℕ) → IsUnread had → held ≡ [] → Talking start [] [] spot → start.seat.who ≡ spot.talk.seat.who → Hears had had start spot held
+pub Hears-new : (had : SourceView) (start : Talk) (spot : Spot) (held : List ℕ) → IsUnread had → held ≡ [] → Talking start [] [] 0 spot → start.seat.who ≡ spot.talk.seat.who → Hears had had start spot held
 Hears-new had start spot held unread none told who =
     subst (λ (bs : List ℕ). Hears had had start spot bs) (sym none) (record {
       pages = [];
@@ -178,7 +178,7 @@ pub record Read (had now later : SourceView) (start : Talk) (spot : Spot) (all :
   pub are_pages : ArePages (Some []) pages
   pub read : Consumes had.remaining later.remaining (bytes_of pages)
   pub before : List Line
-  pub told : Talking start before [] spot
+  pub told : Talking start before [] 0 spot
   pub lines : lines_from (Some []) (bytes_of pages) ≡ before ++ lines_from (Some []) all
   pub rest : rest_from (Some []) (bytes_of pages) ≡ rest_from (Some []) all
   pub who : start.seat.who ≡ spot.talk.seat.who
@@ -228,7 +228,7 @@ Hears-more had now later start spot new all held r more who rest part = record {
   pages = r.pages;
   are_pages = r.are_pages;
   read = r.read;
-  told = subst (λ (ls : List Line). Talking start ls [] new) (sym r.lines) (more start r.before r.who r.told);
+  told = subst (λ (ls : List Line). Talking start ls [] 0 new) (sym r.lines) (more start r.before r.who r.told);
   rest = r.rest ∙ rest;
   part = part;
   who = r.who ∙ sym who;
@@ -303,7 +303,7 @@ record Ending (had later : SourceView) (start : Talk) (spot : Spot) (all : List 
   pages : List (List ℕ)
   are_pages : ArePages (Some []) pages
   read : Consumes had.remaining later.remaining (bytes_of pages)
-  told : Talking start (lines_from (Some []) (bytes_of pages)) [] spot
+  told : Talking start (lines_from (Some []) (bytes_of pages)) [] 0 spot
   lines : lines_of (bytes_of pages) true ≡ lines_from (Some []) (bytes_of pages) ++ last_of (Some all)
   none_long : NoneIsLong (bytes_of pages)
   who : start.seat.who ≡ spot.talk.seat.who

@@ -71,7 +71,7 @@ pub record Talks (lines : List Line) (old new : Talk) : Type 0 where
   pub out : Appends old.sink.contents new.sink.contents (texts answers)
   pub given : Appends old.sink.given new.sink.given (texts answers)
   pub faults : new.sink.faults ≡ old.sink.faults
-  pub called : Called old.seat.who old.calls new.calls (length answers) (length answers)
+  pub called : Called old.seat.who old.calls new.calls (length answers) (length answers) 0
 
 -- There are no such answers, or one that has no room beside these bytes.
 abbrev pub HasNoRoom : List ℕ → List Answer → Type 0
@@ -82,7 +82,8 @@ HasNoRoom bytes (answer ∷ other ∷ answers) = ⊥
 -- A write has failed, and it was the last. The lines that were asked are those whose answers the
 -- writes before it took (told), those whose answers it was given (lost), of whose texts it took a
 -- front, and at the most one whose answer had no room beside these. Behind them no line was asked.
--- The gate was called before each that was asked, and after each that was told.
+-- The gate was called before each that was asked, and after each that was told; of the others one at
+-- the most was begun before an answer went out.
 pub record BreaksOff (lines : List Line) (old new : Talk) : Type 0 where
   pub heard : List Line
   pub rest : List Line
@@ -99,4 +100,4 @@ pub record BreaksOff (lines : List Line) (old new : Talk) : Type 0 where
   pub given : Appends old.sink.given new.sink.given (texts (told ++ lost))
   pub faults : new.sink.faults ≡ old.sink.faults + 1
   pub called : Called old.seat.who old.calls new.calls
-      (length ((told ++ lost) ++ unsaid)) (length told)
+      (length ((told ++ lost) ++ unsaid)) (length told) 1

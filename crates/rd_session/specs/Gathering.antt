@@ -25,22 +25,24 @@ spot seat sink calls pending = record {
 }
 
 -- Since the beginning these lines were heard and answered: some of the answers are written (told),
--- some gathered behind them (waiting), and some are neither yet (unsaid).
-pub record Talking (start : Talk) (heard : List Line) (unsaid : List Answer) (now : Spot) : Type 0
-  where
-    pub answers : List Answer
-    pub told : List Answer
-    pub waiting : List Answer
-    pub split : answers ≡ (told ++ waiting) ++ unsaid
-    pub each : AreAnswers heard answers
-    pub gained : now.talk.seat ≡ with_all start.seat (receipts_in answers)
-    pub out : Appends start.sink.contents now.talk.sink.contents (texts told)
-    pub given : Appends start.sink.given now.talk.sink.given (texts told)
-    pub faults : now.talk.sink.faults ≡ start.sink.faults
-    pub gathered : now.pending.bytes ≡ texts waiting
-    pub begun_is : now.pending.begun ≡ length answers
-    pub out_is : now.pending.out ≡ length told
-    pub called : Called start.seat.who start.calls now.talk.calls (length answers) (length told)
+-- some gathered behind them (waiting), and some are neither yet (unsaid). So many at the most of the
+-- lines that were begun when an answer went out last have no answer that is out (left).
+pub record Talking (start : Talk) (heard : List Line) (unsaid : List Answer) (left : ℕ) (now : Spot)
+    : Type 0 where
+  pub answers : List Answer
+  pub told : List Answer
+  pub waiting : List Answer
+  pub split : answers ≡ (told ++ waiting) ++ unsaid
+  pub each : AreAnswers heard answers
+  pub gained : now.talk.seat ≡ with_all start.seat (receipts_in answers)
+  pub out : Appends start.sink.contents now.talk.sink.contents (texts told)
+  pub given : Appends start.sink.given now.talk.sink.given (texts told)
+  pub faults : now.talk.sink.faults ≡ start.sink.faults
+  pub gathered : now.pending.bytes ≡ texts waiting
+  pub begun_is : now.pending.begun ≡ length answers
+  pub out_is : now.pending.out ≡ length told
+  pub called : Called start.seat.who start.calls now.talk.calls (length answers) (length told)
+      left
 
 -- ---- what a call does, whatever was heard before
 
@@ -48,25 +50,27 @@ pub record Talking (start : Talk) (heard : List Line) (unsaid : List Answer) (no
 abbrev pub AreOut : ℕ → ℕ → ℕ → Option (List Call) → Option (List Call) → Type 0
 AreOut who out upto old new =
     (calls : List Call) × Adds old new calls
-    × ((begun : ℕ) → upto ≤ begun
-    → LeadTo who calls (record { begun = begun; out = out }) (record { begun = begun; out = upto }))
+    × ((begun round : ℕ) → upto ≤ begun → round ≤ begun
+    → (round' : ℕ) × (round' ≤ begun)
+    × LeadTo who calls (record { begun = begun; out = out; round = round })
+    (record { begun = begun; out = upto; round = round' }))
 
--- All that was gathered is written.
+-- All that was gathered is written; what is unsaid isn't out.
 abbrev pub IsFlushed : ℕ → ℕ → SinkView → Option (List Call) → PendingView → SinkView
     → Option (List Call) → PendingView → Type 0
 IsFlushed who upto sink calls pending sink' calls' pending' =
     (start : Talk) (heard : List Line) (unsaid : List Answer) (seat : SeatView)
     → start.seat.who ≡ who → upto + length unsaid ≡ pending.begun
-    → Talking start heard unsaid (spot seat sink calls pending)
-    → Talking start heard unsaid (spot seat sink' calls' pending')
+    → Talking start heard unsaid 0 (spot seat sink calls pending)
+    → Talking start heard unsaid (length unsaid) (spot seat sink' calls' pending')
 
 -- What was heard and answered stays so.
 abbrev pub GoesOn : ℕ → SinkView → Option (List Call) → PendingView → SinkView
     → Option (List Call) → PendingView → Type 0
 GoesOn who sink calls pending sink' calls' pending' =
     (start : Talk) (heard : List Line) (seat : SeatView) → start.seat.who ≡ who
-    → Talking start heard [] (spot seat sink calls pending)
-    → Talking start heard [] (spot seat sink' calls' pending')
+    → Talking start heard [] 0 (spot seat sink calls pending)
+    → Talking start heard [] 0 (spot seat sink' calls' pending')
 
 -- A write has failed that was given all that was gathered.
 abbrev pub IsLost : ℕ → SinkView → Option (List Call) → PendingView → SinkView
@@ -74,7 +78,7 @@ abbrev pub IsLost : ℕ → SinkView → Option (List Call) → PendingView → 
 IsLost who sink calls pending sink' calls' =
     (start : Talk) (heard : List Line) (unsaid : List Answer) (seat : SeatView)
     → start.seat.who ≡ who → HasNoRoom pending.bytes unsaid
-    → Talking start heard unsaid (spot seat sink calls pending)
+    → Talking start heard unsaid 0 (spot seat sink calls pending)
     → BreaksOff heard start (record { seat = seat; sink = sink'; calls = calls' })
 
 -- An answer with this text, which was neither gathered nor written before, is so now.
@@ -83,8 +87,8 @@ abbrev pub IsSaid : ℕ → List ℕ → SinkView → Option (List Call) → Pen
 IsSaid who line sink calls pending sink' calls' pending' =
     (start : Talk) (heard : List Line) (seat : SeatView) (answer : Answer)
     → start.seat.who ≡ who → text answer ≡ line
-    → Talking start heard (answer ∷ []) (spot seat sink calls pending)
-    → Talking start heard [] (spot seat sink' calls' pending')
+    → Talking start heard (answer ∷ []) 0 (spot seat sink calls pending)
+    → Talking start heard [] 0 (spot seat sink' calls' pending')
 
 -- A write has failed where an answer with this text was to be gathered or written.
 abbrev pub IsUnsaid : ℕ → List ℕ → SinkView → Option (List Call) → PendingView → SinkView
@@ -92,7 +96,7 @@ abbrev pub IsUnsaid : ℕ → List ℕ → SinkView → Option (List Call) → P
 IsUnsaid who line sink calls pending sink' calls' =
     (start : Talk) (heard : List Line) (seat : SeatView) (answer : Answer)
     → start.seat.who ≡ who → text answer ≡ line
-    → Talking start heard (answer ∷ []) (spot seat sink calls pending)
+    → Talking start heard (answer ∷ []) 0 (spot seat sink calls pending)
     → BreaksOff heard start (record { seat = seat; sink = sink'; calls = calls' })
 
 -- A line was begun: with an answer to it, and the seat that has its receipt, it is heard.
@@ -101,8 +105,8 @@ abbrev pub Begins : ℕ → SinkView → Option (List Call) → PendingView → 
 Begins who sink calls pending sink' calls' pending' =
     (start : Talk) (heard : List Line) (seat after : SeatView) (line : Line) (answer : Answer)
     → start.seat.who ≡ who → IsAnswerTo line answer → after ≡ with_all seat (receipt_in answer)
-    → Talking start heard [] (spot seat sink calls pending)
-    → Talking start (heard ++ line ∷ []) (answer ∷ []) (spot after sink' calls' pending')
+    → Talking start heard [] 0 (spot seat sink calls pending)
+    → Talking start (heard ++ line ∷ []) (answer ∷ []) 0 (spot after sink' calls' pending')
 
 -- A line that was begun has its answer, whose text was gathered or written, or the sink failed.
 pub record Answered {T E : Type 0} (who : ℕ) (line : Line) (seat after : SeatView)
@@ -118,18 +122,18 @@ pub record Answered {T E : Type 0} (who : ℕ) (line : Line) (seat after : SeatV
 -- These lines were heard, and answered.
 abbrev pub HearsMore : List Line → Spot → Spot → Type 0
 HearsMore lines old new = (start : Talk) (heard : List Line) → start.seat.who ≡ old.talk.seat.who
-    → Talking start heard [] old → Talking start (heard ++ lines) [] new
+    → Talking start heard [] 0 old → Talking start (heard ++ lines) [] 0 new
 
 -- A write has failed amid these lines.
 abbrev pub BreaksAmid : List Line → Spot → Talk → Type 0
 BreaksAmid lines old new = (start : Talk) (heard : List Line)
     → start.seat.who ≡ old.talk.seat.who
-    → Talking start heard [] old → BreaksOff (heard ++ lines) start new
+    → Talking start heard [] 0 old → BreaksOff (heard ++ lines) start new
 
 -- These lines were heard and answered, and all answers are written.
 abbrev pub SaysAll : List Line → Spot → Talk → Type 0
 SaysAll lines old new = (start : Talk) (heard : List Line) → start.seat.who ≡ old.talk.seat.who
-    → Talking start heard [] old → Talks (heard ++ lines) start new
+    → Talking start heard [] 0 old → Talks (heard ++ lines) start new
 
 -- What was answered where a session stops amid these lines.
 abbrev pub Stops : Ended → List Line → Spot → Talk → Option (List ℕ) → Type 0
