@@ -39,7 +39,7 @@ pub const MAX_READS: u32 = 16_777_216;
 
 /// Why a session stops amid lines.
 #[derive(Clone, Copy)]
-pub enum Ended {
+pub(crate) enum Ended {
     /// A line is too long.
     LineTooLong,
     /// A write has failed.
