@@ -17,9 +17,13 @@ use std::io::Read;
 use std::net::{Shutdown, TcpStream};
 use std::time::{Clock, Duration, Instant};
 
-// For how many seconds a connection that ends is read at the most, and how many bytes at a time.
-const LAST_SECONDS: u64 = 5;
+/// For how many milliseconds a connection that a thread of its own ends is read at the most.
+pub(crate) const LAST_MILLIS: u64 = 5_000;
 
+// The same of one that the thread ends which accepts, since who comes next waits for it.
+const LAST_MILLIS_UNSERVED: u64 = 200;
+
+// How many bytes are read at a time.
 const LAST_ROOM: usize = 16_384;
 
 /// A connection that has come, and that no thread serves yet. Where it is dropped it is told that
@@ -45,14 +49,14 @@ impl<'a, R: Clock> Caller<'a, R> {
 impl<'a, R: Clock> Drop for Caller<'a, R> {
     fn drop(self) {
         let Caller { rt, stream } = self;
-        turn_away(rt, &stream, &EnterError::NoMemory);
+        turn_away(rt, &stream, &EnterError::NoMemory, LAST_MILLIS_UNSERVED);
     }
 }
 
 /// Ends a connection so that its peer gets all that was written. Were it closed with bytes unread
 /// the system would reset it, and drop what is on its way. So its writing end is shut, and what
-/// comes is read and dropped until the peer ends too, for five seconds at the most.
-pub(crate) fn hang_up<R: Clock>(rt: &R, stream: &TcpStream) {
+/// comes is read and dropped until the peer ends too, for so many milliseconds at the most.
+pub(crate) fn hang_up<R: Clock>(rt: &R, stream: &TcpStream, millis: u64) {
     if stream.shutdown(Shutdown::Write).is_err() {
         return;
     }
@@ -61,18 +65,24 @@ pub(crate) fn hang_up<R: Clock>(rt: &R, stream: &TcpStream) {
     };
     let mut room = [0; LAST_ROOM];
     for _read in 0..u64::MAX {
-        if !goes_on(rt, start, stream, &mut room) {
+        if !goes_on(rt, start, millis, stream, &mut room) {
             return;
         }
     }
 }
 
 // Waits for what comes next, and drops it. Whether something has come, and the time isn't over.
-fn goes_on<R: Clock>(rt: &R, start: Instant, stream: &TcpStream, room: &mut [u8]) -> bool {
+fn goes_on<R: Clock>(
+    rt: &R,
+    start: Instant,
+    millis: u64,
+    stream: &TcpStream,
+    room: &mut [u8],
+) -> bool {
     let Ok(spent) = start.elapsed(rt) else {
         return false;
     };
-    let Some(left) = Duration::from_secs(LAST_SECONDS).checked_sub(spent) else {
+    let Some(left) = Duration::from_millis(millis).checked_sub(spent) else {
         return false;
     };
     if stream.set_read_timeout(Some(left)).is_err() {
@@ -85,10 +95,10 @@ fn goes_on<R: Clock>(rt: &R, start: Instant, stream: &TcpStream, room: &mut [u8]
     }
 }
 
-/// Tells a connection why it isn't let in, and ends it.
-pub(crate) fn turn_away<R: Clock>(rt: &R, stream: &TcpStream, error: &EnterError) {
+/// Tells a connection why it isn't let in, and ends it, as `hang_up` does.
+pub(crate) fn turn_away<R: Clock>(rt: &R, stream: &TcpStream, error: &EnterError, millis: u64) {
     let _ = tell(&mut Over::new(stream), error);
-    hang_up(rt, stream);
+    hang_up(rt, stream, millis);
 }
 
 // The refusal that says why a session isn't let in.

@@ -4,7 +4,7 @@ ghost use Rattle.std.specs.Prelude.{◌≡◌, ◌+◌, ◌-◌, ◌^◌, ◌⊎
 ghost use Rattle.rd_hall.specs.Seats.{Joined};
 ghost use Rattle.rd_net.specs.Attending.{AttendedOver};
 
-use crate::caller::{Caller, hang_up, turn_away};
+use crate::caller::{Caller, LAST_MILLIS, hang_up, turn_away};
 use crate::crew::Crew;
 use crate::table::{Table, Visit};
 use rd_desk::desk::EnterError;
@@ -190,17 +190,17 @@ fn visit<L: Setup, R: Wait + Clock, G: Gate + Copy>(
     let seat = match hall.join(rt, pass) {
         Ok(seat) => seat,
         Err((_pass, error)) => {
-            turn_away(rt, stream, &error);
+            turn_away(rt, stream, &error, LAST_MILLIS);
             return Visit::Refused;
         }
     };
     let Ok(mut buffers) = Buffers::new(alloc) else {
         let gone = hall.leave(rt, seat);
-        turn_away(rt, stream, &EnterError::NoMemory);
+        turn_away(rt, stream, &EnterError::NoMemory, LAST_MILLIS);
         return Visit::Unserved { gone };
     };
     let gone = attend(rt, stream, hall, seat, gate, &mut buffers);
-    hang_up(rt, stream);
+    hang_up(rt, stream, LAST_MILLIS);
     Visit::Served { gone }
 }
 
