@@ -1,10 +1,11 @@
 -- Refusals for want of room in the history.
-use Rattle.std.specs.Prelude.{Bool, true, false, length, ⊤, Result, Ok, Err}
+use Rattle.std.specs.Prelude.{◌≡◌, ◌+◌, ◌<◌, ◌≤◌, Bool, true, false, length, ⊤, Result, Ok, Err}
 use Rattle.rd_desk.specs.declared.desk.EnterError.{EnterError}
 use Rattle.rd_desk.specs.declared.desk.EnterError.TheVariants as enter
 use Rattle.rd_desk.specs.declared.desk.NotServed.{NotServed}
 use Rattle.rd_desk.specs.declared.desk.NotServed.TheVariants as serve
-use Rattle.rd_desk.specs.DeskView.{DeskView}
+use Rattle.rd_desk.specs.declared.sessions.TheConstants.{MAX_JOINS}
+use Rattle.rd_desk.specs.DeskView.{DeskView, used}
 use Rattle.rd_desk.specs.Sessions.{present_count}
 use Rattle.rd_desk.specs.TallyView.{TallyView}
 
@@ -15,6 +16,22 @@ tally_of d = record {
   present = present_count d.debugger.sessions;
   limit = d.most_entries;
 }
+
+-- One session more may enter: not as many have as may, and two places of the history are free, for
+-- its entering and for its departure.
+pub record LetsIn (d : DeskView) : Type 0 where
+  pub joins : length d.debugger.sessions < MAX_JOINS
+  pub free : used d + 2 ≤ d.most_entries
+
+-- Why the desk lets nobody in: as many have entered as may; or else fewer than two places of the
+-- history are free; or else there is no memory, and one more might enter but for that.
+abbrev pub KeepsOut : DeskView → EnterError → Type 0
+KeepsOut d enter.Full = length d.debugger.sessions ≡ MAX_JOINS
+KeepsOut d (enter.HistoryFull tally) =
+    (tally ≡ tally_of d)
+    × (length d.debugger.sessions < MAX_JOINS)
+    × (d.most_entries < used d + 2)
+KeepsOut d enter.NoMemory = LetsIn d
 
 -- what is known of the tally of a refusal, if it has one
 abbrev pub IfEnterFull : EnterError → (TallyView → Type 0) → Type 0

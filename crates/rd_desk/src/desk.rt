@@ -13,7 +13,7 @@ ghost use Rattle.rd_desk.specs.Memory.{MayLackMemory, TakesAtMost};
 ghost use Rattle.rd_desk.specs.Rows.{HasNoLess};
 ghost use Rattle.rd_desk.specs.Serving.{entered};
 ghost use Rattle.rd_desk.specs.Refusals.{tally_of, IfEnterFull, IfServeFull, is_enter_full};
-ghost use Rattle.rd_desk.specs.Refusals.{is_serve_full};
+ghost use Rattle.rd_desk.specs.Refusals.{is_serve_full, KeepsOut, LetsIn};
 ghost use Rattle.rd_desk.specs.Sessions.{IsPresent, present_count, watch_count};
 
 use crate::asked::Asked;
@@ -265,6 +265,24 @@ impl Desk {
         Tally::new(self.history.len(), self.machine.present(), self.limit)
     }
 
+    /// Whether one session more may enter: `Full` where 64 have entered, else `HistoryFull` where
+    /// fewer than two places are free.
+    pub fn may_enter(&self) -> Result<(), EnterError>
+        ensures ok { OnOk result (LetsIn self.now.desk) }
+        ensures err { IfErr result (KeepsOut self.now.desk) }
+        ensures refusals { IfErr result (λ error. error ≢ EnterError.NoMemory) }
+    {
+        if self.machine.joins() == MAX_JOINS {
+            return Err(EnterError::Full);
+        }
+        if self.free() < 2 {
+            return Err(EnterError::HistoryFull {
+                tally: self.tally(),
+            });
+        }
+        Ok(())
+    }
+
     /// A session enters, and gets the next number, from 1 on. `Full` where 64 have entered, else
     /// `HistoryFull` where fewer than two places are free, else `NoMemory` where a growth was
     /// refused, which is only where the history had no room for its entry and its departure, beside
@@ -279,6 +297,7 @@ impl Desk {
             ↔ ((length self.old.desk.debugger.sessions < MAX_JOINS)
             × (self.old.desk.most_entries < used self.old.desk + 2)) }
         ensures room { OnOk result (used self.old.desk + 2 ≤ self.old.desk.most_entries) }
+        ensures refused { IfErr result (KeepsOut self.old.desk) }
         ensures tally { IfErr result (λ error. IfEnterFull error (λ tally.
             (tally ≡ tally_of self.old.desk)
             × (tally.limit < tally.entries + tally.present + 2))) }
@@ -288,14 +307,7 @@ impl Desk {
         ensures taken { OnOk result (TakesAtMost 1 0 self.old self.new) }
         ensures not_taken { OnErr result (TakesAtMost 0 0 self.old self.new) }
     {
-        if self.machine.joins() == MAX_JOINS {
-            return Err(EnterError::Full);
-        }
-        if self.free() < 2 {
-            return Err(EnterError::HistoryFull {
-                tally: self.tally(),
-            });
-        }
+        self.may_enter()?;
         let room = self.machine.present() + 2;
         match self.history.make_room(room, 0) {
             Ok(()) => Ok(admit(&mut self.machine, &mut self.history)),
@@ -328,6 +340,8 @@ impl Desk {
             (tally ≡ tally_of self.old.desk) × (tally.limit ≡ tally.entries + tally.present))) }
         ensures no_memory { IsErrOf result NotServed.NoMemory
             → MayLackMemory self.old who order.now.line order.now.command }
+        ensures free { IsErrOf result NotServed.NoMemory
+            → used self.old.desk < self.old.desk.most_entries }
         ensures not_broken { IfErr result (λ error. error ≢ NotServed.Broken) }
         ensures err { OnErr result (self.new.desk ≡ self.old.desk) }
         ensures taken { IfOk result (λ receipt. TakesAtMost 1

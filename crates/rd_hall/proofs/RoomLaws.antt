@@ -1,5 +1,5 @@
 -- What an event leaves of a debugger as it was, and what is known at its end.
-use Rattle.std.proofs.Common.{◌≡◌, ◌∙◌, ℕ, ◌+◌, ◌≤◌, List, [], ◌∷◌, ◌++◌, length, map, ap, subst, sym}
+use Rattle.std.proofs.Common.{◌≡◌, ◌∙◌, ℕ, ◌+◌, ◌<◌, ◌≤◌, List, [], ◌∷◌, ◌++◌, length, map, ap, subst, sym}
 use Rattle.std.specs.Prelude.{Result, Ok, Err, IfOk, OnErr}
 use Rattle.std.proofs.lemmas.List.{length_push}
 use Rattle.rd_names.specs.Apps.{AppView}
@@ -8,7 +8,7 @@ use Rattle.rd_desk.specs.declared.entry.Noted.{Noted}
 use Rattle.rd_desk.specs.declared.entry.Receipt.{Receipt}
 use Rattle.rd_desk.specs.Rows.{receipt_of}
 use Rattle.rd_desk.specs.Debugger.{Debugger, opening}
-use Rattle.rd_desk.specs.DeskView.{DeskView, Does, IsKept}
+use Rattle.rd_desk.specs.DeskView.{DeskView, Does, IsKept, used}
 use Rattle.rd_desk.specs.Legal.{IsLegal, Leads}
 use Rattle.rd_desk.proofs.Offered.{same_served}
 use Rattle.rd_hall.specs.Account.{ClosedView}
@@ -44,8 +44,8 @@ found_so seen now app moves entries share same kept set_up backed =
 pub serves_seat : (seat : SeatView) (who : ℕ) (noted longer : List Noted) (share counted : ℕ) (receipt : Receipt) (event asked : Event) (app : AppView) (moves entries : ℕ)
     → seat_of who noted share ≡ seat → event ≡ asked
     → longer ≡ noted ++ record { number = receipt.place; event = receipt.entry.event; reply = receipt.entry.reply } ∷ [] → receipt.entry.who ≡ who
-    → counted ≡ share + 1 → Finds app moves entries share (λ d. (new : DeskView) × Does d who event new receipt)
-    → Finds app moves entries seat.share (λ d. Serves d seat asked (seat_of who longer counted))
+    → counted ≡ share + 1 → Finds app moves entries share (λ d. (used d < d.most_entries) × (new : DeskView) × Does d who event new receipt)
+    → Finds app moves entries seat.share (λ d. (used d < d.most_entries) × Serves d seat asked (seat_of who longer counted))
 serves_seat seat who noted longer share counted receipt event asked app moves entries seen same is by one found =
     let last : Noted = record { number = receipt.place; event = receipt.entry.event; reply = receipt.entry.reply } in
     let own : receipt_of who last ≡ receipt =
@@ -54,9 +54,9 @@ serves_seat seat who noted longer share counted receipt event asked app moves en
     let after : seat_of who longer counted ≡ with_receipt (seat_of who noted share) receipt =
     ap (λ (receipts : List Receipt). record { who = who; receipts = receipts; share = counted }) receipts
     ∙ ap (λ (share : ℕ). record { who = who; receipts = map (receipt_of who) noted ++ receipt ∷ []; share = share }) one in
-    let does : Does found.0 who asked found.2.0 receipt = subst (λ (event : Event). Does found.0 who event found.2.0 receipt) same found.2.1 in
-    subst (λ (seat : SeatView). Finds app moves entries seat.share (λ d. Serves d seat asked (seat_of who longer counted))) seen
-    (found.0, found.1, (found.2.0, (receipt, does, after)))
+    let does : Does found.0 who asked found.2.1 receipt = subst (λ (event : Event). Does found.0 who event found.2.1 receipt) same found.2.2 in
+    subst (λ (seat : SeatView). Finds app moves entries seat.share (λ d. (used d < d.most_entries) × Serves d seat asked (seat_of who longer counted))) seen
+    (found.0, found.1, (found.2.0, (found.2.1, (receipt, does, after))))
 
 -- a seat that keeps what it kept
 pub seat_stays : (who : ℕ) (noted kept : List Noted) (share counted : ℕ) (seat : SeatView) → seat_of who noted share ≡ seat → kept ≡ noted → counted ≡ share

@@ -1,23 +1,30 @@
 -- What a call does to a room and to a seat.
-use Rattle.std.specs.Prelude.{ℕ, ◌≡◌, ◌+◌, ◌<◌, ◌≤◌, ◌⊎◌, ⊤, [], ◌∷◌, length}
+use Rattle.std.specs.Prelude.{ℕ, ◌≡◌, ◌+◌, ◌<◌, ◌≤◌, ◌⊎◌, List, [], ◌∷◌, length}
 use Rattle.rd_names.specs.Apps.{AppView}
-use Rattle.rd_desk.specs.declared.desk.EnterError.{EnterError}
-use Rattle.rd_desk.specs.declared.desk.EnterError.TheVariants as enter
+use Rattle.rd_command.specs.Commands.{CommandView}
 use Rattle.rd_desk.specs.declared.desk.NotServed.{NotServed}
 use Rattle.rd_desk.specs.declared.desk.NotServed.TheVariants as serve
 use Rattle.rd_desk.specs.declared.entry.Event.{Event}
 use Rattle.rd_desk.specs.declared.entry.Event.TheVariants.{Enter, Leave}
 use Rattle.rd_desk.specs.declared.entry.Receipt.{Receipt}
-use Rattle.rd_desk.specs.declared.sessions.TheConstants.{MAX_JOINS}
 use Rattle.rd_desk.specs.DeskView.{used, DeskView, Does, IsKept}
+use Rattle.rd_desk.specs.Memory.{MayLackMemory}
 use Rattle.rd_desk.specs.Refusals.{tally_of}
 use Rattle.rd_desk.specs.Sessions.{IsPresent}
-use Rattle.rd_hall.specs.SeatView.{SeatView, next_place, with_receipt}
+use Rattle.rd_hall.specs.SeatView.{RoomedSeat, SeatView, next_place, with_receipt}
 
--- what a contract sees of a room: the desk, and the total of the ledger
+-- what a contract sees of a room: the desk, the total of the ledger, for how many entries more the
+-- history has room, and for how many bytes of theirs
 pub record RoomView : Type 0 where
   pub desk : DeskView
   pub total : ℕ
+  pub row_room : ℕ
+  pub byte_room : ℕ
+
+-- The desk stands there as it did, and the ledger has the same total.
+pub record IsUnchanged (old new : RoomView) : Type 0 where
+  pub desk : new.desk ≡ old.desk
+  pub total : new.total ≡ old.total
 
 -- The debugger is of this application, and no more moves may be done and no more entries be made.
 pub record IsOf (d : DeskView) (used_app : AppView) (moves entries : ℕ) : Type 0 where
@@ -33,6 +40,23 @@ pub record ReachesTo (d : DeskView) (who place : ℕ) : Type 0 where
 -- The history reaches past the seat's last receipt, and its session is present.
 abbrev pub Reaches : DeskView → SeatView → Type 0
 Reaches d seat = ReachesTo d seat.who (next_place 0 seat.receipts)
+
+-- There is room for fewer receipts, or for fewer bytes, than those of a command with this line, and
+-- of the leave.
+abbrev pub LacksRoomFor : ℕ → ℕ → List ℕ → Type 0
+LacksRoomFor rows bytes line = (rows < 2) ⊎ (bytes < length line)
+
+-- Where a session has room for so many receipts and bytes, a command of its may be refused for want
+-- of memory: that isn't enough, or else a place is free, and the desk may lack memory.
+abbrev pub MayBeShort : RoomView → ℕ → ℕ → ℕ → List ℕ → CommandView → Type 0
+MayBeShort room who rows bytes line command =
+    LacksRoomFor rows bytes line
+    ⊎ ((used room.desk < room.desk.most_entries)
+    × MayLackMemory (record {
+      desk = room.desk;
+      row_room = room.row_room;
+      byte_room = room.byte_room;
+    }) who line command)
 
 -- the seat of who enters next, without receipts yet
 abbrev pub newcomer : DeskView → SeatView
@@ -81,23 +105,16 @@ Finds used_app moves entries share P =
 abbrev pub Serves : DeskView → SeatView → Event → SeatView → Type 0
 Serves old seat event after = (new : DeskView) × DoesFor old seat event new after
 
--- Why the desk lets nobody in: as many have entered as may, or else fewer than two places of the
--- history are free. For want of memory nothing can be seen.
-abbrev pub KeepsOut : DeskView → EnterError → Type 0
-KeepsOut d enter.Full = length d.debugger.sessions ≡ MAX_JOINS
-KeepsOut d (enter.HistoryFull tally) =
-    (tally ≡ tally_of d)
-    × (length d.debugger.sessions < MAX_JOINS)
-    × (d.most_entries < used d + 2)
-KeepsOut d enter.NoMemory = ⊤
-
--- Why the desk serves no command of the seat: it isn't the seat's own, or else no place of the
--- history is free. For want of memory nothing more can be seen.
-abbrev pub TurnsAway : DeskView → SeatView → NotServed → Type 0
-TurnsAway d seat (serve.HistoryFull tally) =
-    Reaches d seat × (tally ≡ tally_of d) × (d.most_entries ≡ used d)
-TurnsAway d seat serve.NoMemory = Reaches d seat
-TurnsAway d seat serve.Broken = ¬ Reaches d seat
+-- Why no command with this line is served for the seat, which has room as it is left: the desk
+-- isn't the seat's own; or else there is no memory for the seat; or else no place of the history is
+-- free; or else there is no memory, and one is.
+abbrev pub TurnsAway : DeskView → RoomedSeat → List ℕ → NotServed → Type 0
+TurnsAway d seat line (serve.HistoryFull tally) =
+    Reaches d seat.session × (tally ≡ tally_of d) × (d.most_entries ≡ used d)
+TurnsAway d seat line serve.NoMemory =
+    Reaches d seat.session
+    × (LacksRoomFor seat.room seat.byte_room line ⊎ (used d < d.most_entries))
+TurnsAway d seat line serve.Broken = ¬ Reaches d seat.session
 
 -- The seat's session left, and has the receipt of that; or the desk isn't the seat's own, and it
 -- has none.

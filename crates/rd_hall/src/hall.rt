@@ -1,14 +1,15 @@
 //! One debugger behind one lock.
 
-ghost use Rattle.std.specs.Prelude.{◌≡◌, ◌+◌, ◌<◌, ◌⊎◌, IfOk, IfErr, OnOk, OnErr, vec_len};
+ghost use Rattle.std.specs.Prelude.{◌≡◌, ◌+◌, ◌<◌, ◌≤◌, ◌⊎◌, IfOk, IfErr, OnOk, OnErr, vec_len};
 ghost use Rattle.rd_command.specs.Bindings.{known_of};
 ghost use Rattle.rd_desk.specs.Debugger.{Debugger, opening};
 ghost use Rattle.rd_desk.specs.Legal.{Leads};
-ghost use Rattle.rd_desk.specs.Refusals.{IfEnterFull, IfServeFull};
+ghost use Rattle.rd_desk.specs.DeskView.{used};
+ghost use Rattle.rd_desk.specs.Refusals.{IfEnterFull, IfServeFull, KeepsOut, LetsIn};
 ghost use Rattle.rd_desk.specs.declared.entry.Event.TheVariants.{Enter, Ask, Leave};
 ghost use Rattle.rd_desk.specs.declared.sessions.TheConstants.{MAX_JOINS};
 ghost use Rattle.rd_hall.specs.Account.{IsAccounted};
-ghost use Rattle.rd_hall.specs.Seats.{Finds, Gained, Joined, KeepsOut, LetsGo, Serves, TurnsAway};
+ghost use Rattle.rd_hall.specs.Seats.{Finds, Gained, Joined, LetsGo, Serves, TurnsAway};
 ghost use Rattle.rd_hall.specs.Seats.{newcomer};
 
 use crate::account::{Broken, Closed};
@@ -125,8 +126,8 @@ impl<L: Setup> Hall<L> {
     }
 
     /// A session joins, under the lock: it has the receipt of that. `Full` where 64 have joined,
-    /// `HistoryFull` where fewer than two places of the history are free, `NoMemory` where a growth
-    /// was refused. A refusal gives the pass back.
+    /// else `HistoryFull` where fewer than two places of the history are free, else `NoMemory`
+    /// where a growth was refused. A refusal gives the pass back.
     pub fn join(&self, rt: &impl Wait, pass: Pass<L>) -> Result<Seat<L>, (Pass<L>, EnterError)>
         ensures ok { IfOk result (λ seat. Joined seat.session) }
         ensures tally { IfErr result (λ error. IfEnterFull error.1 (λ tally.
@@ -134,7 +135,7 @@ impl<L: Setup> Hall<L> {
             × (tally.limit < tally.entries + tally.present + 2))) }
         ensures entered { IfOk result (λ seat.
             Finds L.app L.most_moves L.most_entries 0 (λ d.
-            Serves d (newcomer d) Enter seat.session)) }
+            LetsIn d × Serves d (newcomer d) Enter seat.session)) }
         ensures refused { IfErr result (λ error.
             Finds L.app L.most_moves L.most_entries 0 (λ d. KeepsOut d error.1)) }
     {
@@ -144,9 +145,10 @@ impl<L: Setup> Hall<L> {
     }
 
     /// Serves a command, under the lock; what it names was looked up before, in the application of
-    /// this hall. The seat has one receipt more, which is its last. `HistoryFull` where no place of
-    /// the history is free, `NoMemory` where a growth was refused, `Broken` where the history isn't
-    /// the seat's own. A refusal leaves the seat as it was.
+    /// this hall. The seat has one receipt more, which is its last. `Broken` where the history
+    /// isn't the seat's own, else `NoMemory` where there is no memory for its receipt, else
+    /// `HistoryFull` where no place of the history is free, else `NoMemory` where another growth
+    /// was refused. A refusal leaves the seat as it was, with no less room.
     pub fn serve(
         &self,
         rt: &impl Wait,
@@ -160,22 +162,25 @@ impl<L: Setup> Hall<L> {
             (tally.limit ≡ L.most_entries)
             × (tally.limit ≡ tally.entries + tally.present))) }
         ensures err { OnErr result (seat.new.session ≡ seat.old.session) }
+        ensures room_kept { OnErr result (seat.old.room ≤ seat.new.room) }
+        ensures bytes_kept { OnErr result (seat.old.byte_room ≤ seat.new.byte_room) }
         ensures served { OnOk result
             (Finds L.app L.most_moves L.most_entries seat.old.session.share (λ d.
-            Serves d seat.old.session (Ask order.now.command) seat.new.session)) }
+            (used d < d.most_entries)
+            × Serves d seat.old.session (Ask order.now.command) seat.new.session)) }
         ensures refused { IfErr result (λ error.
             Finds L.app L.most_moves L.most_entries seat.old.session.share (λ d.
-            TurnsAway d seat.old.session error)) }
+            TurnsAway d seat.new order.now.line error)) }
     {
-        // The seat grows before the lock. Whether it has the room then is seen under it, where it
-        // is known whether the history is the seat's own.
-        let _ = seat.make_room(order.line().len());
+        // The seat grows before the lock. That there was no memory for it is said under it, where
+        // it is known whether the history is the seat's own.
+        let made = seat.make_room(order.line().len());
         let (who, next) = (seat.who, seat.next);
         let receipt = {
             let mut room = self.enter(rt);
             room.keeps();
             room.backs(&mut seat.share);
-            room.serve(who, next, &mut seat.share, &mut seat.receipts, order)?
+            room.serve(who, next, &mut seat.share, &mut seat.receipts, made, order)?
         };
         // Nobody else sees what a seat keeps, so its receipt is put there behind the lock.
         put_receipt(
@@ -202,12 +207,15 @@ impl<L: Setup> Hall<L> {
             (tally.limit ≡ L.most_entries)
             × (tally.limit ≡ tally.entries + tally.present))) }
         ensures err { OnErr result.1 (result.0.session ≡ seat.session) }
+        ensures room_kept { OnErr result.1 (seat.room ≤ result.0.room) }
+        ensures bytes_kept { OnErr result.1 (seat.byte_room ≤ result.0.byte_room) }
         ensures served { OnOk result.1
             (Finds L.app L.most_moves L.most_entries seat.session.share (λ d.
-            Serves d seat.session (Ask order.now.command) result.0.session)) }
+            (used d < d.most_entries)
+            × Serves d seat.session (Ask order.now.command) result.0.session)) }
         ensures refused { IfErr result.1 (λ error.
             Finds L.app L.most_moves L.most_entries seat.session.share (λ d.
-            TurnsAway d seat.session error)) }
+            TurnsAway d result.0 order.now.line error)) }
     {
         let mut seat = seat;
         let served = self.serve(rt, &mut seat, order);

@@ -1,6 +1,6 @@
 //! A debugger, and the ledger of the receipts that it has given.
 
-ghost use Rattle.std.specs.Prelude.{◌≡◌, ◌≢◌, ◌↔◌, ◌+◌, ◌<◌, ◌≤◌, [], length, vec_len};
+ghost use Rattle.std.specs.Prelude.{◌≡◌, ◌↔◌, ◌+◌, ◌<◌, ◌≤◌, [], length, vec_len};
 ghost use Rattle.std.specs.Prelude.{Ok, IfOk, IfErr, OnOk, OnErr, IsTrue, IsOk, IsErrOf};
 ghost use Rattle.rd_command.specs.Bindings.{known_of};
 ghost use Rattle.rd_desk.specs.Debugger.{opening};
@@ -9,12 +9,14 @@ ghost use Rattle.rd_desk.specs.HistoryView.{reply_bytes};
 ghost use Rattle.rd_desk.specs.Kept.{IsNarrow, IsShort};
 ghost use Rattle.rd_desk.specs.Legal.{IsLegal};
 ghost use Rattle.rd_desk.specs.Refusals.{tally_of, IfEnterFull, IfServeFull, is_serve_full};
+ghost use Rattle.rd_desk.specs.Refusals.{KeepsOut, LetsIn};
 ghost use Rattle.rd_desk.specs.declared.entry.Event.TheVariants.{Enter, Ask, Leave};
 ghost use Rattle.rd_desk.specs.declared.sessions.TheConstants.{MAX_JOINS};
 ghost use Rattle.rd_timeline.specs.History.{state_after};
 ghost use Rattle.rd_hall.specs.Account.{IsAccount, IsAccounted};
 ghost use Rattle.rd_hall.specs.Looks.{look_of};
 ghost use Rattle.rd_hall.specs.Seats.{newcomer, DoesFor, IsOf, LetsGo, Reaches, ReachesTo};
+ghost use Rattle.rd_hall.specs.Seats.{IsUnchanged, LacksRoomFor, MayBeShort};
 
 use crate::account::{Broken, Closed, is_account};
 use crate::look::Look;
@@ -49,7 +51,12 @@ impl<L: Setup> Model for Room<L> {
 
     ghost Value = { RoomView };
 
-    ghost view = { λ r. record { desk = r.desk.desk; total = r.book.total } };
+    ghost view = { λ r. record {
+      desk = r.desk.desk;
+      total = r.book.total;
+      row_room = r.desk.row_room;
+      byte_room = r.desk.byte_room;
+    } };
 
     ghost invariant = { λ r. (length r.desk.desk.history ≡ r.book.total)
         × IsOf r.desk.desk L.app L.most_moves L.most_entries
@@ -139,24 +146,23 @@ impl<L: Setup> Room<L> {
         }
     }
 
-    /// A session joins: it enters the debugger, and gets the receipt of that. `NoMemory` where
-    /// there is no memory for its receipts, else `Full` where 64 have entered, else `HistoryFull`
-    /// where fewer than two places are free, else `NoMemory` where the debugger has none. A refusal
-    /// changes nothing, and gives the pass back.
+    /// A session joins: it enters the debugger, and gets the receipt of that. `Full` where 64 have
+    /// entered, else `HistoryFull` where fewer than two places are free, else `NoMemory` where a
+    /// growth was refused: for its receipts, or in the debugger. A refusal changes nothing, and
+    /// gives the pass back.
     pub fn join(&mut self, pass: Pass<L>) -> Result<Seat<L>, (Pass<L>, EnterError)>
         ensures ok { IfOk result (λ seat. DoesFor self.old.desk (newcomer self.old.desk) Enter
             self.new.desk seat.session) }
-        ensures not_full { OnOk result
-            (length self.old.desk.debugger.sessions ≢ MAX_JOINS) }
-        ensures room { OnOk result (used self.old.desk + 2 ≤ self.old.desk.most_entries) }
-        ensures full { IfErr result (λ error. error.1 ≡ EnterError.Full
-            → length self.old.desk.debugger.sessions ≡ MAX_JOINS) }
+        ensures let_in { OnOk result (LetsIn self.old.desk) }
+        ensures refused { IfErr result (λ error. KeepsOut self.old.desk error.1) }
         ensures tally { IfErr result (λ error. IfEnterFull error.1 (λ tally.
             (tally ≡ tally_of self.old.desk)
-            × (length self.old.desk.debugger.sessions < MAX_JOINS)
             × (tally.limit < tally.entries + tally.present + 2))) }
-        ensures err { OnErr result (self.new ≡ self.old) }
+        ensures err { OnErr result (IsUnchanged self.old self.new) }
     {
+        if let Err(error) = self.desk.may_enter() {
+            return Err((pass, error));
+        }
         let mut receipts = Rows::new(self.alloc);
         let Ok(()) = receipts.make_room(2, 0) else {
             return Err((pass, EnterError::NoMemory));
@@ -214,18 +220,23 @@ impl<L: Setup> Room<L> {
             × (self.old.desk.most_entries ≡ used self.old.desk)
             × (2 ≤ seat.old.room)
             × (length order.now.line ≤ seat.old.byte_room)) }
+        ensures no_memory { IsErrOf result NotServed.NoMemory
+            → Reaches self.old.desk seat.old.session
+            × MayBeShort self.old seat.old.session.who seat.new.room seat.new.byte_room
+            order.now.line order.now.command }
         ensures room { OnOk result (used self.old.desk < self.old.desk.most_entries) }
         ensures tally { IfErr result (λ error. IfServeFull error (λ tally.
             (tally ≡ tally_of self.old.desk)
             × (tally.limit ≡ tally.entries + tally.present))) }
         ensures err { OnErr result
-            ((self.new ≡ self.old) × (seat.new.session ≡ seat.old.session)) }
+            (IsUnchanged self.old self.new × (seat.new.session ≡ seat.old.session)) }
         ensures room_kept { OnErr result (seat.old.room ≤ seat.new.room) }
         ensures bytes_kept { OnErr result (seat.old.byte_room ≤ seat.new.byte_room) }
         ensures room_taken { OnOk result (seat.old.room ≤ seat.new.room + 1) }
     {
         let (who, next) = (seat.who, seat.next);
-        let receipt = self.serve(who, next, &mut seat.share, &mut seat.receipts, order)?;
+        let made = seat.room_for(order.line().len());
+        let receipt = self.serve(who, next, &mut seat.share, &mut seat.receipts, made, order)?;
         put_receipt(
             &mut seat.receipts,
             &mut seat.last,
@@ -237,22 +248,28 @@ impl<L: Setup> Room<L> {
     }
 
     /// Serves a command of a session, which was bound for the application; the share counts its
-    /// receipt, which is yet to be put behind the others of the session. `Broken` where the history
-    /// doesn't reach past the last of these, or the session isn't present, else `NoMemory` where
-    /// there is no room for two more receipts, this and that of its leave, or for the line of this
-    /// one, else `HistoryFull` where no place is free, else `NoMemory` where the debugger has none,
-    /// or the session none for the text of a view. A refusal changes nothing. It takes no memory
-    /// beside that of the debugger and of a view's text.
+    /// receipt, which is yet to be put behind the others of the session. Whether room was made for
+    /// two receipts, this and that of its leave, and for the line of this one, is known before.
+    /// `Broken` where the history doesn't reach past the last of the others, or the session isn't
+    /// present, else `NoMemory` where that room couldn't be made, else `HistoryFull` where no place
+    /// is free, else `NoMemory` where the debugger has none, or the session none for the text of a
+    /// view. A refusal changes nothing. It takes no memory beside that of the debugger and of a
+    /// view's text.
     pub(crate) fn serve(
         &mut self,
         who: u32,
         next: usize,
         share: &mut Share<L>,
         receipts: &mut Rows,
+        made: Result<(), NoMemory>,
         order: &Order<'_, '_>,
     ) -> Result<Receipt, NotServed>
         requires application { order.now.known ≡ known_of L.app }
         requires part { 0 < share.old.parts }
+        requires rows_made { OnOk made (2 ≤ receipts.old.row_room) }
+        requires bytes_made { OnOk made (length order.now.line ≤ receipts.old.byte_room) }
+        requires not_made { OnErr made
+            (LacksRoomFor receipts.old.row_room receipts.old.byte_room order.now.line) }
         ensures ok { IfOk result (Does self.old.desk who (Ask order.now.command) self.new.desk) }
         ensures who { IfOk result (λ receipt. receipt.entry.who ≡ who) }
         ensures event { IfOk result (λ receipt. receipt.entry.event ≡ Ask order.now.command) }
@@ -266,11 +283,15 @@ impl<L: Setup> Room<L> {
             × (self.old.desk.most_entries ≡ used self.old.desk)
             × (2 ≤ receipts.old.row_room)
             × (length order.now.line ≤ receipts.old.byte_room)) }
+        ensures no_memory { IsErrOf result NotServed.NoMemory
+            → ReachesTo self.old.desk who next
+            × MayBeShort self.old who receipts.new.row_room receipts.new.byte_room
+            order.now.line order.now.command }
         ensures room { OnOk result (used self.old.desk < self.old.desk.most_entries) }
         ensures tally { IfErr result (λ error. IfServeFull error (λ tally.
             (tally ≡ tally_of self.old.desk)
             × (tally.limit ≡ tally.entries + tally.present))) }
-        ensures err { OnErr result (self.new ≡ self.old) }
+        ensures err { OnErr result (IsUnchanged self.old self.new) }
         ensures amount { OnOk result (share.new.amount ≡ share.old.amount + 1) }
         ensures no_amount { OnErr result (share.new.amount ≡ share.old.amount) }
         ensures parts { share.new.parts ≡ share.old.parts }
@@ -285,9 +306,7 @@ impl<L: Setup> Room<L> {
         if !self.reaches(who, next) {
             return Err(NotServed::Broken);
         }
-        if !receipts.has_room(2, order.line().len()) {
-            return Err(NotServed::NoMemory);
-        }
+        made?;
         let receipt = self.desk.serve(who, order, receipts)?;
         self.book.add(share, 1);
         Ok(receipt)

@@ -166,6 +166,19 @@ impl<L: Setup> Seat<L> {
         self.receipts.make_room(2, bytes)
     }
 
+    // Whether there is that room.
+    pub(crate) fn room_for(&self, bytes: usize) -> Result<(), NoMemory>
+        ensures room { OnOk result (2 ≤ self.now.room) }
+        ensures bytes { OnOk result (bytes ≤ self.now.byte_room) }
+        ensures short { OnErr result ((self.now.room < 2) ⊎ (self.now.byte_room < bytes)) }
+    {
+        if self.receipts.has_room(2, bytes) {
+            Ok(())
+        } else {
+            Err(NoMemory)
+        }
+    }
+
     // The session as one that has left, without a receipt of that.
     pub(crate) fn gone(self) -> Gone<L>
         ensures { result ≡ self.session }

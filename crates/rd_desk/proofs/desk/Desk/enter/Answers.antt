@@ -22,9 +22,11 @@ invariant_of-self c =
     let joined = length_push d.machine.sessions in
     let seen = ap (λ (v : RoomedDesk). used v.desk) c.self.view_is in
     let limit = ap (λ (v : RoomedDesk). v.desk.most_entries) c.self.view_is in
+    let before = ap (λ (v : RoomedDesk). length v.desk.debugger.sessions) c.self.view_is in
+    let may = c.in_ok-may_enter.ensures.ok in
     record {
       legal = legal_push d.machine d.history.entries who Enter c.admit.new.machine c.admit.new.history.entries whole.legal refl c.admit.ensures.machine entries;
-      within = omega (arith, longer, one_more, c.admit.ensures.present, seen, limit, c.free.ensures);
-      joins = omega (arith, one_joined, joined, whole.joins);
+      within = omega (arith, longer, one_more, c.admit.ensures.present, seen, limit, may.free);
+      joins = omega (arith, one_joined, joined, before, may.joins);
       room = omega (arith, c.admit.ensures.present, c.admit.ensures.room, c.in-Ok.ensures.ok_rows, whole.room);
     }

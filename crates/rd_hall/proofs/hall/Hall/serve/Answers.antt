@@ -1,8 +1,8 @@
 -- The goals of serve that the check left open.
-use Rattle.std.proofs.Common.{◌∙◌, ap, arith, map, refl, rules}
+use Rattle.std.proofs.Common.{◌∙◌, ◌<◌, ap, arith, map, refl, rules}
 use Rattle.std.proofs.lemmas.Grind.{common_steps}
 use Rattle.rd_desk.specs.declared.entry.Event.TheVariants.{Ask}
-use Rattle.rd_desk.specs.DeskView.{DeskView, Does}
+use Rattle.rd_desk.specs.DeskView.{DeskView, Does, used}
 use Rattle.rd_desk.specs.Rows.{receipt_of}
 use Rattle.rd_hall.specs.Seats.{Finds}
 use Rattle.rd_hall.specs.SeatView.{RoomedSeat}
@@ -22,11 +22,11 @@ returns-clause-served g c =
     let kept = c.seat.inside in
     let receipt = c.in_ok-receipt.receipt in
     let found : Finds g.L.Setup.app g.L.Setup.most_moves g.L.Setup.most_entries kept.share.amount
-    (λ d. (new : DeskView) × Does d kept.who (Ask c.args.order.now.command) new receipt) = (
+    (λ d. (used d < d.most_entries) × (new : DeskView) × Does d kept.who (Ask c.args.order.now.command) new receipt) = (
       c.deref_mut-2.result.now.desk,
       found_so c.deref_mut.result.now c.deref_mut-2.result.now _ _ _ _ (search rules) (search rules) (search rules) c.backs.ensures.backed,
-      (c.serve.new.self.desk, c.in_ok-receipt.ensures.ok),
+      (c.in_ok-receipt.ensures.room, c.serve.new.self.desk, c.in_ok-receipt.ensures.ok),
     ) in
     serves_seat c.args.seat.now.session kept.who kept.receipts.noted _ kept.share.amount _ receipt _ _ _ _ _
-    (ap (λ (seat : RoomedSeat). seat.session) c.seat.view_is ∙ c.make_room.ensures.session) refl
+    (ap (λ (seat : RoomedSeat). seat.session) c.seat.view_is ∙ c.make_room-made.ensures.session) refl
     (grind (arith, common_steps)) c.in_ok-receipt.ensures.who (omega (arith, c.in_ok-receipt.ensures.amount, c.backs.ensures.amount)) found
