@@ -1,7 +1,8 @@
 //! The lines of views.
 
-ghost use Rattle.std.specs.Prelude.{◌≡◌, ◌++◌, ◌<◌, [], length, IfOk, IfSome, IsSome, OnOk};
+ghost use Rattle.std.specs.Prelude.{◌≡◌, ◌++◌, ◌<◌, [], length, IfOk, IfSome, IsSome, OnErr, OnOk};
 ghost use Rattle.rd_names.specs.Names.{names_of};
+ghost use Rattle.rd_reply.specs.Pages.{LacksRoom};
 ghost use Rattle.rd_reply.specs.Replies.{line_of, watches_text};
 ghost use Rattle.rd_desk.specs.Sessions.{AreWatchesOf};
 ghost use Rattle.rd_condition.specs.Conditions.{IsConditionOf};
@@ -30,7 +31,8 @@ use std::alloc::{AllocError, Global};
 // For how many bytes of a view room is made first.
 const ROOM: usize = 128;
 
-// Appends what is shown of the thing of that kind and number.
+// Appends what is shown of the thing of that kind and number. There is no memory for it only where
+// the line, as it was, had no room.
 fn append_thing(
     state: &State,
     names: &Names,
@@ -40,8 +42,10 @@ fn append_thing(
 ) -> Result<(), AllocError>
     requires paired { AreNamesOf state.now names.now }
     requires named { number < length (names_of kind names.now) }
-    ensures { OnOk result (line.new.items
+    ensures text { OnOk result (line.new.items
         ≡ line.old.items ++ line_of (view_text names.now state.now kind number)) }
+    ensures full { OnErr result
+        (LacksRoom line.old (line_of (view_text names.now state.now kind number))) }
 {
     let name = names.name(kind, number);
     state.sizes();
@@ -58,7 +62,8 @@ fn append_thing(
     }
 }
 
-// Appends a view of the target.
+// Appends a view of the target. There is no memory for it only where the line, as it was, had no
+// room.
 fn append_view(
     state: &State,
     names: &Names,
@@ -68,8 +73,10 @@ fn append_view(
     requires paired { AreNamesOf state.now names.now }
     requires there { IsSome (text_shown names.now state.now view) }
     requires named { IsViewOf names.now view }
-    ensures { OnOk result (IfSome (text_shown names.now state.now view) (λ text.
+    ensures text { OnOk result (IfSome (text_shown names.now state.now view) (λ text.
         line.new.items ≡ line.old.items ++ line_of text)) }
+    ensures full { OnErr result (IfSome (text_shown names.now state.now view) (λ text.
+        LacksRoom line.old (line_of text))) }
 {
     match view {
         View::Thing { kind, number } => append_thing(state, names, line, kind, number),
@@ -83,7 +90,7 @@ fn append_view(
 
 /// The line of a view of the target, its LF included: of a thing by the number of one that there
 /// is, or of the cores. The names are those of the state's objects and tasks. An `Err` says that
-/// there is no memory for it.
+/// there is no memory for it: for 128 bytes, or for a longer line.
 pub fn show(alloc: Global, state: &State, names: &Names, view: View) -> Result<Vec<u8>, NoMemory>
     requires paired { AreNamesOf state.now names.now }
     requires there { IsSome (text_shown names.now state.now view) }
