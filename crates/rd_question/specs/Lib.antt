@@ -1,0 +1,4 @@
+-- The files of definitions of rd_question.
+pub mod Answers
+pub mod Questions
+pub mod Telling

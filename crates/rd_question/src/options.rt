@@ -1,0 +1,173 @@
+//! The command line.
+
+ghost use Rattle.std.specs.Prelude.{◌≤◌, IfOk, IfSome};
+ghost use Rattle.rd_question.specs.Questions.{IsQuestion, IsRequest};
+
+use crate::fault::Fault;
+use clap::error::ErrorKind;
+use clap::{Arg, ArgAction, ArgMatches, Command, value_parser};
+use rd_goal::reading::words_of;
+use std::alloc::{AllocError, Global};
+
+/// How many choices an order may have at the most, where that is asked for.
+pub const MAX_MOVES: usize = 1_000_000_000;
+
+/// How many states may be kept at the most.
+pub const MAX_STATES: usize = 1_000_000_000;
+
+/// How many mebibytes may be kept at the most.
+pub const MAX_MEMORY: usize = 1_048_576;
+
+// How many states are kept, where nothing else is asked, as a word of the command line.
+const DEFAULT_STATES_WORD: &str = "10000000";
+
+// How many mebibytes are kept, where nothing else is asked, as a word of the command line.
+const DEFAULT_MEMORY_WORD: &str = "1024";
+
+/// What is asked of an application.
+#[derive(Drop)]
+pub struct Question<'a> {
+    /// The path of the application file.
+    pub file: &'a str,
+    /// The words of the goal.
+    pub goal: Vec<&'a [u8]>,
+    /// How many choices an order has at the most; none: as many as there are.
+    pub moves: Option<u32>,
+    /// How many states are kept: 1 to 1,000,000,000.
+    pub states: usize,
+    /// How many mebibytes are kept: 1 to 1,048,576.
+    pub memory: usize,
+}
+
+/// What a command line asks for.
+#[derive(Drop)]
+pub enum Request<'a> {
+    /// An answer.
+    Ask { question: Question<'a> },
+    /// Help, with its text.
+    Help { text: String },
+}
+
+// `FILE`.
+fn file_arg<'a>(alloc: Global) -> Arg<'a> {
+    Arg::new(alloc, "FILE")
+        .required(true)
+        .help("The application file")
+}
+
+// `GOAL..`.
+fn goal_arg<'a>(alloc: Global) -> Arg<'a> {
+    Arg::new(alloc, "GOAL")
+        .required(true)
+        .num_args(1..)
+        .action(ArgAction::Append)
+        .help("What is looked for, as one word or several: 'count q = 2 and not asleep'")
+}
+
+// `--moves N`.
+fn moves_arg<'a>(alloc: Global) -> Arg<'a> {
+    Arg::new(alloc, "moves")
+        .long("moves")
+        .value_name("N")
+        .value_parser(value_parser!(usize).range(0..=MAX_MOVES as i64))
+        .help("Orders of at most N moves alone")
+}
+
+// `--states N`.
+fn states_arg<'a>(alloc: Global) -> Arg<'a> {
+    Arg::new(alloc, "states")
+        .long("states")
+        .value_name("N")
+        .value_parser(value_parser!(usize).range(1..=MAX_STATES as i64))
+        .default_value(DEFAULT_STATES_WORD)
+        .help("How many states are kept, 1 to 1000000000")
+}
+
+// `--memory MIB`.
+fn memory_arg<'a>(alloc: Global) -> Arg<'a> {
+    Arg::new(alloc, "memory")
+        .long("memory")
+        .value_name("MIB")
+        .value_parser(value_parser!(usize).range(1..=MAX_MEMORY as i64))
+        .default_value(DEFAULT_MEMORY_WORD)
+        .help("For how many mebibytes states are kept, 1 to 1048576")
+}
+
+// What the words are parsed by.
+fn command<'a>(alloc: Global) -> Result<Command<'a>, AllocError> {
+    Command::new(alloc, "rdreach")
+        .about("Answers what can still come in a model of a FreeRTOS application")
+        .bin_name("rdreach")?
+        .no_binary_name(true)
+        .arg(file_arg(alloc))?
+        .arg(goal_arg(alloc))?
+        .arg(moves_arg(alloc))?
+        .arg(states_arg(alloc))?
+        .arg(memory_arg(alloc))
+}
+
+// The words of a goal that is said in several texts.
+fn goal_words<'a>(alloc: Global, texts: &[&'a str]) -> Result<Vec<&'a [u8]>, AllocError> {
+    let mut words = Vec::new(alloc);
+    for text in texts {
+        let more = words_of(alloc, text.as_bytes())?;
+        words.extend_from_slice(more.as_slice())?;
+    }
+    Ok(words)
+}
+
+// How many choices are asked for, where some are.
+fn moves_of<'a>(matches: &ArgMatches<'a>) -> Option<u32>
+    ensures { IfSome result (λ moves. moves ≤ MAX_MOVES) }
+{
+    let moves: usize = matches.get_one("moves")?;
+    Some(moves.min(MAX_MOVES) as u32)
+}
+
+// A number of these, or the most where there is none or it isn't within them.
+fn number_of<'a>(matches: &ArgMatches<'a>, id: &str, most: usize) -> usize
+    ensures { result ≤ most }
+{
+    let number: usize = matches.get_one(id).unwrap_or(most);
+    number.min(most)
+}
+
+// What was asked for by the words that were found.
+fn question_of<'a>(alloc: Global, matches: &ArgMatches<'a>) -> Result<Question<'a>, AllocError>
+    ensures { IfOk result IsQuestion }
+{
+    Ok(Question {
+        file: matches.get_str("FILE").unwrap_or(""),
+        goal: goal_words(alloc, matches.get_strs("GOAL").unwrap_or(&[]))?,
+        moves: moves_of(matches),
+        states: number_of(matches, "states", MAX_STATES),
+        memory: number_of(matches, "memory", MAX_MEMORY),
+    })
+}
+
+// What becomes of words that are no question: help is one of clap's errors.
+fn without_question<'a>(alloc: Global, error: &clap::Error) -> Result<Request<'a>, Fault>
+    ensures { IfOk result IsRequest }
+{
+    let text = format!(in alloc; "{error}")?;
+    match error.kind() {
+        ErrorKind::DisplayHelp => Ok(Request::Help { text }),
+        ErrorKind::OutOfMemory => Err(Fault::NoMemory),
+        _ => Err(Fault::Words { text }),
+    }
+}
+
+/// What the words of the command line ask for, without the program's own name: `FILE GOAL..
+/// [--moves N] [--states N] [--memory MIB]`, or help. `Words` where they are no such line,
+/// `NoMemory` where there is no memory to read them or for the text of help.
+pub fn options<'a>(alloc: Global, words: &'a [String]) -> Result<Request<'a>, Fault>
+    ensures { IfOk result IsRequest }
+{
+    match command(alloc)?.try_get_matches_from(words) {
+        Ok(matches) => {
+            let question = question_of(alloc, &matches)?;
+            Ok(Request::Ask { question })
+        }
+        Err(error) => without_question(alloc, &error),
+    }
+}
