@@ -56,7 +56,8 @@ def hint(words: Sequence[str]) -> int:
     if words[:1] and words[0] in command_line.OF_COMMAND:
         found = command_line.why(words)
     else:
-        found = command_line.unknown(words[0], [*command_line.OF_COMMAND, *names(), "install"])
+        others = ("reach", "install")
+        found = command_line.unknown(words[0], [*command_line.OF_COMMAND, *names(), *others])
     if found is not None:
         print(f"rdbg: {found}", file=sys.stderr)
     return 2

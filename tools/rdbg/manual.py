@@ -39,8 +39,12 @@ def synopsis(companions: Sequence[Entry]) -> Tuple[Entry, ...]:
             "rdbg serve --app FILE --port PORT --sessions COUNT [OPTIONS]",
             "answers the commands of several sessions on a TCP port of 127.0.0.1",
         ),
+        Entry(
+            "rdbg reach FILE GOAL [OPTIONS]",
+            "from a checkout: answers whether some order of moves comes to a goal",
+        ),
         *(Entry(f"rdbg {it.words} ..", it.text) for it in companions),
-        Entry("rdbg help WORD", "says more of run, serve or a companion"),
+        Entry("rdbg help WORD", "says more of run, serve, reach or a companion"),
         Entry("rdbg --version", "says the commit, the kit, and whether the program is proved"),
         Entry(
             "rdbg install PREFIX",

@@ -23,6 +23,23 @@ Options:
       --moves <COUNT>     How many moves may be done at a time, 1 to 1000000 [default: 100000]
       --history <COUNT>   How many entries the history may have, 2 to 1000000 [default: 100000]
   -h, --help              Print help"""
+REACH = """\
+Answers what can still come in a model of a FreeRTOS application
+
+Usage: ./rdbg [--unproved] reach [OPTIONS] <FILE> <GOAL>...
+
+Arguments:
+  <FILE>     The application file
+  <GOAL>...  What is looked for, as one word or several: 'count q = 2 and not asleep'
+
+Options:
+      --moves <N>     Orders of at most N moves alone
+      --states <N>    How many states are kept, 1 to 1000000000 [default: 10000000]
+      --memory <MIB>  For how many mebibytes states are kept, 1 to 1048576 [default: 1024]
+  -h, --help          Print help
+
+From a checkout. The first line is found, never, not within N moves, or full: not within N moves;
+the status is 1 where it is found, 0 where not, 2 where it can't be told (docs/REACHING.md)."""
 INSTALL = """\
 Puts the program, its companions, the pages of docs/ and rdbg(1) below a folder
 
@@ -31,4 +48,4 @@ Usage: ./rdbg [--unproved] install PREFIX
 From a checkout. The program is the proved one where that is built of the sources as they are
 (./rdbg --build builds it), else the one without proof, which is built where it isn't there; it
 says which. With --unproved it is that one."""
-OF: Dict[str, str] = {"run": RUN, "serve": SERVE, "install": INSTALL}
+OF: Dict[str, str] = {"run": RUN, "serve": SERVE, "reach": REACH, "install": INSTALL}
