@@ -33,7 +33,7 @@ Arguments:
   <GOAL>...  What is looked for, as one word or several: 'count q = 2 and not asleep'
 
 Options:
-      --moves <N>     Orders of at most N moves alone
+      --moves <N>     Orders of at most N moves alone, 100 where nothing else is asked
       --states <N>    How many states are kept, 1 to 1000000000 [default: 10000000]
       --memory <MIB>  For how many mebibytes states are kept, 1 to 1048576 [default: 1024]
   -h, --help          Print help

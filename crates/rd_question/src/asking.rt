@@ -7,7 +7,7 @@ ghost use Rattle.rd_reach.specs.Plans.{no_plan};
 
 use crate::answer::answer;
 use crate::fault::Fault;
-use crate::options::Question;
+use crate::options::{DEFAULT_MOVES, Question};
 use crate::telling::tell;
 use crate::wanted::refused_goal;
 use rd_goal::goal::Goal;
@@ -74,7 +74,7 @@ fn answered(alloc: Global, app: &App, question: &Question<'_>) -> Result<Outcome
     };
     app.limits();
     let start = State::boot(alloc, app.program())?;
-    let most = question.moves.unwrap_or(u32::MAX);
+    let most = question.moves.unwrap_or(DEFAULT_MOVES);
     Ok(answer(
         alloc,
         app.program(),

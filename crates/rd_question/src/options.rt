@@ -12,6 +12,10 @@ use std::alloc::{AllocError, Global};
 /// How many choices an order may have at the most, where that is asked for.
 pub const MAX_MOVES: usize = 1_000_000_000;
 
+/// How many choices an order has at the most, where nothing else is asked: ticks may go on for ever,
+/// and then orders have no end of their own.
+pub const DEFAULT_MOVES: u32 = 100;
+
 /// How many states may be kept at the most.
 pub const MAX_STATES: usize = 1_000_000_000;
 
@@ -31,7 +35,7 @@ pub struct Question<'a> {
     pub file: &'a str,
     /// The words of the goal.
     pub goal: Vec<&'a [u8]>,
-    /// How many choices an order has at the most; none: as many as there are.
+    /// How many choices an order has at the most; none: nothing was asked.
     pub moves: Option<u32>,
     /// How many states are kept: 1 to 1,000,000,000.
     pub states: usize,
@@ -70,7 +74,7 @@ fn moves_arg<'a>(alloc: Global) -> Arg<'a> {
         .long("moves")
         .value_name("N")
         .value_parser(value_parser!(usize).range(0..=MAX_MOVES as i64))
-        .help("Orders of at most N moves alone")
+        .help("Orders of at most N moves alone, 100 where nothing else is asked")
 }
 
 // `--states N`.
