@@ -1,5 +1,8 @@
 //! Goals as words: what each is at boot, and why words are none.
 
+ghost use Rattle.std.specs.Prelude.{IfOk};
+ghost use Rattle.rd_state.specs.Valid.{IsValid};
+
 use crate::asserts::assert_same;
 use rd_goal::reading::{NoGoal, read_goal, words_of};
 use rd_names::app::App;
@@ -90,10 +93,21 @@ const REFUSED: [(&str, Why); 18] = [
     ("asleep or ( asleep and ( asleep )", Why::Unclosed),
 ];
 
-fn boot(alloc: Global) -> Result<(App, State), Fail> {
+fn boot(alloc: Global) -> Result<(App, State), Fail>
+    ensures { IfOk result (λ booted. IsValid booted.0.runs booted.1) }
+{
     let app = read_app(alloc, APP.as_bytes())?;
     let state = State::boot(alloc, app.program())?;
     Ok((app, state))
+}
+
+// Whether the goal that this text is holds in the state.
+fn holds(alloc: Global, app: &App, state: &State, text: &str) -> Result<bool, Fail>
+    requires { IsValid app.now.runs state.now }
+{
+    let words = words_of(alloc, text.as_bytes())?;
+    let goal = read_goal(alloc, app, words.as_slice())?;
+    Ok(goal.holds(app.program(), state))
 }
 
 #[test]
@@ -101,9 +115,7 @@ fn goals_hold_at_boot_as_they_say(rt: HostRuntime) -> Result<(), Fail> {
     let alloc = rt.alloc();
     let (app, state) = boot(alloc)?;
     for (text, wanted) in GOALS {
-        let words = words_of(alloc, text.as_bytes())?;
-        let goal = read_goal(alloc, &app, words.as_slice())?;
-        assert_same(&rt, goal.holds(app.program(), &state), wanted);
+        assert_same(&rt, holds(alloc, &app, &state, text)?, wanted);
     }
     Ok(())
 }
