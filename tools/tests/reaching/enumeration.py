@@ -1,0 +1,60 @@
+"""All places that orders lead to, breadth first."""
+from typing import Callable, Dict, List, Optional, Tuple
+
+from tests.reaching.clock import Clock, Rules
+from tests.reaching.machine import Machine
+from tests.reaching.states import State
+
+# The number of a state, and the clock beside it.
+Place = Tuple[int, Clock]
+# How many surprises, and how many moves.
+Cost = Tuple[int, int]
+
+
+class Enumeration:
+    """The places that orders of a schedule lead to, each with how few moves lead there: of orders of
+    at most so many moves, and of fewer where there are more than so many places."""
+
+    def __init__(self, machine: Machine, rules: Rules, most_moves: int, most_places: int) -> None:
+        self.machine, self.rules = machine, rules
+        start = (0, rules.at_start(machine.states[0]))
+        self.places: Dict[Place, int] = {start: 0}
+        # how many moves were gone through, and whether there is no place behind them
+        self.moves, self.is_all = 0, False
+        # how many moves lead from one place to another
+        self.made = 0
+        last = [start]
+        while self.moves < most_moves and not self.is_all:
+            last = self._behind(last)
+            if not last:
+                self.is_all = True
+            elif len(self.places) + len(last) > most_places and self.moves:
+                break
+            self.moves += int(not self.is_all)
+            self.places.update((place, self.moves) for place in last)
+
+    def _behind(self, places: List[Place]) -> List[Place]:
+        """The places one move behind these that weren't there before."""
+        found: Dict[Place, None] = {}
+        for number, clock in places:
+            state = self.machine.states[number]
+            choices = self.rules.choices(state, clock)
+            moves = [self.rules.lines(choice) for choice in choices]
+            self.made += len(choices)
+            for choice, later in zip(choices, self.machine.after(number, moves)):
+                after = self.rules.after(state, clock, choice, self.machine.states[later])
+                if (later, after) not in self.places:
+                    found[later, after] = None
+        return list(found)
+
+    def fewest(self, holds: Callable[[State], bool]) -> Optional[Cost]:
+        """With how few surprises, where they are counted, and then with how few moves orders lead to
+        a place where that holds."""
+        known: Dict[int, bool] = {}
+        costs = []
+        for (number, clock), moves in self.places.items():
+            if number not in known:
+                known[number] = holds(self.machine.states[number])
+            if known[number]:
+                costs.append((clock.spent, moves))
+        return min(costs, default=None)

@@ -1,0 +1,167 @@
+"""What rdreach says, held against the enumeration."""
+import dataclasses
+import pathlib
+import subprocess
+from typing import Iterator, List, NamedTuple, Optional, Sequence, Tuple
+
+from tests.reaching.clock import Clock, Rules, Schedule
+from tests.reaching.enumeration import Cost, Enumeration
+from tests.reaching.goals import ASLEEP, FAILED, FINISHED, NEVER, Goal
+from tests.reaching.machine import Answered, Machine
+from tests.reaching.questions import FROM, Question, words_of
+
+FOUND, NEVER_WORD, NOT_WITHIN = "found", "never", "not within"
+
+
+class Said(NamedTuple):
+    """What rdreach said: its first line, the lines of the order, how many states it kept, its
+    status, and what stood on standard error."""
+
+    answer: str
+    order: Tuple[str, ...]
+    states: Optional[int]
+    status: int
+    errors: str
+
+
+def said(program: str, words: Sequence[str]) -> Said:
+    """Asks it."""
+    ran = subprocess.run([program, *words], stdout=subprocess.PIPE, stderr=subprocess.PIPE)
+    lines = ran.stdout.decode().splitlines()
+    order = tuple(it for it in lines[1:] if it.split()[0] in ("step", "tick", "isr"))
+    counted = next((int(it.split()[1]) for it in lines if it.startswith("states ")), None)
+    answer = lines[0] if lines else ""
+    return Said(answer, order, counted, ran.returncode, ran.stderr.decode())
+
+
+@dataclasses.dataclass
+class Tally:
+    """How many places were gone through; for how many goals there were orders, and for how many
+    none; and of how many applications all places."""
+
+    places: int = 0
+    found: int = 0
+    none: int = 0
+    never: int = 0
+
+    def add(self, other: "Tally") -> None:
+        """Counts the other's, too."""
+        self.places += other.places
+        self.found += other.found
+        self.none += other.none
+        self.never += other.never
+
+    def __str__(self) -> str:
+        return (
+            f"{self.places} places, {self.found} goals found, {self.none} not, "
+            f"{self.never} times all places"
+        )
+
+
+class Judge:
+    """Judges what rdreach says of one application, of orders of one schedule."""
+
+    def __init__(
+        self, machine: Machine, rules: Rules, rdreach: str, words: Sequence[str] = ()
+    ) -> None:
+        self.machine, self.rules, self.rdreach = machine, rules, rdreach
+        self.words = [str(machine.file), *words]
+        self.tally = Tally()
+
+    def faults(self, goals: Sequence[Goal], moves: int, places: int) -> Iterator[str]:
+        """What is wrong with what it says of each goal, of orders of so many moves at the most, and
+        of fewer where they lead to more than so many places."""
+        there = Enumeration(self.machine, self.rules, moves, places)
+        self.tally.places += len(there.places)
+        for goal in (NEVER, *goals):
+            words = [*self.words, goal.words, "--moves", str(there.moves)]
+            heard = said(self.rdreach, words)
+            for fault in self._faults(heard, there, goal):
+                yield f"{' '.join(words[1:])}: {fault}: {heard}"
+        if there.is_all:
+            self.tally.never += 1
+            heard = said(self.rdreach, [*self.words, NEVER.words, "--moves", "1000000"])
+            if (heard.answer, heard.states, heard.status) != (NEVER_WORD, len(there.places), 0):
+                yield f"never is due, with {len(there.places)} states: {heard}"
+
+    def _faults(self, heard: Said, there: Enumeration, goal: Goal) -> Iterator[str]:
+        fewest = there.fewest(goal.holds)
+        if fewest is None:
+            self.tally.none += 1
+            is_never = there.is_all and heard.answer == NEVER_WORD
+            if heard.status != 0 or not (is_never or heard.answer.startswith(NOT_WITHIN)):
+                yield "there is none"
+            elif heard.states != len(there.places):
+                yield f"there are {len(there.places)} states"
+            return
+        self.tally.found += 1
+        if (heard.answer, heard.status) != (FOUND, 1):
+            yield f"there is one with {fewest[0]} surprises and {fewest[1]} moves"
+        else:
+            yield from self._faults_of_order(heard.order, fewest, goal)
+
+    def _faults_of_order(self, order: Sequence[str], fewest: Cost, goal: Goal) -> Iterator[str]:
+        costs = []
+        for place, cost in self._readings(order):
+            if goal.holds(self.machine.states[place]):
+                costs.append(cost)
+        if fewest not in costs:
+            yield f"one has {fewest[0]} surprises and {fewest[1]} moves, and it has {costs}"
+        elif not self._replays(order, goal):
+            yield "the goal doesn't hold behind it"
+
+    def _readings(self, order: Sequence[str]) -> Iterator[Tuple[int, Cost]]:
+        """Where an order leads, with its surprises and moves, in each way in which its lines are
+        moves that may come where they stand: two interrupts may make the same calls."""
+        start = self.rules.at_start(self.machine.states[0])
+        left: List[Tuple[int, int, Clock, int]] = [(0, 0, start, 0)]
+        while left:
+            at, place, clock, moves = left.pop()
+            if at == len(order):
+                yield place, (clock.spent, moves)
+                continue
+            state = self.machine.states[place]
+            for choice in self.rules.choices(state, clock):
+                lines = self.rules.lines(choice)
+                if tuple(order[at : at + len(lines)]) != lines:
+                    continue
+                later = self.machine.after(place, [lines])[0]
+                after = self.rules.after(state, clock, choice, self.machine.states[later])
+                left.append((at + len(lines), later, after, moves + 1))
+
+    def _replays(self, order: Sequence[str], goal: Goal) -> bool:
+        """Whether the goal holds where the lines of an order lead in a run of their own."""
+        with Machine(self.machine.program, self.machine.file, [*self.machine.start, *order]) as run:
+            return goal.holds(run.states[0])
+
+
+Judged = Tuple[List[str], Tally]
+
+
+def judge(
+    question: Question, folder: pathlib.Path, rdbg: str, rdreach: str, moves: int, places: int
+) -> Judged:
+    """What is wrong with what rdreach says of a question, whose files are put into a folder."""
+    file, commands = folder / "application.json", folder / "start.commands"
+    file.write_text(question.text)
+    commands.write_text("".join(f"{line}\n" for line in question.start))
+    words = words_of(question.schedule)
+    words += [FROM, str(commands)] if question.start else []
+    with Machine(rdbg, file, question.start) as machine:
+        judged = Judge(machine, Rules(question.schedule), rdreach, words)
+        return all_faults(judged, question.goals, moves, places)
+
+
+def judge_file(file: pathlib.Path, rdbg: str, rdreach: str, moves: int, places: int) -> Judged:
+    """What is wrong with what it says of an application, of orders without a pace or interrupts."""
+    with Machine(rdbg, file) as machine:
+        judged = Judge(machine, Rules(Schedule()), rdreach)
+        return all_faults(judged, (ASLEEP, FINISHED, FAILED), moves, places)
+
+
+def all_faults(judged: Judge, goals: Sequence[Goal], moves: int, places: int) -> Judged:
+    """All that is wrong, and what was gone through."""
+    try:
+        return list(judged.faults(goals, moves, places)), judged.tally
+    except Answered as error:
+        return [str(error)], judged.tally
