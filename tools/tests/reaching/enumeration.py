@@ -7,8 +7,6 @@ from tests.reaching.states import State
 
 # The number of a state, and the clock beside it.
 Place = Tuple[int, Clock]
-# How many surprises, and how many moves.
-Cost = Tuple[int, int]
 
 
 class Enumeration:
@@ -18,6 +16,7 @@ class Enumeration:
     def __init__(self, machine: Machine, rules: Rules, most_moves: int, most_places: int) -> None:
         self.machine, self.rules = machine, rules
         start = (0, rules.at_start(machine.states[0]))
+        # (the places with fewer moves come first)
         self.places: Dict[Place, int] = {start: 0}
         # how many moves were gone through, and whether there is no place behind them
         self.moves, self.is_all = 0, False
@@ -47,14 +46,12 @@ class Enumeration:
                     found[later, after] = None
         return list(found)
 
-    def fewest(self, holds: Callable[[State], bool]) -> Optional[Cost]:
-        """With how few surprises, where they are counted, and then with how few moves orders lead to
-        a place where that holds."""
+    def fewest_moves(self, holds: Callable[[State], bool]) -> Optional[int]:
+        """With how few moves orders lead to a place where that holds."""
         known: Dict[int, bool] = {}
-        costs = []
-        for (number, clock), moves in self.places.items():
+        for (number, _), moves in self.places.items():
             if number not in known:
                 known[number] = holds(self.machine.states[number])
             if known[number]:
-                costs.append((clock.spent, moves))
-        return min(costs, default=None)
+                return moves
+        return None

@@ -2,15 +2,24 @@
 import dataclasses
 import pathlib
 import subprocess
-from typing import Iterator, List, NamedTuple, Optional, Sequence, Tuple
+from typing import FrozenSet, Iterator, List, NamedTuple, Optional, Sequence, Tuple
 
 from tests.reaching.clock import Clock, Rules, Schedule
-from tests.reaching.enumeration import Cost, Enumeration
+from tests.reaching.enumeration import Enumeration
+from tests.reaching.fewest import Cost, Levels, counting
 from tests.reaching.goals import ASLEEP, FAILED, FINISHED, NEVER, Goal
 from tests.reaching.machine import Answered, Machine
-from tests.reaching.questions import FROM, Question, words_of
+from tests.reaching.questions import FROM, SURPRISES, Question, words_of
 
-FOUND, NEVER_WORD, NOT_WITHIN = "found", "never", "not within"
+FOUND = "found"
+
+
+class Asked(NamedTuple):
+    """The programs that are asked, and what rdreach has of the options of questions."""
+
+    rdbg: str
+    rdreach: str
+    options: FrozenSet[str]
 
 
 class Said(NamedTuple):
@@ -62,34 +71,52 @@ class Judge:
     """Judges what rdreach says of one application, of orders of one schedule."""
 
     def __init__(
-        self, machine: Machine, rules: Rules, rdreach: str, words: Sequence[str] = ()
+        self, machine: Machine, schedule: Schedule, asked: Asked, words: Sequence[str] = ()
     ) -> None:
-        self.machine, self.rules, self.rdreach = machine, rules, rdreach
+        self.machine, self.schedule, self.rdreach = machine, schedule, asked.rdreach
+        # the rules by which an order is found: with the fewest surprises, if it tells of them
+        self.rules = counting(schedule) if SURPRISES in asked.options else Rules(schedule)
         self.words = [str(machine.file), *words]
         self.tally = Tally()
 
     def faults(self, goals: Sequence[Goal], moves: int, places: int) -> Iterator[str]:
         """What is wrong with what it says of each goal, of orders of so many moves at the most, and
         of fewer where they lead to more than so many places."""
-        there = Enumeration(self.machine, self.rules, moves, places)
+        there = Enumeration(self.machine, Rules(self.schedule), moves, places)
         self.tally.places += len(there.places)
-        for goal in (NEVER, *goals):
+        fewest = {goal: there.fewest_moves(goal.holds) for goal in (NEVER, *goals)}
+        come = [goal for goal, cost in fewest.items() if cost is not None]
+        levels = Levels(self.machine, self.rules, there.moves)
+        costs = dict(zip(come, levels.fewest(come)))
+        for goal in fewest:
             words = [*self.words, goal.words, "--moves", str(there.moves)]
             heard = said(self.rdreach, words)
-            for fault in self._faults(heard, there, goal):
+            for fault in self._faults(heard, there, goal, costs.get(goal)):
                 yield f"{' '.join(words[1:])}: {fault}: {heard}"
         if there.is_all:
             self.tally.never += 1
             heard = said(self.rdreach, [*self.words, NEVER.words, "--moves", "1000000"])
-            if (heard.answer, heard.states, heard.status) != (NEVER_WORD, len(there.places), 0):
-                yield f"never is due, with {len(there.places)} states: {heard}"
+            wanted = (self._never(), len(there.places), 0)
+            if (heard.answer, heard.states, heard.status) != wanted:
+                yield f"{wanted} is due: {heard}"
 
-    def _faults(self, heard: Said, there: Enumeration, goal: Goal) -> Iterator[str]:
-        fewest = there.fewest(goal.holds)
+    def _never(self) -> str:
+        surprises = self.schedule.surprises
+        return "never" if surprises is None else f"not within {surprises} surprises"
+
+    def _not_within(self, moves: int) -> str:
+        surprises = self.schedule.surprises
+        return f"not within {moves} moves" + (
+            "" if surprises is None else f" and {surprises} surprises"
+        )
+
+    def _faults(
+        self, heard: Said, there: Enumeration, goal: Goal, fewest: Optional[Cost]
+    ) -> Iterator[str]:
         if fewest is None:
             self.tally.none += 1
-            is_never = there.is_all and heard.answer == NEVER_WORD
-            if heard.status != 0 or not (is_never or heard.answer.startswith(NOT_WITHIN)):
+            is_never = there.is_all and heard.answer == self._never()
+            if heard.status != 0 or not (is_never or heard.answer == self._not_within(there.moves)):
                 yield "there is none"
             elif heard.states != len(there.places):
                 yield f"there are {len(there.places)} states"
@@ -113,7 +140,8 @@ class Judge:
     def _readings(self, order: Sequence[str]) -> Iterator[Tuple[int, Cost]]:
         """Where an order leads, with its surprises and moves, in each way in which its lines are
         moves that may come where they stand: two interrupts may make the same calls."""
-        start = self.rules.at_start(self.machine.states[0])
+        rules = self.rules
+        start = rules.at_start(self.machine.states[0])
         left: List[Tuple[int, int, Clock, int]] = [(0, 0, start, 0)]
         while left:
             at, place, clock, moves = left.pop()
@@ -121,12 +149,12 @@ class Judge:
                 yield place, (clock.spent, moves)
                 continue
             state = self.machine.states[place]
-            for choice in self.rules.choices(state, clock):
-                lines = self.rules.lines(choice)
+            for choice in rules.choices(state, clock):
+                lines = rules.lines(choice)
                 if tuple(order[at : at + len(lines)]) != lines:
                     continue
                 later = self.machine.after(place, [lines])[0]
-                after = self.rules.after(state, clock, choice, self.machine.states[later])
+                after = rules.after(state, clock, choice, self.machine.states[later])
                 left.append((at + len(lines), later, after, moves + 1))
 
     def _replays(self, order: Sequence[str], goal: Goal) -> bool:
@@ -139,7 +167,7 @@ Judged = Tuple[List[str], Tally]
 
 
 def judge(
-    question: Question, folder: pathlib.Path, rdbg: str, rdreach: str, moves: int, places: int
+    question: Question, folder: pathlib.Path, asked: Asked, moves: int, places: int
 ) -> Judged:
     """What is wrong with what rdreach says of a question, whose files are put into a folder."""
     file, commands = folder / "application.json", folder / "start.commands"
@@ -147,15 +175,15 @@ def judge(
     commands.write_text("".join(f"{line}\n" for line in question.start))
     words = words_of(question.schedule)
     words += [FROM, str(commands)] if question.start else []
-    with Machine(rdbg, file, question.start) as machine:
-        judged = Judge(machine, Rules(question.schedule), rdreach, words)
+    with Machine(asked.rdbg, file, question.start) as machine:
+        judged = Judge(machine, question.schedule, asked, words)
         return all_faults(judged, question.goals, moves, places)
 
 
-def judge_file(file: pathlib.Path, rdbg: str, rdreach: str, moves: int, places: int) -> Judged:
+def judge_file(file: pathlib.Path, asked: Asked, moves: int, places: int) -> Judged:
     """What is wrong with what it says of an application, of orders without a pace or interrupts."""
-    with Machine(rdbg, file) as machine:
-        judged = Judge(machine, Rules(Schedule()), rdreach)
+    with Machine(asked.rdbg, file) as machine:
+        judged = Judge(machine, Schedule(), asked)
         return all_faults(judged, (ASLEEP, FINISHED, FAILED), moves, places)
 
 
