@@ -6,6 +6,8 @@ from typing import Optional
 
 # A number of a line has no more of them (docs/FORMATS.md).
 LONGEST = 10
+# So many seconds are no limit that anybody waits for.
+MOST_SECONDS = 1e9
 # More of them, without the zeros in front, are more than any number that is taken.
 MOST_DIGITS = 20
 
@@ -26,3 +28,12 @@ def natural(text: str, most: int, least: int = 0) -> Optional[int]:
 def number(text: str, most: int, least: int = 0) -> Optional[int]:
     """The same of a text of at most 10 digits."""
     return natural(text, most, least) if len(text) <= LONGEST else None
+
+
+def seconds(text: str) -> Optional[float]:
+    """The number of seconds that a text is, above 0; none where it is none."""
+    try:
+        value = float(text) if text.isascii() else 0.0
+    except ValueError:
+        return None
+    return value if 0 < value < MOST_SECONDS else None

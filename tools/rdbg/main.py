@@ -56,8 +56,7 @@ def hint(words: Sequence[str]) -> int:
     if words[:1] and words[0] in command_line.OF_COMMAND:
         found = command_line.why(words)
     else:
-        others = ("reach", "install")
-        found = command_line.unknown(words[0], [*command_line.OF_COMMAND, *names(), *others])
+        found = command_line.unknown(words[0], [*command_line.OF_COMMAND, *names(), "install"])
     if found is not None:
         print(f"rdbg: {found}", file=sys.stderr)
     return 2

@@ -39,16 +39,12 @@ def synopsis(companions: Sequence[Entry]) -> Tuple[Entry, ...]:
             "rdbg serve --app FILE --port PORT --sessions COUNT [OPTIONS]",
             "answers the commands of several sessions on a TCP port of 127.0.0.1",
         ),
-        Entry(
-            "rdbg reach FILE GOAL [OPTIONS]",
-            "from a checkout: answers whether some order of moves comes to a goal",
-        ),
         *(Entry(f"rdbg {it.words} ..", it.text) for it in companions),
-        Entry("rdbg help WORD", "says more of run, serve, reach or a companion"),
+        Entry("rdbg help WORD", "says more of run, serve or a companion"),
         Entry("rdbg --version", "says the commit, the kit, and whether the program is proved"),
         Entry(
             "rdbg install PREFIX",
-            "from a checkout: puts the program, its companions and rdbg(1) below PREFIX",
+            "from a checkout: puts the programs, the companions and rdbg(1) below PREFIX",
         ),
         Entry("rdbg --build", "from a checkout: builds the program, and says where it is"),
         Entry(
@@ -75,6 +71,7 @@ STATUSES = (
 
 ENVIRONMENT = (
     Entry("RDBG_PROGRAM", "the program that is started, in place of the one that was built"),
+    Entry("RDBG_REACH", "the same of the program that rdbg reach starts"),
     Entry("RDBG_HISTORY", "the file in which rdbg sh keeps the lines that were typed"),
     Entry("RDBG_TOKEN", "the token of a room that asks for one; sh and dap say it there"),
 )

@@ -1,4 +1,5 @@
-"""What `rdbg help` says of the words that are no companion's, with no program at hand."""
+"""What `rdbg help` says of the words that start a program, and of `install`, with no program at
+hand."""
 from typing import Dict
 
 RUN = """\
@@ -26,26 +27,29 @@ Options:
 REACH = """\
 Answers what can still come in a model of a FreeRTOS application
 
-Usage: ./rdbg [--unproved] reach [OPTIONS] <FILE> <GOAL>...
+Usage: rdbg reach [OPTIONS] <FILE> <GOAL>...
 
 Arguments:
   <FILE>     The application file
   <GOAL>...  What is looked for, as one word or several: 'count q = 2 and not asleep'
 
 Options:
-      --moves <N>     Orders of at most N moves alone, 100 where nothing else is asked
-      --states <N>    How many states are kept, 1 to 1000000000 [default: 10000000]
-      --memory <MIB>  For how many mebibytes states are kept, 1 to 1048576 [default: 1024]
-  -h, --help          Print help
+      --moves <N>         Orders of at most N moves alone, 100 where nothing else is asked
+      --states <N>        How many states are kept, 1 to 1000000000 [default: 10000000]
+      --memory <MIB>      For how many mebibytes states are kept, 1 to 1048576 [default: 1024]
+      --within <SECONDS>  Ends the search after so long
+  -o <OUT>                Where the order that is found goes, too, as lines that rdbg run takes
+  -h, --help              Print help
 
-From a checkout. The first line is found, never, not within N moves, or full: not within N moves;
-the status is 1 where it is found, 0 where not, 2 where it can't be told (docs/REACHING.md)."""
+The first line is found, never, not within N moves, or full: not within N moves; the status is 1
+where it is found, 0 where not, 2 where it can't be told. Ctrl-C ends it as --within does
+(docs/REACHING.md)."""
 INSTALL = """\
-Puts the program, its companions, the pages of docs/ and rdbg(1) below a folder
+Puts the programs, the companions, the pages of docs/ and rdbg(1) below a folder
 
 Usage: ./rdbg [--unproved] install PREFIX
 
-From a checkout. The program is the proved one where that is built of the sources as they are
-(./rdbg --build builds it), else the one without proof, which is built where it isn't there; it
-says which. With --unproved it is that one."""
+From a checkout. A program, rdbg's own and that of rdbg reach, is the proved one where that is built
+of the sources as they are (./rdbg --build and ./rdbg reach build them), else the one without proof,
+which is built where it isn't there; it says which. With --unproved it is that one."""
 OF: Dict[str, str] = {"run": RUN, "serve": SERVE, "reach": REACH, "install": INSTALL}

@@ -4,6 +4,7 @@ What is written stands beside the file until all of it is there, and then takes 
 the file finds the old text or the new one, also where the writing fails or is ended.
 """
 import contextlib
+import errno
 import os
 import stat
 import sys
@@ -59,6 +60,23 @@ def keep_owner(made: int, there: os.stat_result) -> None:
     with contextlib.suppress(OSError):
         os.fchown(made, there.st_uid, there.st_gid)
     os.fchmod(made, stat.S_IMODE(there.st_mode))
+
+
+def check(path: str) -> None:
+    """Raises `Failure` where a file couldn't be written, as it is now. Nothing of it changes."""
+    try:
+        behind = links.behind(path)
+        real = replaced(behind, found(behind))
+        if real:
+            with ENDING.held():
+                number, made = beside(real)
+                os.close(number)
+                os.unlink(made)
+        elif os.path.isdir(behind) or not os.path.exists(behind):
+            number = errno.EISDIR if os.path.isdir(behind) else errno.ENOENT
+            raise OSError(number, os.strerror(number))
+    except OSError as error:
+        raise cannot(path, error) from None
 
 
 @contextlib.contextmanager

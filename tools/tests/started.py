@@ -5,7 +5,7 @@ import pathlib
 import subprocess
 import sys
 import time
-from typing import Dict, List, Optional
+from typing import Dict, List, Optional, Sequence
 
 from tests.paths import COMPANION
 
@@ -46,6 +46,20 @@ def sleeper(folder: str) -> str:
     made.write_text(SLEEPER)
     made.chmod(0o700)
     return str(made)
+
+
+def seconds_of(command: Sequence[str], wanted: int = 0) -> float:
+    """How many seconds of a processor a command takes, which ends with this status: the fewest of a
+    few starts."""
+    took = []
+    for _ in range(3):
+        none = subprocess.DEVNULL
+        process = subprocess.Popen(command, stdin=none, stdout=none, stderr=none)
+        _, status, used = os.wait4(process.pid, 0)
+        process.returncode = os.WEXITSTATUS(status)
+        assert os.WIFEXITED(status) and process.returncode == wanted, status
+        took.append(used.ru_utime + used.ru_stime)
+    return float(min(took))
 
 
 class Started:

@@ -59,7 +59,7 @@ class Companions(unittest.TestCase):
         """What it says."""
         environment: Dict[str, str] = {**os.environ, **more}
         ran = subprocess.run(
-            [sys.executable, "-B", str(self.top / "ci/companions"), "program"],
+            [sys.executable, "-B", str(self.top / "ci/companions"), "rdbg", "rdreach"],
             env=environment,
             stdout=subprocess.PIPE,
             stderr=subprocess.STDOUT,

@@ -26,6 +26,9 @@ class Sessions(unittest.TestCase):
     def test_hunting(self) -> None:
         self.check(DOCS / "HUNTING.md")
 
+    def test_reaching(self) -> None:
+        self.check(DOCS / "REACHING.md")
+
     def test_lost_wakeup(self) -> None:
         self.check(DOCS / "LOST_WAKEUP.md")
 

@@ -14,7 +14,7 @@ from rdbg import main
 from rdbg.client import Session
 from tests.paths import COMPANION, EXAMPLES, TOP
 from tests.rooms import free_port
-from tests.started import Started, at_import, sleeper
+from tests.started import Started, at_import, seconds_of, sleeper
 from tests.test_shell_port import server
 
 LOST = str(EXAMPLES / "lost_item.json")
@@ -251,15 +251,7 @@ class Caches(unittest.TestCase):
 
 def seconds(*words: str) -> float:
     """How many seconds of a processor a companion takes, the fewest of a few starts."""
-    took = []
-    for _ in range(3):
-        command = [sys.executable, "-B", str(COMPANION), *words]
-        process = subprocess.Popen(command, stdout=subprocess.DEVNULL)
-        _, status, used = os.wait4(process.pid, 0)
-        process.returncode = status
-        assert status == 0, status
-        took.append(used.ru_utime + used.ru_stime)
-    return float(min(took))
+    return seconds_of([sys.executable, "-B", str(COMPANION), *words])
 
 
 class Help(unittest.TestCase):

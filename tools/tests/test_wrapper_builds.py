@@ -2,6 +2,7 @@
 import os
 import pathlib
 import re
+import shutil
 import signal
 import subprocess
 import tempfile
@@ -16,6 +17,8 @@ LOST = str(EXAMPLES / "lost_item.json")
 SOURCE = "fn main() {}\n"
 # So many seconds does a busy machine have for what takes a moment.
 PATIENCE = 60.0
+# After so many seconds a file that was written counts as written long ago.
+SETTLED = 4.0
 # Writes down how it was called, and of a build nothing comes but the wait for it.
 RT = """#!/bin/sh
 echo "$@" >> "$RT_CALLS"
@@ -36,10 +39,11 @@ def write_script(file: pathlib.Path, text: str) -> None:
 
 
 def make_checkout(top: pathlib.Path) -> None:
-    """Makes a checkout of one source, with what `./rdbg` is made of."""
-    (top / "crates/rdbg/src").mkdir(parents=True)
-    (top / "crates/rdbg/src/main.rt").write_text(SOURCE)
-    (top / "crates.txt").write_text("rdbg:\n")
+    """Makes a checkout of a source a program, with what `./rdbg` is made of."""
+    for name in ("rdbg", "rdreach"):
+        (top / f"crates/{name}/src").mkdir(parents=True)
+        (top / f"crates/{name}/src/main.rt").write_text(SOURCE)
+    (top / "crates.txt").write_text("rdbg:\nrdreach:\n")
     for name in ("tools", "docs", "examples", "README.md"):
         (top / name).symlink_to(TOP / name)
     # (a script looks for the others where a link to it leads, so these are none)
@@ -77,6 +81,7 @@ class Checkout(unittest.TestCase):
             "RT_PIDS": str(self.pids),
         }
         self.environment.pop("RDBG_PROGRAM", None)
+        self.environment.pop("RDBG_REACH", None)
         self.program = program()
 
     def start(self, *words: str) -> "subprocess.Popen[str]":
@@ -107,12 +112,16 @@ class Checkout(unittest.TestCase):
         """How `rt` was called."""
         return self.calls.read_text().splitlines() if self.calls.exists() else []
 
-    def keep(self, kind: str) -> pathlib.Path:
+    def summed(self, kind: str) -> str:
+        """The sum of the sources as they are."""
+        words, environment = [str(self.top / "ci/sum"), kind], self.environment
+        ran = subprocess.run(words, check=True, stdout=subprocess.PIPE, env=environment)
+        return ran.stdout.decode().strip()
+
+    def keep(self, kind: str, name: str = "rdbg") -> pathlib.Path:
         """A program that was built of the sources as they are."""
-        summed = subprocess.run(
-            [str(self.top / "ci/sum"), kind], check=True, stdout=subprocess.PIPE
-        ).stdout.decode()
-        kept = self.top / "out/programs" / f"{kind}-{summed.strip()}"
+        called = kind if name == "rdbg" else f"{name}-{kind}"
+        kept = self.top / "out/programs" / f"{called}-{self.summed(kind)}"
         kept.parent.mkdir(parents=True, exist_ok=True)
         write_script(kept, f'#!/bin/sh\nexec {self.program} "$@"\n')
         return kept
@@ -171,6 +180,61 @@ class Sums(Checkout):
         self.assertFalse(self.builds("--unproved", "--build"))
 
 
+# Writes down that files are read.
+READS = """#!/bin/sh
+echo read >> "$READS"
+exec {sha256sum} "$@"
+"""
+
+
+class KeptSums(Checkout):
+    """The sum of sources that are as they were is there without reading them."""
+
+    def setUp(self) -> None:
+        super().setUp()
+        self.reads = self.kit.parent / "reads"
+        found = shutil.which("sha256sum")
+        write_script(self.kit.parent / "sha256sum", READS.format(sha256sum=found))
+        self.environment["READS"] = str(self.reads)
+
+    def is_read(self) -> bool:
+        """Whether files are read for the sum now."""
+        self.reads.unlink(missing_ok=True)
+        self.summed("unproved")
+        return self.reads.exists()
+
+    def test_what_changed_long_ago_is_read_once(self) -> None:
+        # (what has just changed may change again at the same time, and is read until it hasn't)
+        self.assertTrue(self.is_read())
+        self.assertTrue(self.is_read())
+        time.sleep(SETTLED)
+        self.assertTrue(self.is_read())
+        self.assertFalse(self.is_read())
+        first = self.summed("unproved")
+        there = self.source.stat()
+        self.source.write_text(SOURCE.replace("main", "niam"))
+        os.utime(self.source, ns=(there.st_atime_ns, there.st_mtime_ns))
+        self.assertTrue(self.is_read())
+        self.assertNotEqual(first, self.summed("unproved"))
+
+    def test_other_files(self) -> None:
+        time.sleep(SETTLED)
+        first = self.summed("unproved")
+        self.assertFalse(self.is_read())
+        other = self.source.parent / "other.rt"
+        other.touch()
+        self.assertNotEqual(first, self.summed("unproved"))
+        other.unlink()
+        self.assertEqual(first, self.summed("unproved"))
+
+    def test_where_none_can_be_kept(self) -> None:
+        time.sleep(SETTLED)
+        (self.top / "out").write_text("in the way of a folder")
+        first = self.summed("unproved")
+        self.assertTrue(self.is_read())
+        self.assertEqual(first, self.summed("unproved"))
+
+
 class Nothing(Checkout):
     """Words for which nothing is built."""
 
@@ -215,17 +279,47 @@ class Install(Checkout):
         self.assertEqual({it for it in self.called() if it != "version"}, set())
         return said
 
+    def setUp(self) -> None:
+        super().setUp()
+        self.keep("unproved", "rdreach")
+
     def test_the_proved_one_where_it_is_current(self) -> None:
         self.keep("unproved")
         self.assertEqual(
             self.install(), "rdbg is in PREFIX/bin, with a program that is not proved\n"
         )
         self.keep("proved")
+        self.assertEqual(
+            self.install(),
+            "rdbg reach is not proved\nrdbg is in PREFIX/bin, with a program that is proved\n",
+        )
+        self.keep("proved", "rdreach")
         self.assertEqual(self.install(), "rdbg is in PREFIX/bin, with a program that is proved\n")
         self.assertEqual(
             self.install("--unproved"),
             "rdbg is in PREFIX/bin, with a program that is not proved\n",
         )
+
+    def test_what_is_said_of_it_then(self) -> None:
+        installed = str(self.top.parent / "prefix/bin/rdbg")
+        for kind, said in (("unproved", 1), ("proved", 0)):
+            for name in ("rdbg", "rdreach"):
+                self.keep(kind, name)
+            self.install()
+            ran = subprocess.run(
+                [installed, "reach", "help"],
+                env=self.environment,
+                stdin=subprocess.DEVNULL,
+                stdout=subprocess.PIPE,
+                stderr=subprocess.PIPE,
+            )
+            self.assertEqual(said, ran.stderr.count(b"rdbg: nothing is proved\n"), ran.stderr)
+
+    def test_a_search_is_built_where_it_isnt_there(self) -> None:
+        for kept in (self.top / "out/programs").glob("rdreach-*"):
+            kept.unlink()
+        self.keep("unproved")
+        self.assertTrue(self.builds("install", str(self.top.parent / "prefix")))
 
 
 class Ended(Checkout):

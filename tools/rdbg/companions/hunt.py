@@ -7,7 +7,7 @@ import sys
 import time
 from typing import IO, Callable, Iterator, List, Optional, Sequence, Tuple, Union
 
-from rdbg import commands, links
+from rdbg import commands, digits, links
 from rdbg.companions.sh import bounded, read
 from rdbg.failure import Failure
 from rdbg.hunting import goals, report, wrong
@@ -52,11 +52,8 @@ def part(text: str) -> Tuple[int, int]:
 
 def seconds(text: str) -> float:
     """Reads a number of seconds, above 0."""
-    try:
-        value = float(text)
-    except ValueError:
-        value = 0.0
-    if not 0 < value < 1e9:
+    value = digits.seconds(text)
+    if value is None:
         raise argparse.ArgumentTypeError(f"a number of seconds, not '{text}'")
     return value
 

@@ -1,0 +1,126 @@
+"""The program that searches: it is started, listened to, and ended in time."""
+import os
+import selectors
+import subprocess
+import sys
+import time
+from typing import Callable, NamedTuple, Optional, Sequence
+
+from rdbg import children
+from rdbg.ending import ENDING, STARTED
+from rdbg.failure import Failure
+from rdbg.reaching import progress
+from rdbg.reaching.progress import Gauge, Progress
+
+READ = 65_536
+
+
+class Outcome(NamedTuple):
+    """What came of a search: what was said on standard output, the status by which the program
+    ended, below 0 by a signal, how far it had said to be, and whether it was ended from here."""
+
+    output: str
+    status: int
+    last: Optional[Progress]
+    is_stopped: bool
+
+
+class Heard:
+    """What a program has said until now. Of its errors all but how far it is are passed on."""
+
+    def __init__(self, gauge: Gauge) -> None:
+        self.output = bytearray()
+        self.last: Optional[Progress] = None
+        self._gauge = gauge
+        self._tail = b""
+
+    def hear_output(self, content: bytes) -> None:
+        """What comes of its standard output."""
+        self.output += content
+
+    def hear_errors(self, content: bytes) -> None:
+        """What comes of its standard error; nothing more where that is empty."""
+        *whole, self._tail = (self._tail + content).split(b"\n")
+        for line in whole:
+            self._hear(line.decode("utf-8", "replace"))
+        # (half a line of how far it is says nothing)
+        if not content and not self._tail.startswith(progress.BEGIN.encode()[: len(self._tail)]):
+            self._hear(self._tail.decode("utf-8", "replace"))
+
+    def _hear(self, line: str) -> None:
+        found = progress.read(line)
+        if found is not None:
+            self.last = found
+            return
+        self._gauge.clear()
+        print(line, file=sys.stderr, flush=True)
+
+
+class Listener:
+    """Listens to a program, as long as it says something."""
+
+    def __init__(self, process: "subprocess.Popen[bytes]", gauge: Gauge) -> None:
+        assert process.stdout is not None and process.stderr is not None
+        self.heard = Heard(gauge)
+        self._gauge = gauge
+        self._selector = selectors.DefaultSelector()
+        for pipe, hear in (
+            (process.stdout, self.heard.hear_output),
+            (process.stderr, self.heard.hear_errors),
+        ):
+            self._selector.register(pipe, selectors.EVENT_READ, hear)
+
+    def listen(self, end: Optional[float] = None) -> bool:
+        """Listens until the program has said all, or until a time. Whether it has said all."""
+        while self._selector.get_map():
+            for key, _ in self._selector.select(self._rest(end)):
+                # (a signal that came in between would lose what was read)
+                with ENDING.held():
+                    self._hear(key.fd, key.data)
+            self._gauge.show(self.heard.last)
+            if end is not None and time.monotonic() >= end:
+                return False
+        return True
+
+    def _hear(self, number: int, hear: Callable[[bytes], None]) -> None:
+        content = os.read(number, READ)
+        hear(content)
+        if not content:
+            self._selector.unregister(number)
+
+    def _rest(self, end: Optional[float]) -> Optional[float]:
+        """For how many seconds nothing has to be done."""
+        until_end = None if end is None else max(0.0, end - time.monotonic())
+        rests = [it for it in (until_end, self._gauge.rest()) if it is not None]
+        return min(rests, default=None)
+
+
+def started(words: Sequence[str]) -> "subprocess.Popen[bytes]":
+    """The program, started on these words. Raises `Failure` where it can't be."""
+    pipe = subprocess.PIPE
+    try:
+        return children.start(words, None, pipe, pipe)
+    except OSError as error:
+        raise Failure(f"cannot start {words[0]}: {error.strerror}", 2) from None
+
+
+def run(words: Sequence[str], seconds: Optional[float]) -> Outcome:
+    """What comes of a program that searches, on these words. It is ended where so many seconds have
+    passed, or Ctrl-C came. Raises `Failure` where it can't be started."""
+    end = None if seconds is None else time.monotonic() + seconds
+    gauge = Gauge(sys.stderr)
+    with started(words) as process:
+        listener = Listener(process, gauge)
+        try:
+            is_ended = listener.listen(end)
+        except KeyboardInterrupt:
+            is_ended = False
+        if not is_ended:
+            process.kill()
+            listener.listen()
+        gauge.clear()
+        status = process.wait()
+    STARTED.pop(process)
+    output = listener.heard.output.decode("utf-8", "replace")
+    # (it may have come to its end at the same time)
+    return Outcome(output, status, listener.heard.last, not is_ended and status < 0)

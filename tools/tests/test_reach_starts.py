@@ -1,0 +1,120 @@
+"""How `./rdbg reach` starts the program: by itself, or listened to where somebody has to."""
+import os
+import pathlib
+import re
+import subprocess
+import tempfile
+import unittest
+from typing import List
+
+from rdbg.program_help import OF
+from tests import searches
+from tests.paths import EXAMPLES, WRAPPER
+from tests.searches import FAR, FOUND, FURTHER, KILLED, SLEEPS
+from tests.started import seconds_of
+from tests.test_wrapper import at_terminal, run
+
+LOST = str(EXAMPLES / "lost_item.json")
+OPTION = re.compile(r"--[a-z]+")
+# Seconds of a processor that a small search may take from its start to its end.
+QUICK = 0.05
+FAR_SHOWN = "within 12 moves, deepest 24: 345 states, "
+
+
+class Starts(unittest.TestCase):
+    """With which words the program is started, and what becomes of its answer."""
+
+    def test_by_itself(self) -> None:
+        with searches.program(FOUND, end="exit 1") as it:
+            ran = run(WRAPPER, "reach", LOST, "asleep", "--moves", "5")
+            self.assertEqual((1, FOUND, ""), (ran.returncode, ran.stdout, ran.stderr))
+            self.assertEqual(f"{LOST} asleep --moves 5", it.words())
+
+    def test_listened_to(self) -> None:
+        with tempfile.TemporaryDirectory() as folder, searches.program(FOUND, FAR, "exit 1") as it:
+            file = pathlib.Path(folder) / "out"
+            for words in (["-o", str(file)], [f"-o{file}"], ["--within", "60"], ["--within=60"]):
+                with self.subTest(words):
+                    ran = run(WRAPPER, "reach", LOST, "asleep", *words)
+                    self.assertEqual((1, FOUND, ""), (ran.returncode, ran.stdout, ran.stderr))
+                    self.assertEqual(f"--progress {LOST} asleep", it.words())
+            self.assertEqual("step 0\ntick\n", file.read_text())
+
+    def test_help(self) -> None:
+        with searches.program(FOUND) as it:
+            for words in (["help", "reach"], ["reach", "--help"], ["reach", LOST, "-h"]):
+                ran = run(WRAPPER, *words)
+                self.assertEqual((0, ""), (ran.returncode, ran.stderr))
+                self.assertIn("Usage: rdbg reach [OPTIONS] <FILE> <GOAL>...", ran.stdout)
+            self.assertEqual("", it.words())
+
+    def test_installed(self) -> None:
+        with tempfile.TemporaryDirectory() as folder, searches.program(FOUND, end="exit 1"):
+            prefix = pathlib.Path(folder) / "a prefix"
+            installed = run(WRAPPER, "install", str(prefix))
+            self.assertEqual(0, installed.returncode, installed.stderr)
+            choices: List[List[str]] = [[], ["--within", "60"]]
+            for words in choices:
+                more = {"RDBG_REACH": "", "RDBG_PROGRAM": ""}
+                ran = run(prefix / "bin/rdbg", "reach", LOST, "asleep", *words, more=more)
+                self.assertEqual((1, FOUND, ""), (ran.returncode, ran.stdout, ran.stderr))
+
+
+class Terminal(unittest.TestCase):
+    """What somebody sees at a terminal."""
+
+    def test_how_far_it_is(self) -> None:
+        with searches.program(FOUND, FAR, "sleep 2; exit 1"):
+            seen = at_terminal("reach", LOST, "asleep")
+        self.assertRegex(seen, rf"\A\r{FAR_SHOWN}\d+,?\d* moves a second, 1 MiB\r +\r{FOUND}\Z")
+
+    def test_its_end_by_time(self) -> None:
+        with searches.program("", FURTHER, SLEEPS):
+            seen = at_terminal("reach", LOST, "asleep", "--within", "0.5")
+        self.assertEqual(searches.SAID_FURTHER, seen)
+
+    def test_a_program_that_is_killed(self) -> None:
+        with searches.program("", FAR, KILLED):
+            seen = at_terminal("reach", LOST, "asleep")
+        why = "the program was ended by SIGKILL; until then: not within 12 moves"
+        self.assertEqual(f"rdbg reach: {why}\n", seen)
+
+
+class Real(unittest.TestCase):
+    """The program that searches, where the tests are told which it is."""
+
+    def setUp(self) -> None:
+        found = searches.real()
+        if found is None or not os.access(found, os.X_OK):
+            self.skipTest("RDBG_REACH doesn't say where it is")
+
+    def test_the_order_is_replayed(self) -> None:
+        with tempfile.TemporaryDirectory() as folder:
+            file = pathlib.Path(folder) / "found.commands"
+            words = ["reach", LOST, "reg poller 0 = 1"]
+            alone = run(WRAPPER, *words)
+            heard = run(WRAPPER, *words, "-o", str(file))
+            self.assertEqual((1, alone.stdout), (heard.returncode, heard.stdout), heard.stderr)
+            given = file.read_text() + "watch reg poller 0 = 1\nshow watches\n"
+        replies = run(WRAPPER, "run", "--app", LOST, given=given).stdout
+        self.assertTrue(replies.endswith("watches 0:holds\n"), replies)
+
+    def test_a_small_search_is_answered_at_once(self) -> None:
+        command = [str(WRAPPER), "reach", str(EXAMPLES / "meeting.json"), "asleep"]
+        self.assertLess(seconds_of(command, 1), QUICK)
+
+    def test_the_help_has_its_options(self) -> None:
+        own = subprocess.run([str(searches.real()), "--help"], stdout=subprocess.PIPE, check=True)
+        options = {*OPTION.findall(own.stdout.decode())} - {"--progress"}
+        self.assertLessEqual(options, {*OPTION.findall(OF["reach"])})
+
+    def test_it_says_how_far_it_is(self) -> None:
+        long = [str(EXAMPLES / "soak.json"), "tick = 4294967295", "--moves", "100000"]
+        ran = run(WRAPPER, "reach", *long, "--within", "3")
+        self.assertEqual((2, ""), (ran.returncode, ran.stderr))
+        wanted = r"full: not within \d+ moves\nit was stopped\nstates \d+ moves \d+ deepest \d+\n"
+        self.assertRegex(ran.stdout, rf"\A{wanted}\Z")
+
+
+if __name__ == "__main__":
+    unittest.main()

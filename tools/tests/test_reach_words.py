@@ -1,0 +1,73 @@
+"""The words of `rdbg reach`: which are the program's, and which those of what starts it."""
+import unittest
+
+from rdbg.failure import Failure
+from rdbg.reaching.words import read
+
+
+class Own(unittest.TestCase):
+    """`-o OUT` and `--within SECONDS`, wherever they stand."""
+
+    def test_none_of_them(self) -> None:
+        words = ["a.json", "count", "q", "=", "2", "--moves", "5", "--pace=2..4"]
+        asked = read(words)
+        self.assertEqual((words, None, None), tuple(asked))
+
+    def test_each_way_to_write_them(self) -> None:
+        for line in (
+            "a.json asleep -o out --within 2.5 --moves 5",
+            "-o out --within=2.5 a.json asleep --moves 5",
+            "--within 2.5 a.json -oout asleep --moves 5",
+            "a.json asleep --moves 5 --within 2.5 -o=out",
+        ):
+            with self.subTest(line):
+                asked = read(line.split())
+                self.assertEqual("a.json asleep --moves 5".split(), asked.program)
+                self.assertEqual(("out", 2.5), (asked.output, asked.seconds))
+
+    def test_behind_two_dashes_there_are_none(self) -> None:
+        words = "a.json --moves 5 -- asleep -o --within".split()
+        self.assertEqual((words, None, None), tuple(read(words)))
+
+    def test_what_is_wrong(self) -> None:
+        for line, why in (
+            ("a.json asleep -o", "-o lacks its OUT"),
+            ("a.json asleep --within", "--within lacks its SECONDS"),
+            ("a.json asleep -o one -otwo", "-o stands twice"),
+            ("--within 1 a.json asleep --within=2", "--within stands twice"),
+            ("a.json asleep --within 0", "--within takes a number of seconds above 0, and not '0'"),
+            ("a.json asleep --within=", "and not ''"),
+            ("a.json asleep --within -1", "and not '-1'"),
+            ("a.json asleep --within nan", "and not 'nan'"),
+            ("a.json asleep --within 1e99", "and not '1e99'"),
+            ("a.json asleep --within \u0665", "and not '\u0665'"),
+        ):
+            with self.subTest(line):
+                with self.assertRaises(Failure) as failed:
+                    read(line.split())
+                self.assertEqual(2, failed.exception.status)
+                self.assertIn(why, str(failed.exception))
+
+
+class Programs(unittest.TestCase):
+    """What is read of the program's own words."""
+
+    def test_surprises(self) -> None:
+        for line, asked in (
+            ("a.json asleep", None),
+            ("a.json asleep --surprises 2", "2"),
+            ("--surprises=03 a.json asleep", "3"),
+            ("a.json -- --surprises 2", None),
+            ("a.json asleep --surprises", ""),
+        ):
+            with self.subTest(line):
+                self.assertEqual(asked, read(line.split()).surprises())
+
+    def test_files(self) -> None:
+        files = read("a.json asleep --from one --from=two -o out".split()).files()
+        self.assertLessEqual({"a.json", "one", "two"}, {*files})
+        self.assertNotIn("out", files)
+
+
+if __name__ == "__main__":
+    unittest.main()
