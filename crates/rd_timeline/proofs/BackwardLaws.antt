@@ -11,7 +11,8 @@ use Rattle.rd_condition.specs.Conditions.{holds}
 use Rattle.rd_timeline.specs.Course.{Course}
 use Rattle.rd_timeline.specs.History.{state_after}
 use Rattle.rd_timeline.specs.Backward.{HasRedone, holds_in, last_met}
-use Rattle.rd_timeline.specs.Policy.{StandsOn}
+use Rattle.rd_timeline.specs.Policy.{RecordsMoves, StandsOn}
+use Rattle.rd_timeline.proofs.RecordedLaws.{RecordsMoves-here, RecordsMoves-then}
 
 -- ---- redone once more
 
@@ -23,15 +24,16 @@ HasRedone-here course = record {
   done = sym (append-nil course.done);
   undone = refl;
   records = omega arith;
+  recorded = RecordsMoves-here course;
   most_done = refl;
   most_carried = refl;
   most_bytes = refl;
 }
 
 pub HasRedone-next : (old now next : Course) (count : ℕ) → HasRedone old count now → count < length old.undone → StandsOn now next
-    → next.done ≡ now.done ++ take 1 now.undone → next.undone ≡ drop 1 now.undone → next.most_done ≡ now.most_done → next.most_carried ≡ now.most_carried
+    → RecordsMoves now next → next.done ≡ now.done ++ take 1 now.undone → next.undone ≡ drop 1 now.undone → next.most_done ≡ now.most_done → next.most_carried ≡ now.most_carried
     → next.most_bytes ≡ now.most_bytes → HasRedone old (count + 1) next
-HasRedone-next old now next count has less stands done undone most_done most_carried most_bytes = record {
+HasRedone-next old now next count has less stands recorded done undone most_done most_carried most_bytes = record {
   some = omega (arith, less);
   app = stands.app ∙ has.app;
   limit = stands.limit ∙ has.limit;
@@ -53,6 +55,8 @@ HasRedone-next old now next count has less stands done undone most_done most_car
         length-drop count old.undone,
         less,
       );
+  recorded =
+      RecordsMoves-then old now next has.app (omega (arith, ap length has.done, length-append old.done (take count old.undone))) stands.done has.recorded recorded;
   most_done = most_done ∙ has.most_done;
   most_carried = most_carried ∙ has.most_carried;
   most_bytes = most_bytes ∙ has.most_bytes;

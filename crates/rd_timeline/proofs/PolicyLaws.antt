@@ -20,7 +20,7 @@ use Rattle.rd_timeline.specs.Course.{Course, IsKept}
 use Rattle.rd_timeline.specs.Decoded.{carried_in}
 use Rattle.rd_timeline.specs.History.{state_after}
 use Rattle.rd_timeline.specs.LogView.{bytes_of}
-use Rattle.rd_timeline.specs.Policy.{Run, Going, Met, Refused, EndsRun, IsWhyNoRun, IsWhyNotByPolicy, RunsMoreThanEver, StandsOn, meets, allowed, done_by_policy, looked_for, moves_by_policy, ran, run_from, run_on, state_by_policy, state_or}
+use Rattle.rd_timeline.specs.Policy.{Run, Going, Met, Refused, EndsRun, IsWhyNoRun, IsWhyNotByPolicy, RecordsMoves, RunsMoreThanEver, StandsOn, meets, allowed, done_by_policy, looked_for, moves_by_policy, ran, run_from, run_on, state_by_policy, state_or}
 use Rattle.rd_timeline.proofs.DecodedLaws.{carried_in-append}
 use Rattle.rd_timeline.proofs.LogLaws.{bytes_of-parts}
 
@@ -252,9 +252,9 @@ made_more old made now done =
 -- The goal is met by it: the run stays there.
 pub EndsRun-met : (old : Course) (goal : Option Condition) (made count : ℕ) (now next : Course) → IsAt old goal made now → made < count
     → length now.done ≤ old.limit → length now.done ≢ old.limit → step old.app now.target (policy_of now.target) ≡ Ok next.target
-    → next.done ≡ now.done ++ policy_of now.target ∷ [] → next.undone ≡ [] → StandsOn old next → IsMost old (made + 1) next → meets goal next.target ≡ true
-    → EndsRun old goal count true next
-EndsRun-met old goal made count now next at less within more steps done undone stands most met = record {
+    → next.done ≡ now.done ++ policy_of now.target ∷ [] → next.undone ≡ [] → StandsOn old next → RecordsMoves old next → IsMost old (made + 1) next
+    → meets goal next.target ≡ true → EndsRun old goal count true next
+EndsRun-met old goal made count now next at less within more steps done undone stands recorded most met = record {
   made = made + 1;
   run =
       ran_on old.app (room_left old) goal old.target (Met (made + 1) next.target) (made + 1) refl
@@ -264,6 +264,7 @@ EndsRun-met old goal made count now next at less within more steps done undone s
   undone = undone;
   log = stands.log;
   records = omega (arith, stands.records, made_more old (made + 1) next (next_done old goal made now next.done at done));
+  recorded = recorded;
   most_done = most.done;
   most_carried = most.carried;
   most_bytes = most.bytes;
@@ -271,14 +272,15 @@ EndsRun-met old goal made count now next at less within more steps done undone s
 
 -- All its moves were made, and the goal met by none.
 pub EndsRun-through : (old : Course) (goal : Option Condition) (made count : ℕ) (now : Course) → IsAt old goal made now → made ≡ count → now.undone ≡ []
-    → EndsRun old goal count false now
-EndsRun-through old goal made count now at all undone = record {
+    → RecordsMoves old now → EndsRun old goal count false now
+EndsRun-through old goal made count now at all undone recorded = record {
   made = made;
   run = ap (run_from old goal) (sym all) ∙ at.run;
   done = at.done;
   undone = undone;
   log = at.stands.log;
   records = omega (arith, at.stands.records, made_more old made now at.done);
+  recorded = recorded;
   most_done = at.most.done;
   most_carried = at.most.carried;
   most_bytes = at.most.bytes;
@@ -334,6 +336,7 @@ runs_from_aside old goal count runs = record {
     most_bytes = runs.stands.most_bytes;
     read = runs.stands.read;
   };
+  recorded = record { log = runs.recorded.log; played = runs.recorded.played };
   more = runs.more;
 }
 

@@ -131,8 +131,8 @@ kept_as t c kept app limit target done log undone most carried =
 
 pub IsWhole-new : (t : Inside) (s : Snapshot) → IsApplication t.app → s ≡ boot_of t.app → IsValid t.app s → IsSettled (priorities_of t.app) s
     → t.journal.target ≡ s → t.journal.done ≡ [] → t.journal.records ≡ [] → t.journal.undone ≡ [] → IsFresh t → t.most_carried.value ≡ 0
-    → IsWhole t
-IsWhole-new t s limits boot valid settled target done log undone fresh none_carried =
+    → t.others.bytes ≡ 0 → IsWhole t
+IsWhole-new t s limits boot valid settled target done log undone fresh none_carried none_read =
     let at_boot : IsKept (record (course_of t) { target = s; done = []; log = []; undone = [] }) =
     record { records = omega arith; retraces = Retraces-boot t.app s boot valid settled; rewinds = tt; made = AreMade-none t.app t.limit t.most_done.value t.most_carried.value } in
     record {
@@ -141,6 +141,7 @@ IsWhole-new t s limits boot valid settled target done log undone fresh none_carr
       capacity = omega (arith, fresh.0);
       carried = omega (arith, none_carried);
       memory = inl fresh;
+      others = omega (arith, none_read);
     }
 
 -- one move and its record more, and none undone
@@ -233,8 +234,8 @@ pub IsWhole-push : (t t' : Inside) (move : PlainMove) (last : List Change) → I
     → IsValid t.app t'.journal.target → IsSettled (priorities_of t.app) t'.journal.target → t'.journal.done ≡ t.journal.done ++ move ∷ []
     → t'.journal.records ≡ t.journal.records ++ last ∷ [] → t'.journal.undone ≡ [] → length t.journal.done < t'.most_done.value
     → carried_in (t.journal.done ++ move ∷ []) ≤ t'.most_carried.value → t'.most_done.value ≤ t'.journal.capacity → t'.most_carried.value ≤ t'.journal.carried_capacity
-    → t'.most_bytes.value + MAX_KEPT_BYTES ≤ t'.journal.memory → IsWhole t'
-IsWhole-push t t' move last whole app limit named more steps back can valid settled done log undone were carried_were capacity carried memory =
+    → t'.most_bytes.value + MAX_KEPT_BYTES ≤ t'.journal.memory → t'.others.bytes ≤ t'.journal.read → IsWhole t'
+IsWhole-push t t' move last whole app limit named more steps back can valid settled done log undone were carried_were capacity carried memory others =
     let pushed = IsKept-push (course_of t) move last t'.journal.target t'.most_done.value t'.most_carried.value whole.kept named more were carried_were steps back can valid settled in
     record {
       kept = kept_as t' _ pushed app limit refl done log undone refl refl;
@@ -242,33 +243,37 @@ IsWhole-push t t' move last whole app limit named more steps back can valid sett
       capacity = capacity;
       carried = carried;
       memory = inr memory;
+      others = others;
     }
 
 -- the fields without the last n moves
-pub IsWhole-back : (t : Inside) (journal : JournalView) (read : ReadCount) (n : ℕ) → n ≤ length t.journal.records → IsWhole t
+pub IsWhole-back : (t : Inside) (journal : JournalView) (others : ReadCount) (n : ℕ) → n ≤ length t.journal.records → IsWhole t
     → journal.target ≡ rewound t.journal.target (drop (length t.journal.records - n) t.journal.records)
     → journal.done ≡ take (length t.journal.done - n) t.journal.done → journal.records ≡ take (length t.journal.records - n) t.journal.records
     → journal.undone ≡ drop (length t.journal.done - n) t.journal.done ++ t.journal.undone → journal.capacity ≡ t.journal.capacity
     → journal.carried_capacity ≡ t.journal.carried_capacity
-    → journal.memory ≡ t.journal.memory → IsWhole (record t { journal = journal; read = read })
-IsWhole-back t journal read n within whole target done log undone capacity carried memory = record {
-  kept = kept_as (record t { journal = journal; read = read }) _ (IsKept-back (course_of t) n within whole.kept) refl refl target done log undone refl refl;
+    → journal.memory ≡ t.journal.memory → others.bytes ≤ journal.read → IsWhole (record t { journal = journal; others = others })
+IsWhole-back t journal others n within whole target done log undone capacity carried memory read = record {
+  kept = kept_as (record t { journal = journal; others = others }) _ (IsKept-back (course_of t) n within whole.kept) refl refl target done log undone refl refl;
   limits = whole.limits;
   capacity = omega (arith, capacity, whole.capacity);
   carried = omega (arith, carried, whole.carried);
   memory = elim whole.memory [ inl fresh ↦ inl fresh | inr room ↦ inr (omega (arith, memory, room)) ];
+  others = read;
 }
 
 -- the fields with fewer records
-pub IsWhole-trim : (t : Inside) (journal : JournalView) (keep : ℕ) → IsWhole t → journal.target ≡ t.journal.target → journal.done ≡ t.journal.done
+pub IsWhole-trim : (t : Inside) (journal : JournalView) (others : ReadCount) (keep : ℕ) → IsWhole t → journal.target ≡ t.journal.target → journal.done ≡ t.journal.done
     → journal.records ≡ drop (length t.journal.records - keep) t.journal.records → journal.undone ≡ t.journal.undone → journal.capacity ≡ t.journal.capacity
-    → journal.carried_capacity ≡ t.journal.carried_capacity → journal.memory ≡ t.journal.memory → IsWhole (record t { journal = journal })
-IsWhole-trim t journal keep whole target done log undone capacity carried memory = record {
-  kept = kept_as (record t { journal = journal }) _ (IsKept-trim (course_of t) keep whole.kept) refl refl target done log undone refl refl;
+    → journal.carried_capacity ≡ t.journal.carried_capacity → journal.memory ≡ t.journal.memory → others.bytes ≤ journal.read
+    → IsWhole (record t { journal = journal; others = others })
+IsWhole-trim t journal others keep whole target done log undone capacity carried memory read = record {
+  kept = kept_as (record t { journal = journal; others = others }) _ (IsKept-trim (course_of t) keep whole.kept) refl refl target done log undone refl refl;
   limits = whole.limits;
   capacity = omega (arith, capacity, whole.capacity);
   carried = omega (arith, carried, whole.carried);
   memory = elim whole.memory [ inl fresh ↦ inl fresh | inr room ↦ inr (omega (arith, memory, room)) ];
+  others = read;
 }
 
 -- the fields with the moves undone set aside
@@ -287,17 +292,18 @@ IsWhole-aside t journal whole is =
       capacity = whole.capacity;
       carried = whole.carried;
       memory = whole.memory;
+      others = whole.others;
     })
 
 -- the fields without the last n moves, those since a run began, and with those undone and the most of before
-pub IsWhole-cancel : (t : Inside) (journal : JournalView) (start : Start) (n : ℕ) → n ≡ length t.journal.done - start.done → IsWhole t
+pub IsWhole-cancel : (t : Inside) (journal : JournalView) (others : ReadCount) (start : Start) (n : ℕ) → n ≡ length t.journal.done - start.done → IsWhole t
     → CanCancel (course_of t) start → journal.target ≡ rewound t.journal.target (drop (length t.journal.records - n) t.journal.records)
     → journal.done ≡ take (length t.journal.done - n) t.journal.done → journal.records ≡ take (length t.journal.records - n) t.journal.records
     → journal.undone ≡ start.undone → t.journal.capacity ≤ journal.capacity → t.journal.carried_capacity ≤ journal.carried_capacity
-    → journal.memory ≡ t.journal.memory
-    → IsWhole (record t { journal = journal; most_done = start.most_done; most_carried = start.most_carried; most_bytes = start.most_bytes })
-IsWhole-cancel t journal start n is whole can target done log undone capacity carried memory =
-    let now : Inside = record t { journal = journal; most_done = start.most_done; most_carried = start.most_carried; most_bytes = start.most_bytes } in
+    → journal.memory ≡ t.journal.memory → others.bytes ≤ journal.read
+    → IsWhole (record t { journal = journal; most_done = start.most_done; most_carried = start.most_carried; most_bytes = start.most_bytes; others = others })
+IsWhole-cancel t journal others start n is whole can target done log undone capacity carried memory read =
+    let now : Inside = record t { journal = journal; most_done = start.most_done; most_carried = start.most_carried; most_bytes = start.most_bytes; others = others } in
     let m = length t.journal.done - n in
     let first : start.done ≡ m = omega (arith, is, can.earlier) in
     let back = IsKept-back (course_of t) n (omega (arith, is, can.kept)) whole.kept in
@@ -324,6 +330,7 @@ IsWhole-cancel t journal start n is whole can target done log undone capacity ca
         | inl fresh ↦ inl (omega (arith, fresh.0, can.most_done), omega (arith, fresh.1, can.most_bytes))
         | inr room ↦ inr (omega (arith, memory, room, can.most_bytes))
       ];
+      others = read;
     }
 
 -- the fields after the first of the moves undone was made again
@@ -332,8 +339,8 @@ pub IsWhole-replay : (t : Inside) (journal : JournalView) (move : PlainMove) (la
     → undone journal.target last ≡ t.journal.target → CanUndo journal.target last → IsValid t.app journal.target
     → IsSettled (priorities_of t.app) journal.target → journal.done ≡ t.journal.done ++ move ∷ []
     → journal.records ≡ t.journal.records ++ last ∷ [] → t.journal.capacity ≤ journal.capacity → t.journal.carried_capacity ≤ journal.carried_capacity
-    → t.journal.memory ≤ journal.memory → IsWhole (record t { journal = journal })
-IsWhole-replay t journal move last whole same steps back can valid settled done log capacity carried memory =
+    → t.journal.memory ≤ journal.memory → journal.read ≡ t.journal.read → IsWhole (record t { journal = journal })
+IsWhole-replay t journal move last whole same steps back can valid settled done log capacity carried memory read =
     let again = IsKept-replay (course_of t) move last journal.target journal.undone whole.kept same steps back can valid settled in
     record {
       kept = kept_as (record t { journal = journal }) _ again refl refl refl done log refl refl refl;
@@ -341,6 +348,7 @@ IsWhole-replay t journal move last whole same steps back can valid settled done 
       capacity = omega (arith, capacity, whole.capacity);
       carried = omega (arith, carried, whole.carried);
       memory = elim whole.memory [ inl fresh ↦ inl fresh | inr room ↦ inr (omega (arith, memory, room)) ];
+      others = omega (arith, read, whole.others);
     }
 
 -- Once a move is made with room for the longest record, there is as much room again: for the bytes before that move, and for the most before.

@@ -14,11 +14,11 @@ use Rattle.rd_refusal.specs.declared.refusal.Refusal.TheVariants.{NoMemory, Noth
 use Rattle.rd_timeline.specs.Course.{Course, base_of}
 use Rattle.rd_timeline.specs.History.{state_after}
 use Rattle.rd_timeline.specs.LogView.{bytes_of}
-use Rattle.rd_timeline.specs.Policy.{StandsOn}
+use Rattle.rd_timeline.specs.Policy.{RecordsMoves, StandsOn}
 
 -- ---- on through the moves undone
 
--- The first of the moves undone, so many of them, are done again, with a record each.
+-- The first of the moves undone, so many of them, are done again, and each has its record.
 pub record HasRedone (old : Course) (count : ℕ) (new : Course) : Type 0 where
   pub some : count ≤ length old.undone
   pub app : new.app ≡ old.app
@@ -26,6 +26,7 @@ pub record HasRedone (old : Course) (count : ℕ) (new : Course) : Type 0 where
   pub done : new.done ≡ old.done ++ take count old.undone
   pub undone : new.undone ≡ drop count old.undone
   pub records : length new.log ≡ length old.log + count
+  pub recorded : RecordsMoves old new
   pub most_done : new.most_done ≡ old.most_done
   pub most_carried : new.most_carried ≡ old.most_carried
   pub most_bytes : new.most_bytes ≡ old.most_bytes

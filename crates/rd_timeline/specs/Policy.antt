@@ -1,13 +1,14 @@
 -- Runs: moves that policy chooses, one after the other, until a goal is met.
 use Rattle.std.specs.Prelude.{ℕ, ◌≡◌, ◌+◌, ◌-◌, ◌<◌, ◌≤◌, ◌⊎◌, Bool, true, false, zero, suc, List}
 use Rattle.std.specs.Prelude.{[], ◌∷◌, ◌++◌, Option, None, Some, Result, Ok, Err, IsOk, length}
-use Rattle.std.specs.Prelude.{nat_lt, take, max, if◌then◌else◌}
+use Rattle.std.specs.Prelude.{nat_lt, take, drop, max, if◌then◌else◌}
 use Rattle.rd_refusal.specs.declared.refusal.Refusal.{Refusal}
 use Rattle.rd_refusal.specs.declared.refusal.Refusal.TheVariants.{MovesFull, NoMemory}
 use Rattle.rd_app.specs.Application.{Application}
+use Rattle.rd_state.specs.Change.{Change}
 use Rattle.rd_state.specs.Snapshot.{Snapshot}
 use Rattle.rd_moves.specs.Moves.{PlainMove}
-use Rattle.rd_calls.specs.Step.{policy_of, step}
+use Rattle.rd_calls.specs.Step.{policy_of, step, IsPlayed}
 use Rattle.rd_condition.specs.declared.condition.Condition.{Condition}
 use Rattle.rd_condition.specs.Conditions.{holds}
 use Rattle.rd_timeline.specs.Course.{Course, IsMoreThanEver, IsWhyNot}
@@ -29,6 +30,29 @@ abbrev pub moves_by_policy : Application → Snapshot → ℕ → List PlainMove
 moves_by_policy app s zero = []
 moves_by_policy app s (suc n) =
     moves_by_policy app s n ++ policy_of (state_by_policy app s n) ∷ []
+
+-- ---- moves with their records
+
+-- the state that a move gives, where it gives one
+abbrev pub state_behind : Application → Snapshot → PlainMove → Snapshot
+state_behind app s move = state_or s (step app s move)
+
+-- The moves lead from one state to another, and these are their records, in order: each undoes its
+-- move exactly, and is no longer than the record of that move may be.
+abbrev pub ArePlayed : Application → Snapshot → List PlainMove → Snapshot → List (List Change)
+    → Type 0
+ArePlayed app s [] s' [] = s' ≡ s
+ArePlayed app s [] s' (undo ∷ later) = ⊥
+ArePlayed app s (move ∷ moves) s' [] = ⊥
+ArePlayed app s (move ∷ moves) s' (undo ∷ later) =
+    IsPlayed app s move (state_behind app s move) undo
+    × ArePlayed app (state_behind app s move) moves s' later
+
+-- The moves that were laid on were played from there, and their records stand behind the others.
+pub record RecordsMoves (old new : Course) : Type 0 where
+  pub log : take (length old.log) new.log ≡ old.log
+  pub played : ArePlayed old.app old.target (drop (length old.done) new.done) new.target
+      (drop (length old.log) new.log)
 
 -- ---- a run
 
@@ -79,7 +103,7 @@ ended true made s = Met made s
 ended false made s = Going made s
 
 -- The run has come to its end: the target and the moves done are those of the run, each of its
--- moves has a record, and no move is undone. Its moves carry nothing, and its last move was made
+-- moves has its record, and no move is undone. Its moves carry nothing, and its last move was made
 -- from the most bytes of records.
 pub record EndsRun (old : Course) (goal : Option Condition) (count : ℕ) (met : Bool) (new : Course)
     : Type 0 where
@@ -89,6 +113,7 @@ pub record EndsRun (old : Course) (goal : Option Condition) (count : ℕ) (met :
   pub undone : new.undone ≡ []
   pub log : take (length old.log) new.log ≡ old.log
   pub records : length new.log ≡ length old.log + made
+  pub recorded : RecordsMoves old new
   pub most_done : new.most_done ≡ max old.most_done (length new.done)
   pub most_carried : new.most_carried ≡ old.most_carried
   pub most_bytes : 0 < made
@@ -126,7 +151,8 @@ pub record StandsOn (old new : Course) : Type 0 where
   pub most_bytes : old.most_bytes ≤ new.most_bytes
   pub read : new.read ≡ old.read
 
--- A run comes to a place where more is done than ever, and its next move is made there.
+-- A run comes to a place where more is done than ever, by moves that have their records, and its
+-- next move is made there.
 pub record RunsMoreThanEver (old : Course) (goal : Option Condition) (count : ℕ) : Type 0 where
   pub made : ℕ
   pub fewer : made < count
@@ -134,6 +160,7 @@ pub record RunsMoreThanEver (old : Course) (goal : Option Condition) (count : �
   pub run : run_from old goal made ≡ Going made now.target
   pub done : now.done ≡ done_by_policy old made
   pub stands : StandsOn old now
+  pub recorded : RecordsMoves old now
   pub more : IsMoreThanEver now (policy_of now.target)
 
 -- What a run may need memory for: to set the moves undone aside, or for more than ever.

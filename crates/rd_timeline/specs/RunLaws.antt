@@ -1,6 +1,9 @@
 -- What one may count on when going on and back, over any courses of a timeline.
-use Rattle.std.specs.Prelude.{ℕ, ◌≡◌, ◌+◌, ◌<◌, ◌≤◌, Bool, true, false, length, min, None, take, Ok}
+use Rattle.std.specs.Prelude.{ℕ, ◌≡◌, ◌+◌, ◌-◌, ◌*◌, ◌<◌, ◌≤◌, Bool, true, false, [], length, min}
+use Rattle.std.specs.Prelude.{Option, None, take, Ok}
 use Rattle.rd_app.specs.Application.{Application}
+use Rattle.rd_state.specs.Valid.{IsValid}
+use Rattle.rd_timeline.specs.declared.log.TheConstants.{MAX_KEPT_BYTES}
 use Rattle.rd_moves.specs.declared.carried.Carried.TheVariants as carried
 use Rattle.rd_moves.specs.declared.moves.Move.TheVariants as move
 use Rattle.rd_moves.specs.declared.request.Request.TheVariants.{Go, Back, Forward, Redo, Until}
@@ -11,9 +14,11 @@ use Rattle.rd_condition.specs.Conditions.{holds}
 use Rattle.rd_timeline.specs.declared.running.Found.{Found}
 use Rattle.rd_moves.specs.Requests.{PlainRequest}
 use Rattle.rd_timeline.specs.Backward.{holds_in, GoesBack, GoesBackTo, HasRedone}
+use Rattle.rd_timeline.specs.Backward.{RedoesMoreThanEver}
 use Rattle.rd_timeline.specs.Course.{Course, GoesOn, base_of}
 use Rattle.rd_timeline.specs.History.{state_after}
-use Rattle.rd_timeline.specs.Policy.{EndsRun}
+use Rattle.rd_timeline.specs.LogView.{bytes_of}
+use Rattle.rd_timeline.specs.Policy.{EndsRun, MayLackMemory}
 use Rattle.rd_timeline.specs.Runs.{Moves, Response, Leaves, Refuses, answered, kept, response_to}
 use Rattle.rd_timeline.specs.Runs.{state_of}
 
@@ -58,6 +63,28 @@ abbrev pub EditsLeaveNoTrace : Type 0
 EditsLeaveNoTrace = (old mid new : Course) (edit : PlainEdit) → IsMade old
     → GoesOn old (move.Carried (carried.Edit edit)) mid → GoesBack mid 1 new
     → (new.target ≡ old.target) × (new.done ≡ old.done) × (base_of new ≡ base_of old)
+
+-- ---- room
+
+-- A move was made once from as many bytes of records as there would be where the last of so many
+-- moves is made and those before it had the longest records.
+abbrev pub HasRoomFor : ℕ → Course → Type 0
+HasRoomFor count course =
+    bytes_of course.log + (count - 1) * MAX_KEPT_BYTES ≤ course.most_bytes
+
+-- With that room none of so many moves that are made again is made from more bytes than ever.
+abbrev pub RedoHasRoom : Type 0
+RedoHasRoom = (old : Course) (count : ℕ) → IsValid old.app old.target → HasRoomFor count old
+    → ¬ RedoesMoreThanEver old count
+
+-- With that room, where as many moves were done once and none is undone, a run of so many moves
+-- has no need of memory.
+abbrev pub RunHasRoom : Type 0
+RunHasRoom = (old : Course) (goal : Option Condition) (count : ℕ) → IsValid old.app old.target
+    → HasRoomFor count old → length old.done + count ≤ old.most_done → old.undone ≡ []
+    → ¬ MayLackMemory old goal count
+
+-- ---- refusals
 
 -- Is a request refused, however much memory there is?
 abbrev pub is_refusal : Response → Bool

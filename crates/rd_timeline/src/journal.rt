@@ -121,6 +121,7 @@ impl Journal {
         ensures done { IfOk result (λ journal. journal.done ≡ []) }
         ensures records { IfOk result (λ journal. journal.records ≡ []) }
         ensures undone { IfOk result (λ journal. journal.undone ≡ []) }
+        ensures read { IfOk result (λ journal. journal.read ≡ 0) }
     {
         let logged = Logged::new(alloc, target)?;
         Ok(Journal {
@@ -335,7 +336,7 @@ impl Journal {
     }
 
     /// Takes the last `n` moves done back, which have a record each: the target goes back by these,
-    /// of which each byte is read once, and the moves become the first of the moves undone. It
+    /// and as many bytes are read as they have. The moves become the first of the moves undone. It
     /// takes no memory, and the room stays.
     pub fn take_back(&mut self, n: usize)
         requires within { n ≤ length self.old.records }

@@ -1,9 +1,9 @@
-//! Laws of going on and back, and of trims, in their own words.
+//! Laws of going on and back, of the room for it, and of trims, in their own words.
 
 ghost use Rattle.rd_timeline.specs.RunLaws.{BackFindsTheLast, EditsLeaveNoTrace, RedoUndoesBack};
-ghost use Rattle.rd_timeline.specs.RunLaws.{KeptGoesAsBefore, OnlyTrimsMoveTheBase};
+ghost use Rattle.rd_timeline.specs.RunLaws.{KeptGoesAsBefore, OnlyTrimsMoveTheBase, RedoHasRoom};
 ghost use Rattle.rd_timeline.specs.RunLaws.{RefusedRequestsLeaveAll, RunsAddUp, TrimLeavesMoves};
-ghost use Rattle.rd_timeline.specs.RunLaws.{BaseIsWithinMoves, TrimsMeet};
+ghost use Rattle.rd_timeline.specs.RunLaws.{BaseIsWithinMoves, RunHasRoom, TrimsMeet};
 
 /// Moves that are taken back and then made again leave the target, the moves done and the moves
 /// undone as they were before, and how many moves are kept.
@@ -27,6 +27,18 @@ pub fn back_finds_the_last()
 /// them are kept.
 pub fn edits_leave_no_trace()
     ensures { EditsLeaveNoTrace }
+{}
+
+/// Where a move was made once from as many bytes of records as there are, and so many of the
+/// longest more as there are moves to be made again before the last, `redo` has no need of memory.
+pub fn redo_has_room()
+    ensures { RedoHasRoom }
+{}
+
+/// With that room, where as many moves were done once and none is undone, `forward` and `until`
+/// have no need of memory.
+pub fn run_has_room()
+    ensures { RunHasRoom }
 {}
 
 /// A refused request of any kind leaves the moves done, so the target too, the moves undone and how

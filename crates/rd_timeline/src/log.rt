@@ -106,8 +106,8 @@ impl Log {
         self.packed.push(undo)
     }
 
-    /// Goes back by the last record, which leaves the others, and of which each byte is read once.
-    /// It takes no memory, and keeps the memory that it has.
+    /// Goes back by the last record, which leaves the others, and reads as many bytes as it has. It
+    /// takes no memory, and keeps the memory that it has.
     pub fn undo_last(&mut self, state: &mut State)
         requires some { 0 < length self.old.records }
         requires fits { CanUndo state.old (last_of_all self.old.records) }

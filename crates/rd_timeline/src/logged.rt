@@ -142,7 +142,7 @@ impl Logged {
         self.log.undo_last(self.editing.state_mut());
     }
 
-    /// Goes back by the last `n` records, which are gone then, and of which each byte is read once.
+    /// Goes back by the last `n` records, which are gone then, and reads as many bytes as they have.
     /// It takes no memory, and the room stays.
     pub fn take_back(&mut self, n: usize)
         requires within { n ≤ length self.old.records }

@@ -104,7 +104,8 @@ impl Timeline {
     /// moves are done then. A refusal leaves the timeline as it was, the moves undone included:
     /// that of the first move that is refused, `MovesFull` or `TickLimit`, or `NoMemory` where a
     /// growth was refused before that. There is no other. Memory is needed only to set the moves
-    /// undone aside, and for more than ever was done.
+    /// undone aside, and for more than ever was done (`run_has_room` says how far room for the
+    /// longest records goes).
     pub fn forward(&mut self, count: usize) -> Result<usize, Refusal>
         requires { 0 < count }
         ensures at { IfOk result (λ at. at ≡ length self.new.done) }
@@ -165,7 +166,7 @@ impl Timeline {
     /// Makes the next `count` moves that are undone again, all or none. Answers how many moves are
     /// done then. It is refused as `NothingUndone` where fewer are undone, and else as `NoMemory`
     /// alone, where a growth was refused, as none is but for more bytes of records than a move was
-    /// ever made from. A refusal leaves the timeline as it was.
+    /// ever made from (`redo_has_room`). A refusal leaves the timeline as it was.
     pub fn redo(&mut self, count: usize) -> Result<usize, Refusal>
         ensures at { IfOk result (λ at. at ≡ length self.new.done) }
         ensures redone { OnOk result (HasRedone self.old count self.new) }
@@ -192,7 +193,7 @@ impl Timeline {
 
     /// Goes back to the last earlier place where the condition holds, of those that the kept moves
     /// lead back to, or else by all kept moves. It takes no memory and is never refused, and reads
-    /// each byte of the moves' records once. The moves taken back can be redone.
+    /// as many bytes of records as these moves' records have. The moves taken back can be redone.
     pub fn back_until(&mut self, condition: Condition) -> Found
         requires named { IsConditionOf self.old.app condition }
         ensures at { result.at ≡ length self.new.done }

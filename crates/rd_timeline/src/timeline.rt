@@ -16,7 +16,7 @@ ghost use Rattle.rd_timeline.specs.Course.{IsMoreThanEver, IsWhyNot};
 ghost use Rattle.rd_timeline.specs.Decoded.{carried_in};
 ghost use Rattle.rd_timeline.specs.History.{state_after};
 ghost use Rattle.rd_timeline.specs.LogView.{bytes_of};
-ghost use Rattle.rd_timeline.specs.Policy.{StandsOn};
+ghost use Rattle.rd_timeline.specs.Policy.{RecordsMoves, StandsOn};
 ghost use Rattle.rd_timeline.specs.Starts.{CanCancel, IsCancelled, IsStartOf};
 
 use crate::journal::{Aside, Journal};
@@ -45,8 +45,9 @@ pub struct Timeline {
     most_done: Most,
     most_carried: Most,
     most_bytes: Most,
-    // How many bytes of records `back` has read. What a trim reads doesn't count.
-    read: ReadCount,
+    // How many bytes of records were read by trims, and to take runs back that were refused. All
+    // else that the journal has read was read to go back.
+    others: ReadCount,
 }
 
 impl Model for Timeline {
@@ -99,7 +100,7 @@ impl Timeline {
             most_done: Most::none(),
             most_carried: Most::none(),
             most_bytes: Most::none(),
-            read: ReadCount::new(),
+            others: ReadCount::new(),
         })
     }
 
@@ -175,6 +176,7 @@ impl Timeline {
         ensures app { OnOk result (self.new.app ≡ self.old.app) }
         ensures limit { OnOk result (self.new.limit ≡ self.old.limit) }
         ensures log { OnOk result (take (length self.old.log) self.new.log ≡ self.old.log) }
+        ensures recorded { OnOk result (RecordsMoves self.old self.new) }
         ensures leads { OnOk result (state_after self.new.app self.new.done ≡ Ok self.new.target) }
         ensures most_done { OnOk result
             (self.new.most_done ≡ max self.old.most_done (length self.new.done)) }
@@ -231,14 +233,16 @@ impl Timeline {
         ensures read { self.new.read ≡ self.old.read }
         ensures leads { state_after self.new.app self.new.done ≡ Ok self.new.target }
     {
+        let before = self.journal.count();
         self.journal.take_back(n);
+        self.others = self.others.more(&before, &self.journal.count());
         self.keeps();
     }
 
     /// Goes back by `n` kept moves, which can be redone, the last one undone first. Answers how
-    /// many moves are done then. It takes no memory, and reads each byte of their records once. The
-    /// only refusal is `TooFar` with the number of kept moves, where there are fewer; the timeline
-    /// is then as it was.
+    /// many moves are done then. It takes no memory, and reads as many bytes of records as these
+    /// moves' records have. The only refusal is `TooFar` with the number of kept moves, where there
+    /// are fewer; the timeline is then as it was.
     pub fn back(&mut self, n: usize) -> Result<usize, Refusal>
         ensures ok { IsOk result ↔ (n ≤ length self.old.log) }
         ensures at { IfOk result (λ at. at ≡ length self.new.done) }
@@ -263,9 +267,7 @@ impl Timeline {
         if n > kept {
             return Err(Refusal::TooFar { kept });
         }
-        let before = self.journal.count();
         self.journal.take_back(n);
-        self.read = self.read.more(&before, &self.journal.count());
         self.keeps();
         Ok(self.at())
     }
@@ -283,7 +285,9 @@ impl Timeline {
         ensures undone { self.new.undone ≡ self.old.undone }
         ensures leads { state_after self.new.app self.new.done ≡ Ok self.new.target }
     {
+        let before = self.journal.count();
         self.journal.keep_last(keep);
+        self.others = self.others.more(&before, &self.journal.count());
         self.keeps();
         self.at()
     }
@@ -319,7 +323,9 @@ impl Timeline {
             most_bytes,
         } = start;
         let made = self.at() - done;
+        let before = self.journal.count();
         self.journal.take_back(made);
+        self.others = self.others.more(&before, &self.journal.count());
         self.journal.put_back(undone);
         self.most_done = most_done;
         self.most_carried = most_carried;
@@ -334,6 +340,7 @@ impl Timeline {
         ensures done { OnOk result (self.new.done ≡ self.old.done ++ take 1 self.old.undone) }
         ensures undone { OnOk result (self.new.undone ≡ drop 1 self.old.undone) }
         ensures stands { OnOk result (StandsOn self.old self.new) }
+        ensures recorded { OnOk result (RecordsMoves self.old self.new) }
         ensures most_done { OnOk result (self.new.most_done ≡ self.old.most_done) }
         ensures most_carried { OnOk result (self.new.most_carried ≡ self.old.most_carried) }
         ensures most_bytes { OnOk result (self.new.most_bytes ≡ self.old.most_bytes) }
@@ -371,7 +378,7 @@ impl Timeline {
             most_done: _,
             most_carried: _,
             most_bytes: _,
-            read: _,
+            others: _,
         } = self;
         journal.retire();
     }

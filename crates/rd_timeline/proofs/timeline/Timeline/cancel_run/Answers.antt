@@ -20,5 +20,6 @@ invariant_of-self c =
     let can = subst (λ (course : Course). CanCancel course start) (sym c.self.view_is) c.requires in
     let made : c.at.result - start.done ≡ length t.journal.done - start.done =
     omega (arith, c.at.ensures, ap (λ (course : Course). length course.done) c.self.view_is) in
-    IsWhole-cancel t c.put_back.new.self start (c.at.result - start.done) made c.self.invariant can (put.target ∙ taken.target) (put.done ∙ taken.done)
+    IsWhole-cancel t c.put_back.new.self c.more-self-inside.result start (c.at.result - start.done) made c.self.invariant can (put.target ∙ taken.target) (put.done ∙ taken.done)
     (put.records ∙ taken.records) put.undone (omega (arith, put.grows, taken.kept_capacity)) (omega (arith, put.more_carried, taken.kept_carried_capacity)) (omega (arith, taken.same_memory, put.same_memory))
+    (omega (arith, put.read, taken.read, c.self.invariant.others, c.more-self-inside.ensures, c.count-before.ensures, c.count.ensures))

@@ -13,8 +13,12 @@ use Rattle.rd_timeline.specs.Course.{Course}
 use Rattle.rd_timeline.specs.Decoded.{carried_in}
 use Rattle.rd_timeline.specs.JournalView.{HasCarriedRoom}
 use Rattle.rd_timeline.specs.History.{state_after}
+use Rattle.rd_timeline.specs.Inside.{course_of}
+use Rattle.rd_timeline.specs.LogView.{RecordsMove}
+use Rattle.rd_timeline.specs.Policy.{RecordsMoves}
 use Rattle.rd_timeline.proofs.DecodedLaws.{carried_in-append}
 use Rattle.rd_timeline.proofs.HistoryLaws.{state_after-push}
+use Rattle.rd_timeline.proofs.RecordedLaws.{RecordsMoves-one}
 use Rattle.rd_timeline.proofs.TimelineLaws.{IsWhole-push, at_most_room, grown, settled_after, state_now}
 use Rattle.std.proofs.lemmas.List.{length_push}
 use Rattle.rd_timeline.proofs.timeline.Timeline.go.Goals as goal
@@ -57,7 +61,7 @@ invariant_of-self-2 c =
       most_done = c.with-self-inside.result;
       most_carried = c.with-self-inside-2.result;
       most_bytes = c.with-self-inside-3.result;
-      read = t.read;
+      others = t.others;
     })
     c.args.action.now made.lays.undo c.self.invariant refl refl (subst (λ (course : Course). IsMoveOf course.app c.args.action.now) (sym c.self.view_is) c.requires.named) (search rules) from_target (played.leads_back ∙ same.target) played.can_undo
     played.valid settled all
@@ -70,6 +74,7 @@ invariant_of-self-2 c =
     (omega (arith, ap carried_in same.done, c.self.invariant.kept.made.carried_were, carried_in-append t.journal.done t.journal.undone)))
     (grown t c.bytes-bytes.result c.with-self-inside-3.result.value c.reserve_for.new.self c.play.new.self c.self.invariant.memory c.bytes-bytes.ensures c.with-self-inside-3.ensures
     made.ahead (omega (arith, c.reserve_for.ensures.same_memory, c.play.ensures.grows)))
+    (omega (arith, c.play.ensures.read, same.read, c.self.invariant.others))
 
 pub returns-clause-leads : goal.returns-clause-leads
 returns-clause-leads c =
@@ -80,3 +85,23 @@ returns-clause-leads c =
     ∙ state_after-push t.app t.journal.done c.args.action.now t.journal.target
     (state_now t c.self.invariant).state
     ∙ ap (λ (s : Snapshot). step t.app s c.args.action.now) (sym c.reserve_for.ensures.same.target) ∙ made.lays.played.step
+
+pub returns-clause-recorded : goal.returns-clause-recorded
+returns-clause-recorded c =
+    let t = c.self.inside in
+    let same = c.reserve_for.ensures.same in
+    let made = c.in_ok-play.ensures in
+    let lays : RecordsMove t.app t.journal.target c.args.action.now c.play.new.self.target t.journal.records c.play.new.self.records =
+    subst (λ (records : List (List Change)). RecordsMove t.app t.journal.target c.args.action.now c.play.new.self.target records c.play.new.self.records) same.records
+    (subst (λ (s : Snapshot). RecordsMove t.app s c.args.action.now c.play.new.self.target c.reserve_for.new.self.records c.play.new.self.records) same.target made.lays) in
+    let new : Course = course_of (record {
+      app = t.app;
+      limit = t.limit;
+      journal = c.play.new.self;
+      most_done = c.with-self-inside.result;
+      most_carried = c.with-self-inside-2.result;
+      most_bytes = c.with-self-inside-3.result;
+      others = t.others;
+    }) in
+    subst (λ (course : Course). RecordsMoves course new) c.self.view_is
+    (RecordsMoves-one (course_of t) new c.args.action.now lays (made.done ∙ ap (λ (moves : List PlainMove). moves ++ c.args.action.now ∷ []) same.done))

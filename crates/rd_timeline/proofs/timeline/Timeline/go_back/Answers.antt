@@ -13,5 +13,6 @@ pub invariant_of-self : goal.invariant_of-self
 invariant_of-self c =
     let t = c.self.inside in
     let taken = c.take_back.ensures in
-    IsWhole-back t c.take_back.new.self c.self.inside.read c.args.n (omega (arith, ap (λ (course : Course). length course.log) c.self.view_is)) c.self.invariant taken.target taken.done taken.records taken.undone
+    IsWhole-back t c.take_back.new.self c.more-self-inside.result c.args.n (omega (arith, ap (λ (course : Course). length course.log) c.self.view_is)) c.self.invariant taken.target taken.done taken.records taken.undone
     taken.kept_capacity taken.kept_carried_capacity taken.same_memory
+    (omega (arith, taken.read, c.self.invariant.others, c.more-self-inside.ensures, c.count-before.ensures, c.count.ensures))

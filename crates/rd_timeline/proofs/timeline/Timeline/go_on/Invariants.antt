@@ -1,6 +1,6 @@
 -- So many moves were made, and the goal wasn't met after any of them.
 use Rattle.std.proofs.Common.{◌≡◌, []}
-use Rattle.rd_timeline.specs.Policy.{Going, done_by_policy, run_from, state_by_policy, StandsOn}
+use Rattle.rd_timeline.specs.Policy.{Going, done_by_policy, run_from, state_by_policy, RecordsMoves, StandsOn}
 use Rattle.rd_timeline.proofs.PolicyLaws.{IsMost}
 use Rattle.rd_timeline.proofs.timeline.Timeline.go_on.Given as goal
 
@@ -11,5 +11,6 @@ invariant-loop l = record {
   done : l.self.done ≡ done_by_policy l.fn.self l.counter;
   undone : l.self.undone ≡ [];
   stands : StandsOn l.fn.self l.self;
+  recorded : RecordsMoves l.fn.self l.self;
   most : IsMost l.fn.self l.counter l.self;
 }

@@ -14,7 +14,7 @@ loop-preserved c =
     let made = c.in_ok-redo_one.ensures in
     let less : c.loop.counter < length c.args.self.now.undone = omega (arith, c.loop-test.true, c.requires) in record {
       has =
-          HasRedone-next c.args.self.now c.loop.self c.redo_one.new.self c.loop.counter i.has less made.stands made.done made.undone made.most_done
+          HasRedone-next c.args.self.now c.loop.self c.redo_one.new.self c.loop.counter i.has less made.stands made.recorded made.done made.undone made.most_done
           made.most_carried made.most_bytes;
       stands = StandsOn-trans c.args.self.now c.loop.self c.redo_one.new.self i.stands made.stands;
     }

@@ -7,8 +7,11 @@ use Rattle.rd_calls.specs.Step.{step}
 use Rattle.rd_refusal.specs.declared.refusal.Refusal.{Refusal}
 use Rattle.rd_refusal.specs.declared.refusal.Refusal.TheVariants.{NoMemory}
 use Rattle.rd_timeline.specs.Course.{Course}
+use Rattle.rd_timeline.specs.Inside.{course_of}
 use Rattle.rd_timeline.specs.JournalView.{next_undone}
 use Rattle.rd_timeline.specs.LogView.{bytes_of}
+use Rattle.rd_timeline.specs.Policy.{RecordsMoves}
+use Rattle.rd_timeline.proofs.RecordedLaws.{RecordsMoves-one}
 use Rattle.rd_timeline.proofs.TimelineLaws.{IsWhole-replay, all_the_same, next_is_made, next_is_named, settled_after, state_now}
 use Rattle.rd_timeline.proofs.timeline.Timeline.redo_one.Goals as goal
 
@@ -47,6 +50,7 @@ invariant_of-self-2 c =
     (omega (arith, c.replay.ensures.kept_capacity))
     (omega (arith, c.replay.ensures.kept_carried_capacity))
     c.replay.ensures.grows
+    c.replay.ensures.read
 
 -- The kernel's rules don't refuse it, so it is the log that can't grow, which has room for as much as there was once.
 pub returns-in-Err-clause-short : goal.returns-in-Err-clause-short
@@ -67,3 +71,11 @@ returns-in-Err-clause-short c =
       | inr room ↦ omega (arith, room, short)
     ] in
     subst (λ (course : Course). course.most_bytes < bytes_of course.log) c.self.view_is less
+
+pub returns-clause-recorded : goal.returns-clause-recorded
+returns-clause-recorded c =
+    let t = c.self.inside in
+    let made = c.in_default.ensures in
+    let new : Course = course_of (record t { journal = c.replay.new.self }) in
+    subst (λ (course : Course). RecordsMoves course new) c.self.view_is
+    (RecordsMoves-one (course_of t) new (next_undone t.journal) made.lays made.done)
