@@ -1,5 +1,5 @@
 -- What the fields of `Rows` stand for.
-use Rattle.std.specs.Prelude.{ℕ, zero, suc, ◌≡◌, ◌-◌, ◌≤◌, min, List, [], ◌∷◌, length}
+use Rattle.std.specs.Prelude.{ℕ, zero, suc, ◌≡◌, ◌-◌, ◌≤◌, List, [], ◌∷◌, length}
 use Rattle.std.specs.Prelude.{drop, slice_range, take, vec_capacity, vec_len}
 use Rattle.rd_desk.specs.declared.entry.Noted.{Noted}
 use Rattle.rd_desk.specs.declared.rows.Row.{Row}
@@ -7,7 +7,6 @@ use Rattle.rd_desk.specs.declared.rows.Rows.TheInside.{Inside}
 use Rattle.rd_desk.specs.HistoryView.{deed_event, IsLineOf}
 use Rattle.rd_desk.specs.Kept.{kept_of, line_end_of, reply_kept, wide}
 use Rattle.rd_desk.specs.declared.kept.Kept.{Kept}
-use Rattle.rd_desk.specs.declared.rows.TheConstants.{MAX_ROW_BYTES}
 use Rattle.rd_desk.specs.Rows.{RowsView}
 
 -- where the bytes of a row end
@@ -79,10 +78,9 @@ abbrev pub rows_of : Inside → RowsView
 rows_of r = record {
   noted = noted_from r.bytes.items 0 r.rows.items;
   row_room = vec_capacity r.rows - vec_len r.rows;
-  byte_room = min (vec_capacity r.bytes) MAX_ROW_BYTES - vec_len r.bytes;
+  byte_room = vec_capacity r.bytes - vec_len r.bytes;
 }
 
--- The rows are there with their bytes, of which there are no more than there may be.
-pub record AreKept (r : Inside) : Type 0 where
-  pub rows : AreRows r.bytes.items 0 r.rows.items
-  pub few : length r.bytes.items ≤ MAX_ROW_BYTES
+-- The rows are there with their bytes.
+abbrev pub AreKept : Inside → Type 0
+AreKept r = AreRows r.bytes.items 0 r.rows.items

@@ -18,10 +18,6 @@ use rd_bytes::no_memory::NoMemory;
 use std::alloc::Global;
 use std::marker::Model;
 
-/// How many bytes the lines and views of rows have together at the most: more than any machine has
-/// memory for. Where a row ends is kept with 40 bits.
-pub(crate) const MAX_ROW_BYTES: usize = (1 << 40) - 1;
-
 /// What a session did, but for the line of a command.
 #[derive(Clone, Copy, PartialEq, Eq)]
 pub enum Deed {
@@ -35,7 +31,7 @@ pub enum Deed {
 
 // What is kept of an entry or of a receipt, but for its bytes: the line of its command, and behind
 // it the text of its view. They begin where those of the row before end. The halves of where they
-// end, and of the reply that is kept, lie side by side, so that a row has no gaps.
+// end, and of the reply that is kept, lie side by side, so that a row has no gap but at its end.
 #[derive(Clone, Copy)]
 struct Row {
     first: u32,
@@ -43,7 +39,7 @@ struct Row {
     third: u32,
     number: u32,
     low_end: u32,
-    high_end: u8,
+    high_end: u32,
     deed: Deed,
     kind: Kind,
 }
@@ -64,7 +60,7 @@ struct Unpacked<'a> {
     text: &'a [u8],
 }
 
-/// What was done and replied so far, in order, each under a number. Each takes a row of 24 bytes,
+/// What was done and replied so far, in order, each under a number. Each takes a row of 28 bytes,
 /// and the bytes of the line of its command and of its view.
 #[derive(Drop)]
 pub struct Rows {
@@ -110,7 +106,6 @@ fn append_reserved(bytes: &mut Vec<u8>, more: &[u8])
 impl Row {
     // Of what is kept, with where its bytes end.
     fn new(end: usize, number: u32, deed: Deed, packed: Packed) -> Row
-        requires { end ≤ MAX_ROW_BYTES }
         ensures end { row_end result ≡ end }
         ensures number { result.number ≡ number }
         ensures deed { result.deed ≡ deed }
@@ -122,7 +117,7 @@ impl Row {
             third: packed.third,
             number,
             low_end: (end % (1 << 32)) as u32,
-            high_end: (end / (1 << 32)) as u8,
+            high_end: (end / (1 << 32)) as u32,
             deed,
             kind: packed.kind,
         }
@@ -353,12 +348,11 @@ impl Rows {
         ensures { IsTrue result ↔ ((rows ≤ self.now.row_room) × (bytes ≤ self.now.byte_room)) }
     {
         rows <= self.rows.capacity() - self.rows.len()
-            && bytes <= self.bytes.capacity().min(MAX_ROW_BYTES) - self.bytes.len()
+            && bytes <= self.bytes.capacity() - self.bytes.len()
     }
 
-    /// Makes room for so many more, and for so many bytes of theirs. Where there is no memory for
-    /// them, or all would have more than 2^40 - 1 bytes, all stay, there is no less room, and no
-    /// room for one of them.
+    /// Makes room for so many more, and for so many bytes of theirs. Where a growth is refused, all
+    /// stay, there is no less room, and too little for the rows or for the bytes.
     pub fn make_room(&mut self, rows: usize, bytes: usize) -> Result<(), NoMemory>
         ensures noted { self.new.noted ≡ self.old.noted }
         ensures ok_rows { OnOk result (rows ≤ self.new.row_room) }
@@ -370,9 +364,6 @@ impl Rows {
     {
         self.rows.reserve(rows)?;
         self.bytes.reserve(bytes)?;
-        if bytes > MAX_ROW_BYTES - self.bytes.len() {
-            return Err(NoMemory);
-        }
         Ok(())
     }
 

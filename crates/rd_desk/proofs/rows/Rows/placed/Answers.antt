@@ -33,7 +33,7 @@ is_row : (r : Inside) (now : RowsView) (index : ℕ) (rows : List Row) → rows_
     → IsRowOf r.bytes.items (start_at 0 rows index) (row_of rows index)
 is_row r now index rows seen kept are there =
     let within : index < length rows = omega (arith, there, as_many r now seen, ap length are) in
-    row_at r.bytes.items 0 rows index (row_of rows index) (subst (AreRows r.bytes.items 0) (sym are) kept.rows) (slice_get-get_or rows index _ within)
+    row_at r.bytes.items 0 rows index (row_of rows index) (subst (AreRows r.bytes.items 0) (sym are) kept) (slice_get-get_or rows index _ within)
 
 pub bytes_of-requires : goal.bytes_of-requires
 bytes_of-requires c =

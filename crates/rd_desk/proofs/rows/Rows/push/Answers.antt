@@ -36,14 +36,11 @@ invariant_of-self c =
     let more = line ++ reply_bytes reply in
     let row = c.new.result in
     let end = (row_is c).ends in
-    record {
-      rows = subst (λ (rows : List Row). AreRows c.append_reserved-2.new.bytes.items 0 rows) (sym c.push_reserved.ensures.items)
-          (subst (λ (all : List ℕ). AreRows all 0 (c.self.inside.rows.items ++ row ∷ [])) (sym (bytes_are c))
-          (rows_push bytes more 0 c.self.inside.rows.items row c.self.invariant.rows
-          (row_behind bytes c.args.number c.args.deed line reply row (row_is c) c.requires.line)
-          (omega (arith, end, length-append bytes more, length-append line (reply_bytes reply)))));
-      few = omega (arith, c.requires.bytes, c.self.invariant.few, ap length (bytes_are c), length-append bytes more, length-append line (reply_bytes reply), ap (λ (v : RowsView). v.byte_room) c.self.view_is);
-    }
+    subst (λ (rows : List Row). AreRows c.append_reserved-2.new.bytes.items 0 rows) (sym c.push_reserved.ensures.items)
+    (subst (λ (all : List ℕ). AreRows all 0 (c.self.inside.rows.items ++ row ∷ [])) (sym (bytes_are c))
+    (rows_push bytes more 0 c.self.inside.rows.items row c.self.invariant
+    (row_behind bytes c.args.number c.args.deed line reply row (row_is c) c.requires.line)
+    (omega (arith, end, length-append bytes more, length-append line (reply_bytes reply)))))
 
 pub returns-clause-noted : goal.returns-clause-noted
 returns-clause-noted c =
@@ -55,6 +52,6 @@ returns-clause-noted c =
     let more = line ++ reply_bytes reply in
     ap (λ (all : List ℕ). noted_from all 0 c.push_reserved.new.self.items) (bytes_are c)
     ∙ ap (noted_from (bytes ++ more) 0) c.push_reserved.ensures.items
-    ∙ noted_push bytes more 0 rows row c.self.invariant.rows
+    ∙ noted_push bytes more 0 rows row c.self.invariant
     ∙ ap (λ (noted : Noted). noted_from bytes 0 rows ++ noted ∷ []) (noted_behind bytes c.args.number c.args.deed line reply row (row_is c))
     ∙ ap (λ (v : RowsView). v.noted ++ record { number = c.args.number; event = deed_event c.args.deed line; reply = reply } ∷ []) c.self.view_is
