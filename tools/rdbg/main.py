@@ -1,10 +1,12 @@
 """Finds the companion that the first word names, and runs it."""
+import errno
 import importlib
 import os
 import sys
 from types import ModuleType
 from typing import TYPE_CHECKING, List, Sequence
 
+from rdbg import output
 from rdbg.ending import ENDING
 from rdbg.failure import Failure
 
@@ -92,8 +94,8 @@ def main(words: Sequence[str]) -> int:
         return failure.status
     except OSError as error:
         ENDING.check()
-        # (the output can't be written, or who read it has gone; Python would say so once more)
-        os.dup2(os.open(os.devnull, os.O_WRONLY), sys.stdout.fileno())
+        # (the output can't be written, or who read it has gone)
+        output.give_up()
         if not isinstance(error, BrokenPipeError):
             print(" ".join(["rdbg", *words[:1]]) + f": {error.strerror}", file=sys.stderr)
-        return 1
+        return 2 if error.errno == errno.ENOMEM else 1

@@ -26,13 +26,12 @@ def start(words: Sequence[str]) -> int:
         ENDING.leave(signal.SIGINT)
     except Terminated:
         ENDING.leave(signal.SIGTERM)
-    except ImportError:
+    except ImportError as error:
         from rdbg.lacking import lacking
 
         missing = lacking()
-        if not missing:
-            raise
-        print(f"rdbg: this Python lacks {', '.join(missing)}: install python3", file=sys.stderr)
+        lacks = f"this Python lacks {', '.join(missing)}: install python3"
+        print(f"rdbg: {lacks if missing else error}", file=sys.stderr)
         return 2
     finally:
         ENDING.is_running = False

@@ -20,6 +20,8 @@ class Finder:
         if name in at.split(","):
             if action == "hide":
                 raise ModuleNotFoundError(f"No module named {name!r}", name=name)
+            if action == "fill":
+                raise MemoryError
             os.kill(os.getpid(), int(action))
 sys.meta_path.insert(0, Finder())
 sys.argv = [companion, *words]
@@ -33,7 +35,8 @@ exec sleep 1000
 
 
 def at_import(module: str, action: str, *words: str) -> "subprocess.CompletedProcess[str]":
-    """A companion of which, before a module is imported, this signal comes, or that is hidden."""
+    """A companion of which, before a module is imported, this signal comes, or that is hidden, or
+    memory ends."""
     told = [sys.executable, "-B", "-c", RUNNER, str(COMPANION), module, action, *words]
     return subprocess.run(
         told, stdin=subprocess.DEVNULL, stdout=subprocess.PIPE, stderr=subprocess.PIPE, text=True

@@ -1,7 +1,10 @@
 """`rdbg reach`: what becomes of the program's answer, its end by time and by signals, and `-o`."""
+import contextlib
 import os
 import pathlib
 import signal
+import subprocess
+import sys
 import tempfile
 import time
 import unittest
@@ -9,7 +12,7 @@ from typing import List
 from unittest import mock
 
 from tests import searches
-from tests.paths import EXAMPLES
+from tests.paths import COMPANION, EXAMPLES
 from tests.searches import FAR, FOUND, FURTHER, KILLED, NEVER, SAID_FURTHER, SLEEPS, program, said
 from tests.started import Started
 
@@ -85,6 +88,26 @@ class Dead(unittest.TestCase):
         ):
             with mock.patch.dict(os.environ, {"RDBG_REACH": named}):
                 self.assertEqual((2, "", [f"rdbg reach: {why}"]), said(*ASKED))
+
+
+class Untaken(unittest.TestCase):
+    """An output that nobody takes: the status isn't that of an answer which nobody has."""
+
+    def test_it(self) -> None:
+        command = [sys.executable, "-B", str(COMPANION), "reach", *ASKED]
+        for path, why in (("/dev/full", "No space left on device"), ("", "Broken pipe")):
+            with self.subTest(why), program(FOUND, FAR, "exit 1"), contextlib.ExitStack() as ends:
+                output = ends.enter_context(open(path, "wb")).fileno() if path else broken(ends)
+                ran = subprocess.run(command, stdout=output, stderr=subprocess.PIPE)
+                self.assertEqual((2, f"rdbg reach: {why}\n"), (ran.returncode, ran.stderr.decode()))
+
+
+def broken(ends: contextlib.ExitStack) -> int:
+    """A pipe that nobody reads."""
+    reading, writing = os.pipe()
+    os.close(reading)
+    ends.callback(os.close, writing)
+    return writing
 
 
 class Ended(InFolder):

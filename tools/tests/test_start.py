@@ -160,6 +160,16 @@ class Lacking(unittest.TestCase):
         )
 
 
+class Full(unittest.TestCase):
+    """Memory that ends while the modules are imported."""
+
+    def test_one_line(self) -> None:
+        for module in ("rdbg.start", "rdbg.main", "rdbg.companions.reach", "selectors"):
+            with self.subTest(module):
+                ran = at_import(module, "fill", "reach", LOST, "asleep")
+                self.assertEqual(("rdbg: there is no memory\n", 2), (ran.stderr, ran.returncode))
+
+
 class Copy:
     """The companions in a folder of their own, as a checkout or as they are installed."""
 

@@ -4,7 +4,8 @@ import os
 import sys
 from typing import Sequence
 
-from rdbg import program_help, whole_file
+from rdbg import output, program_help, whole_file
+from rdbg.ending import ENDING
 from rdbg.failure import Failure
 from rdbg.reaching import answer, running
 from rdbg.reaching.words import Words, read
@@ -35,9 +36,9 @@ def check_output(asked: Words) -> None:
             raise Failure(f"-o {path} is {file} itself, which would be lost", 2)
 
 
-def save(asked: Words, output: str) -> None:
+def save(asked: Words, answered: str) -> None:
     """Writes the order that was found where that was asked. Raises `Failure` where it can't be."""
-    order = answer.order_of(output)
+    order = answer.order_of(answered)
     if asked.output is not None and order is not None:
         with whole_file.written(asked.output) as file:
             file.writelines(f"{line}\n" for line in order)
@@ -68,4 +69,13 @@ def main(words: Sequence[str]) -> int:
             stream.reconfigure(errors="backslashreplace")
     asked = read(words)
     check_output(asked)
-    return say(asked, running.run([program(), "--progress", *asked.program], asked.seconds))
+    try:
+        status = say(asked, running.run([program(), "--progress", *asked.program], asked.seconds))
+        sys.stdout.flush()
+        return status
+    except OSError as error:
+        ENDING.check()
+        output.give_up()
+        raise Failure(error.strerror or str(error), answer.UNTOLD) from None
+    except MemoryError:
+        raise Failure("there is no memory", answer.UNTOLD) from None
