@@ -82,6 +82,12 @@ class Shown(unittest.TestCase):
             "within 1 moves, deepest 1: 1 states, 2 moves a second, 0 MiB", self.terminal.seen()
         )
 
+    def test_a_count_that_begins_anew(self) -> None:
+        for moves in (5_000, 300):
+            self.now += 1
+            self.gauge.show(Progress(1, None, 1, moves, 1, 0))
+        self.assertIn(" 300 moves a second", self.terminal.seen())
+
     def test_nothing_new(self) -> None:
         for progress in (None, self.far, self.far):
             self.now += 1

@@ -2,7 +2,7 @@
 import unittest
 
 from rdbg.failure import Failure
-from rdbg.reaching.words import read
+from rdbg.reaching.words import PROGRESS, read
 
 
 class Own(unittest.TestCase):
@@ -10,8 +10,8 @@ class Own(unittest.TestCase):
 
     def test_none_of_them(self) -> None:
         words = ["a.json", "count", "q", "=", "2", "--moves", "5", "--pace=2..4"]
-        asked = read(words)
-        self.assertEqual((words, None, None), tuple(asked))
+        for given in (words, [*words, PROGRESS], [PROGRESS, *words]):
+            self.assertEqual(([PROGRESS, *words], None, None), tuple(read(given)))
 
     def test_each_way_to_write_them(self) -> None:
         for line in (
@@ -22,12 +22,12 @@ class Own(unittest.TestCase):
         ):
             with self.subTest(line):
                 asked = read(line.split())
-                self.assertEqual("a.json asleep --moves 5".split(), asked.program)
+                self.assertEqual(f"{PROGRESS} a.json asleep --moves 5".split(), asked.program)
                 self.assertEqual(("out", 2.5), (asked.output, asked.seconds))
 
     def test_behind_two_dashes_there_are_none(self) -> None:
         words = "a.json --moves 5 -- asleep -o --within".split()
-        self.assertEqual((words, None, None), tuple(read(words)))
+        self.assertEqual(([PROGRESS, *words], None, None), tuple(read(words)))
 
     def test_what_is_wrong(self) -> None:
         for line, why in (

@@ -70,7 +70,7 @@ def main(words: Sequence[str]) -> int:
     asked = read(words)
     check_output(asked)
     try:
-        status = say(asked, running.run([program(), "--progress", *asked.program], asked.seconds))
+        status = say(asked, running.run([program(), *asked.program], asked.seconds))
         sys.stdout.flush()
         return status
     except OSError as error:

@@ -62,7 +62,9 @@ class Gauge:
         self._due = now + EVERY
         if progress is None or progress.moves == self._seen:
             return
-        speed = (progress.moves - self._seen) / (now - self._at)
+        # (where the program counts anew, all that it has counted is new)
+        before = self._seen if self._seen < progress.moves else 0
+        speed = (progress.moves - before) / (now - self._at)
         self._seen, self._at = progress.moves, now
         self._draw(
             f"within {progress.within:,} moves, deepest {progress.deepest:,}:"

@@ -7,6 +7,8 @@ from rdbg.digits import is_digits, seconds
 from rdbg.failure import Failure
 
 OUTPUT, WITHIN, SURPRISES = "-o", "--within", "--surprises"
+# Has the program say how far it is, which it always does here.
+PROGRESS = "--progress"
 # What stands behind each of these, which the program doesn't know.
 OWN = {OUTPUT: "OUT", WITHIN: "SECONDS"}
 # Behind it all words are a file and a goal.
@@ -14,7 +16,7 @@ NO_MORE = "--"
 
 
 class Words(NamedTuple):
-    """What was asked for."""
+    """What was asked for: the words of the program, and what its starter does."""
 
     program: List[str]
     output: Optional[str]
@@ -48,14 +50,14 @@ def own(word: str) -> Tuple[str, Optional[str]]:
 def read(words: Sequence[str]) -> Words:
     """What words ask for. Raises `Failure` where one of what starts the program is wrong; all others
     are the program's to judge."""
-    program: List[str] = []
+    program = [PROGRESS]
     found: Dict[str, str] = {}
     left = list(words)
     while left and left[0] != NO_MORE:
         word = left.pop(0)
         option, value = own(word)
         if not option:
-            program.append(word)
+            program += [word] if word != PROGRESS else []
             continue
         if option in found:
             raise Failure(f"{option} stands twice", 2)
