@@ -1,7 +1,8 @@
 -- The sequential debugger: what it has, and the target that it shows.
-use Rattle.std.specs.Prelude.{ℕ, Option, None, Some, [], nat_eq, if◌then◌else◌, Bool}
+use Rattle.std.specs.Prelude.{ℕ, List, Option, None, Some, [], nat_eq, if◌then◌else◌, Bool}
 use Rattle.std.specs.Prelude.{false}
 use Rattle.rd_names.specs.Apps.{AppView}
+use Rattle.rd_state.specs.Change.{Change}
 use Rattle.rd_state.specs.Snapshot.{Snapshot}
 use Rattle.rd_timeline.specs.Runs.{Moves, state_of}
 use Rattle.rd_desk.specs.Sessions.{SessionsView, WatchesView, watches_of, with_watches}
@@ -14,6 +15,11 @@ pub record Debugger : Type 0 where
   pub moves : Moves
   pub wheel : Option ℕ
   pub sessions : SessionsView
+
+-- a debugger, and the records that it holds of the last moves done, from the base on
+pub record MachineView : Type 0 where
+  pub debugger : Debugger
+  pub log : List (List Change)
 
 -- the debugger as it begins
 abbrev pub opening : AppView → ℕ → Debugger

@@ -8,7 +8,8 @@ use Rattle.rd_desk.specs.Sessions.{present_count}
 
 abbrev pub desk_of : Inside → DeskView
 desk_of d = record {
-  debugger = d.machine;
+  debugger = d.machine.debugger;
+  log = d.machine.log;
   most_entries = d.limit;
   history = d.history.entries;
 }
@@ -22,7 +23,7 @@ roomed_desk_of d = record {
 
 -- The history is legal, and has room for each session's departure.
 pub record IsWhole (d : Inside) : Type 0 where
-  pub legal : IsLegal d.history.entries d.machine
+  pub legal : IsLegal d.history.entries d.machine.debugger
   pub within : used (desk_of d) ≤ d.limit
-  pub joins : length d.machine.sessions ≤ MAX_JOINS
-  pub room : present_count d.machine.sessions ≤ d.history.row_room
+  pub joins : length d.machine.debugger.sessions ≤ MAX_JOINS
+  pub room : present_count d.machine.debugger.sessions ≤ d.history.row_room

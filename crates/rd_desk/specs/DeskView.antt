@@ -15,9 +15,11 @@ use Rattle.rd_desk.specs.Serving.{MayAct, reply_of, served}
 use Rattle.rd_desk.specs.Sessions.{present_count}
 use Rattle.rd_desk.specs.Views.{AreNamesOf}
 
--- the debugger, how many entries the history may have, and the history
+-- the debugger, the records that it holds of the last moves done, how many entries the history may
+-- have, and the history
 pub record DeskView : Type 0 where
   pub debugger : Debugger
+  pub log : List (List Change)
   pub most_entries : ℕ
   pub history : List Entry
 
@@ -31,11 +33,11 @@ pub record RoomedDesk : Type 0 where
 abbrev pub used : DeskView → ℕ
 used d = length d.history + present_count d.debugger.sessions
 
--- There is a record for each of the moves done from the base on. Going back from the state by the
--- last ones, as many as one likes, can be done, and gives the whole state that the moves before
--- them gave.
-pub record LeadsBack (app : Application) (moves : Moves) (s : Snapshot) : Type 0 where
-  pub records : List (List Change)
+-- These are the records of the moves done from the base on, one for each. Going back from the state
+-- by the last ones, as many as one likes, can be done, and gives the whole state that the moves
+-- before them gave.
+pub record LeadsBack (app : Application) (moves : Moves) (s : Snapshot)
+    (records : List (List Change)) : Type 0 where
   pub base : moves.base ≤ length moves.done
   pub each : length records ≡ kept moves
   pub can : CanRewind s records
@@ -43,14 +45,14 @@ pub record LeadsBack (app : Application) (moves : Moves) (s : Snapshot) : Type 0
 
 -- The history is one of the sequential debugger, and each session that is present has a place for
 -- its departure. The moves done, and not undone, give the target from the start, and the
--- records of the last ones, from the base on, lead back from it. There are as many names as
--- things in it.
+-- records that are held, those of the last ones from the base on, lead back from it. There are as
+-- many names as things in it.
 pub record IsKept (d : DeskView) : Type 0 where
   pub legal : IsLegal d.history d.debugger
   pub within : used d ≤ d.most_entries
   pub joins : length d.debugger.sessions ≤ MAX_JOINS
   pub leads : state_after d.debugger.app.runs d.debugger.moves.done ≡ Ok (target_of d.debugger)
-  pub leads_back : LeadsBack d.debugger.app.runs d.debugger.moves (target_of d.debugger)
+  pub leads_back : LeadsBack d.debugger.app.runs d.debugger.moves (target_of d.debugger) d.log
   pub paired : AreNamesOf (target_of d.debugger) d.debugger.app.names
 
 -- the entry of an event

@@ -1,8 +1,8 @@
--- The debugger that the fields of a `Machine` stand for.
+-- The debugger that the fields of a `Machine` stand for, and its records.
 use Rattle.rd_names.specs.Apps.{AreAsMany}
 use Rattle.rd_timeline.specs.Runs.{moves_of}
 use Rattle.rd_desk.specs.declared.machine.Machine.TheInside.{Inside}
-use Rattle.rd_desk.specs.Debugger.{Debugger}
+use Rattle.rd_desk.specs.Debugger.{Debugger, MachineView}
 use Rattle.rd_desk.specs.Kept.{IsShort}
 use Rattle.rd_desk.specs.Sessions.{AreSessionsOf}
 
@@ -14,6 +14,9 @@ debugger_of m = record {
   wheel = m.wheel;
   sessions = m.sessions;
 }
+
+abbrev pub machine_of : Inside → MachineView
+machine_of m = record { debugger = debugger_of m; log = m.timeline.log }
 
 -- Each kind has as many names as things, each watch is of what the application has, and so many
 -- moves may be done that a number of 32 bits tells how many are.

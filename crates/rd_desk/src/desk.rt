@@ -96,17 +96,18 @@ impl Model for Desk {
 
 // Lets the next session in, where there is room for its entry.
 fn admit(machine: &mut Machine, history: &mut History) -> Receipt
-    requires joins { length machine.old.sessions < MAX_JOINS }
+    requires joins { length machine.old.debugger.sessions < MAX_JOINS }
     requires room { 0 < history.old.row_room }
-    ensures machine { machine.new ≡ entered machine.old }
-    ensures present { present_count machine.new.sessions ≡ present_count machine.old.sessions + 1 }
+    ensures machine { machine.new.debugger ≡ entered machine.old.debugger }
+    ensures present { present_count machine.new.debugger.sessions
+        ≡ present_count machine.old.debugger.sessions + 1 }
     ensures history { history.new.entries ≡ history.old.entries
-        ++ entry_of machine.old (length machine.old.sessions + 1) Enter ∷ [] }
+        ++ entry_of machine.old.debugger (length machine.old.debugger.sessions + 1) Enter ∷ [] }
     ensures room { history.new.row_room + 1 ≡ history.old.row_room }
     ensures bytes { history.old.byte_room ≤ history.new.byte_room }
     ensures place { result.place ≡ length history.old.entries }
     ensures entry { result.entry
-        ≡ entry_of machine.old (length machine.old.sessions + 1) Enter }
+        ≡ entry_of machine.old.debugger (length machine.old.debugger.sessions + 1) Enter }
 {
     let who = machine.joins() as u32 + 1;
     let place = history.len();
@@ -160,6 +161,7 @@ impl Desk {
     pub fn open(alloc: Global, app: App, limits: Limits) -> Result<Desk, NoMemory>
         ensures { IfOk result (λ opened. opened.desk ≡ record {
           debugger = opening app limits.moves;
+          log = [];
           most_entries = limits.history;
           history = [];
         }) }
@@ -174,7 +176,7 @@ impl Desk {
 
     /// The history is one of the sequential debugger, each session that is present has a place for
     /// its departure, and the moves done, and not undone, give the target from the start, from
-    /// which a record of each leads back. There are as many names as things in it.
+    /// which the records that are held lead back. There are as many names as things in it.
     pub fn keeps(&self)
         ensures { IsKept self.now.desk }
     {

@@ -1,6 +1,6 @@
 //! The sequential debugger without its history: what each event makes of it, and what is replied.
 
-ghost use Rattle.std.specs.Prelude.{◌≡◌, ◌↔◌, ◌+◌, ◌<◌, length, slice_set, true};
+ghost use Rattle.std.specs.Prelude.{◌≡◌, ◌↔◌, ◌+◌, ◌<◌, [], length, slice_set, true};
 ghost use Rattle.std.specs.Prelude.{IfOk, IfSome, IsErr, IsSome, IsTrue, OnErr, Ok};
 ghost use Rattle.rd_command.specs.Bindings.{IsBoundOf, IsViewOf, known_of};
 ghost use Rattle.rd_command.specs.Keywords.{carrying};
@@ -12,6 +12,7 @@ ghost use Rattle.rd_timeline.specs.Runs.{kept, may_make_moves};
 ghost use Rattle.rd_desk.specs.Debugger.{freed, is_holder, opening, other_holder, own_watches};
 ghost use Rattle.rd_desk.specs.Debugger.{target_of, watching};
 ghost use Rattle.rd_desk.specs.DeskView.{LeadsBack};
+ghost use Rattle.rd_desk.specs.HistoryView.{IsView};
 ghost use Rattle.rd_desk.specs.Kept.{IsNarrow, IsShort};
 ghost use Rattle.rd_desk.specs.Memory.{is_text, makes_moves, needs_memory, NeedsMemory};
 ghost use Rattle.rd_desk.specs.Serving.{after_request, entered, held_by, left, overview_of};
@@ -53,13 +54,13 @@ pub struct Machine {
 }
 
 impl Model for Machine {
-    ghost use Rattle.rd_desk.specs.Debugger.{Debugger};
+    ghost use Rattle.rd_desk.specs.Debugger.{MachineView};
 
-    ghost Value = { Debugger };
+    ghost Value = { MachineView };
 
-    ghost use Rattle.rd_desk.specs.MachineInside.{debugger_of, IsMachine};
+    ghost use Rattle.rd_desk.specs.MachineInside.{machine_of, IsMachine};
 
-    ghost view = { debugger_of };
+    ghost view = { machine_of };
 
     ghost invariant = { IsMachine };
 }
@@ -109,7 +110,10 @@ fn freed(wheel: Option<u32>, who: u32) -> Option<u32>
 impl Machine {
     /// A debugger at its opening, for so many moves. A refusal drops the application.
     pub fn new(alloc: Global, app: App, moves: u32) -> Result<Machine, NoMemory>
-        ensures { IfOk result (λ machine. machine ≡ opening app moves) }
+        ensures { IfOk result (λ machine. machine ≡ record {
+          debugger = opening app moves;
+          log = [];
+        }) }
     {
         app.limits();
         let sessions = Sessions::new(alloc)?;
@@ -124,22 +128,24 @@ impl Machine {
         })
     }
 
-    /// The moves done, and not undone, give the target from the start, and the records of the last
-    /// ones, from the base on, lead back from it. There are as many names as things in it, and
-    /// fewer than 4,294,967,296 moves, done and undone.
+    /// The moves done, and not undone, give the target from the start, and the records that it
+    /// holds, those of the last ones from the base on, lead back from it. There are as many names
+    /// as things in it, and fewer than 4,294,967,296 moves, done and undone.
     pub fn keeps(&self)
-        ensures leads { state_after self.now.app.runs self.now.moves.done
-            ≡ Ok (target_of self.now) }
-        ensures leads_back { LeadsBack self.now.app.runs self.now.moves (target_of self.now) }
-        ensures paired { AreNamesOf (target_of self.now) self.now.app.names }
-        ensures few { IsShort (length self.now.moves.done + length self.now.moves.undone) }
+        ensures leads { state_after self.now.debugger.app.runs self.now.debugger.moves.done
+            ≡ Ok (target_of self.now.debugger) }
+        ensures leads_back { LeadsBack self.now.debugger.app.runs self.now.debugger.moves
+            (target_of self.now.debugger) self.now.log }
+        ensures paired { AreNamesOf (target_of self.now.debugger) self.now.debugger.app.names }
+        ensures few { IsShort
+            (length self.now.debugger.moves.done + length self.now.debugger.moves.undone) }
     {
         self.timeline.keeps();
     }
 
     /// The target.
     pub fn target(&self) -> &State
-        ensures { result.now ≡ target_of self.now }
+        ensures { result.now ≡ target_of self.now.debugger }
     {
         self.timeline.keeps();
         self.timeline.target()
@@ -147,56 +153,56 @@ impl Machine {
 
     /// What runs.
     pub fn program(&self) -> &Program
-        ensures { result.now ≡ self.now.app.runs }
+        ensures { result.now ≡ self.now.debugger.app.runs }
     {
         self.timeline.app()
     }
 
     /// What it is called.
     pub fn names(&self) -> &Names
-        ensures { result.now ≡ self.now.app.names }
+        ensures { result.now ≡ self.now.debugger.app.names }
     {
         &self.names
     }
 
     /// How many sessions have entered.
     pub fn joins(&self) -> usize
-        ensures { result ≡ length self.now.sessions }
+        ensures { result ≡ length self.now.debugger.sessions }
     {
         self.sessions.joins()
     }
 
     /// How many sessions are present.
     pub fn present(&self) -> usize
-        ensures { result ≡ present_count self.now.sessions }
+        ensures { result ≡ present_count self.now.debugger.sessions }
     {
         self.sessions.present()
     }
 
     /// Whether a session has entered, and not left.
     pub fn is_present(&self, who: u32) -> bool
-        ensures { IsTrue result ↔ IsPresent self.now.sessions who }
+        ensures { IsTrue result ↔ IsPresent self.now.debugger.sessions who }
     {
         self.sessions.is_present(who)
     }
 
     /// How many moves are done.
     pub fn done(&self) -> usize
-        ensures { result ≡ length self.now.moves.done }
+        ensures { result ≡ length self.now.debugger.moves.done }
     {
         self.timeline.at()
     }
 
     /// How many moves are undone.
     pub fn undone(&self) -> usize
-        ensures { result ≡ length self.now.moves.undone }
+        ensures { result ≡ length self.now.debugger.moves.undone }
     {
         self.timeline.left()
     }
 
     /// How many moves have a record kept, by which they can be taken back: the last ones done.
     pub fn kept(&self) -> usize
-        ensures { result ≡ kept self.now.moves }
+        ensures { result ≡ kept self.now.debugger.moves }
     {
         self.timeline.keeps();
         self.timeline.kept()
@@ -204,32 +210,37 @@ impl Machine {
 
     /// The session that has the wheel, if one has.
     pub fn wheel(&self) -> Option<u32>
-        ensures { result ≡ self.now.wheel }
+        ensures { result ≡ self.now.debugger.wheel }
     {
         self.wheel
     }
 
     /// How many watches the sessions that are present keep together.
     pub fn watch_count(&self) -> usize
-        ensures { result ≡ watch_count self.now.sessions }
+        ensures { result ≡ watch_count self.now.debugger.sessions }
     {
         self.sessions.watch_count()
     }
 
-    /// A session enters. It takes no memory.
+    /// A session enters. The moves and their records stay. It takes no memory.
     pub fn enter(&mut self)
-        requires { length self.old.sessions < MAX_JOINS }
-        ensures entered { self.new ≡ entered self.old }
-        ensures present { present_count self.new.sessions ≡ present_count self.old.sessions + 1 }
+        requires { length self.old.debugger.sessions < MAX_JOINS }
+        ensures entered { self.new.debugger ≡ entered self.old.debugger }
+        ensures log { self.new.log ≡ self.old.log }
+        ensures present { present_count self.new.debugger.sessions
+            ≡ present_count self.old.debugger.sessions + 1 }
     {
         self.sessions.join();
     }
 
-    /// A session leaves, and has no wheel and no watches any more. It takes no memory.
+    /// A session leaves, and has no wheel and no watches any more. The moves and their records
+    /// stay. It takes no memory.
     pub fn leave(&mut self, who: u32)
-        requires { IsPresent self.old.sessions who }
-        ensures left { self.new ≡ left self.old who }
-        ensures present { present_count self.new.sessions + 1 ≡ present_count self.old.sessions }
+        requires { IsPresent self.old.debugger.sessions who }
+        ensures left { self.new.debugger ≡ left self.old.debugger who }
+        ensures log { self.new.log ≡ self.old.log }
+        ensures present { present_count self.new.debugger.sessions + 1
+            ≡ present_count self.old.debugger.sessions }
     {
         self.wheel = freed(self.wheel, who);
         self.sessions.leave(who);
@@ -238,9 +249,12 @@ impl Machine {
     // Asks the timeline.
     #[inline(never)]
     fn ask(&mut self, request: &Request<Lent<'_>>) -> Result<Reply, NoMemory>
-        requires { IsRequestOf self.old.app.runs request.now }
-        ensures after { IfOk result (λ reply. self.new ≡ after_request self.old request.now) }
-        ensures reply { IfOk result (λ reply. reply ≡ reply_to_request self.old request.now) }
+        requires { IsRequestOf self.old.debugger.app.runs request.now }
+        ensures after { IfOk result
+            (λ reply. self.new.debugger ≡ after_request self.old.debugger request.now) }
+        ensures reply { IfOk result
+            (λ reply. reply ≡ reply_to_request self.old.debugger request.now) }
+        ensures shown { IfOk result (λ reply. IsView reply → self.new.log ≡ self.old.log) }
         ensures no_memory { OnErr result (may_make_moves request.now ≡ true) }
         ensures err { OnErr result (self.new ≡ self.old) }
     {
@@ -252,11 +266,12 @@ impl Machine {
     // meanwhile.
     #[inline(never)]
     fn carry(&mut self, carried: &Carried<Digits<'_>>) -> Result<Reply, NoMemory>
-        requires { IsRequestOf self.old.app.runs (carrying carried.now) }
+        requires { IsRequestOf self.old.debugger.app.runs (carrying carried.now) }
         ensures after { IfOk result
-            (λ reply. self.new ≡ after_request self.old (carrying carried.now)) }
+            (λ reply. self.new.debugger ≡ after_request self.old.debugger (carrying carried.now)) }
         ensures reply { IfOk result
-            (λ reply. reply ≡ reply_to_request self.old (carrying carried.now)) }
+            (λ reply. reply ≡ reply_to_request self.old.debugger (carrying carried.now)) }
+        ensures shown { IfOk result (λ reply. IsView reply → self.new.log ≡ self.old.log) }
         ensures err { OnErr result (self.new ≡ self.old) }
     {
         let carried = own(carried);
@@ -269,8 +284,10 @@ impl Machine {
     // Asks the timeline to search for the condition of a watch.
     #[inline(never)]
     fn ask_by_watch(&mut self, who: u32, watch: usize, search: Search) -> Result<Reply, NoMemory>
-        requires { IsPresent self.old.sessions who }
-        ensures ok { IfOk result (IsDone self.old who (bound.AsksByWatch watch search) self.new) }
+        requires { IsPresent self.old.debugger.sessions who }
+        ensures ok { IfOk result (IsDone self.old.debugger who (bound.AsksByWatch watch search)
+            self.new.debugger) }
+        ensures shown { IfOk result (λ reply. IsView reply → self.new.log ≡ self.old.log) }
         ensures no_memory { OnErr result (makes_moves search ≡ true) }
         ensures err { OnErr result (self.new ≡ self.old) }
     {
@@ -283,7 +300,8 @@ impl Machine {
     // The session takes the wheel, which no other has.
     #[inline(never)]
     fn take_wheel(&mut self, who: u32) -> Reply
-        ensures { IsDone self.old who bound.TakesWheel self.new result }
+        ensures done { IsDone self.old.debugger who bound.TakesWheel self.new.debugger result }
+        ensures log { self.new.log ≡ self.old.log }
     {
         self.wheel = Some(who);
         told(Short::Wheel)
@@ -292,7 +310,8 @@ impl Machine {
     // The session gives the wheel, if it has it.
     #[inline(never)]
     fn give_wheel(&mut self, who: u32) -> Reply
-        ensures { IsDone self.old who bound.GivesWheel self.new result }
+        ensures done { IsDone self.old.debugger who bound.GivesWheel self.new.debugger result }
+        ensures log { self.new.log ≡ self.old.log }
     {
         if is_holder(self.wheel, who) {
             self.wheel = None;
@@ -304,11 +323,12 @@ impl Machine {
 
     // Puts a watch, or none, at a number of the session.
     fn put_watch(&mut self, who: u32, number: usize, slot: Option<Condition>)
-        requires there { IsPresent self.old.sessions who }
-        requires number { number < length (own_watches self.old who) }
-        requires named { IfSome slot (IsConditionOf self.old.app.runs) }
-        ensures { self.new
-            ≡ watching self.old who (slice_set (own_watches self.old who) number slot) }
+        requires there { IsPresent self.old.debugger.sessions who }
+        requires number { number < length (own_watches self.old.debugger who) }
+        requires named { IfSome slot (IsConditionOf self.old.debugger.app.runs) }
+        ensures watching { self.new.debugger ≡ watching self.old.debugger who
+            (slice_set (own_watches self.old.debugger who) number slot) }
+        ensures log { self.new.log ≡ self.old.log }
     {
         let watches = self.sessions.watches(who).with(number, slot);
         self.sessions.set_watches(who, watches);
@@ -317,9 +337,10 @@ impl Machine {
     // The session keeps a condition, at the least number that is free.
     #[inline(never)]
     fn watch(&mut self, who: u32, condition: Condition) -> Reply
-        requires there { IsPresent self.old.sessions who }
-        requires named { IsConditionOf self.old.app.runs condition }
-        ensures { IsDone self.old who (bound.Keeps condition) self.new result }
+        requires there { IsPresent self.old.debugger.sessions who }
+        requires named { IsConditionOf self.old.debugger.app.runs condition }
+        ensures done { IsDone self.old.debugger who (bound.Keeps condition) self.new.debugger result }
+        ensures log { self.new.log ≡ self.old.log }
     {
         match self.sessions.watches(who).free() {
             Some(number) => {
@@ -333,8 +354,9 @@ impl Machine {
     // The session drops the watch with that number, if it has it.
     #[inline(never)]
     fn unwatch(&mut self, who: u32, number: usize) -> Reply
-        requires { IsPresent self.old.sessions who }
-        ensures { IsDone self.old who (bound.Drops number) self.new result }
+        requires { IsPresent self.old.debugger.sessions who }
+        ensures done { IsDone self.old.debugger who (bound.Drops number) self.new.debugger result }
+        ensures log { self.new.log ≡ self.old.log }
     {
         if self.sessions.watches(who).condition(number).is_some() {
             self.put_watch(who, number, None);
@@ -347,11 +369,12 @@ impl Machine {
     // A view of the target.
     #[inline(never)]
     fn view(&self, view: View) -> Result<Reply, NoMemory>
-        requires there { IsSome (text_shown self.now.app.names (target_of self.now) view) }
-        requires named { IsViewOf self.now.app.names view }
+        requires there { IsSome
+            (text_shown self.now.debugger.app.names (target_of self.now.debugger) view) }
+        requires named { IsViewOf self.now.debugger.app.names view }
         ensures { IfOk result (λ reply.
-            IfSome (text_shown self.now.app.names (target_of self.now) view) (λ text.
-            reply ≡ shown text)) }
+            IfSome (text_shown self.now.debugger.app.names (target_of self.now.debugger) view)
+            (λ text. reply ≡ shown text)) }
     {
         self.keeps();
         let line = show(self.alloc, self.target(), self.names(), view)?;
@@ -363,8 +386,9 @@ impl Machine {
     // The view of the session's watches.
     #[inline(never)]
     fn watches(&self, who: u32) -> Result<Reply, NoMemory>
-        requires { IsPresent self.now.sessions who }
-        ensures { IfOk result (λ reply. reply ≡ overview_of self.now who Overview.Watches) }
+        requires { IsPresent self.now.debugger.sessions who }
+        ensures { IfOk result
+            (λ reply. reply ≡ overview_of self.now.debugger who Overview.Watches) }
     {
         self.timeline.keeps();
         let watches = self.sessions.watches(who);
@@ -374,10 +398,10 @@ impl Machine {
 
     // What the session is shown. Nothing changes.
     fn look(&self, who: u32, view: View) -> Result<Reply, NoMemory>
-        requires there { IsPresent self.now.sessions who }
-        requires named { IsViewOf self.now.app.names view }
-        ensures ok { IfOk result (λ reply. reply ≡ view_of self.now who view) }
-        ensures no_memory { OnErr result (is_text (view_of self.now who view) ≡ true) }
+        requires there { IsPresent self.now.debugger.sessions who }
+        requires named { IsViewOf self.now.debugger.app.names view }
+        ensures ok { IfOk result (λ reply. reply ≡ view_of self.now.debugger who view) }
+        ensures no_memory { OnErr result (is_text (view_of self.now.debugger who view) ≡ true) }
     {
         let of = match view {
             View::Thing { .. } | View::Cores => return self.view(view),
@@ -396,10 +420,11 @@ impl Machine {
 
     // Does what a command asks for.
     fn obey(&mut self, who: u32, bound: &Bound<'_>) -> Result<Reply, NoMemory>
-        requires there { IsPresent self.old.sessions who }
-        requires named { IsBoundOf self.old.app bound.now }
-        ensures ok { IfOk result (IsDone self.old who bound.now self.new) }
-        ensures no_memory { IsErr result → needs_memory self.old who bound.now ≡ true }
+        requires there { IsPresent self.old.debugger.sessions who }
+        requires named { IsBoundOf self.old.debugger.app bound.now }
+        ensures ok { IfOk result (IsDone self.old.debugger who bound.now self.new.debugger) }
+        ensures shown { IfOk result (λ reply. IsView reply → self.new.log ≡ self.old.log) }
+        ensures no_memory { IsErr result → needs_memory self.old.debugger who bound.now ≡ true }
         ensures err { OnErr result (self.new ≡ self.old) }
     {
         match bound {
@@ -418,7 +443,7 @@ impl Machine {
 
     // The other session that a command is refused for, if it is.
     fn held_by(&self, who: u32, order: &Order<'_, '_>) -> Option<u32>
-        ensures { result ≡ held_by self.now who order.now.command }
+        ensures { result ≡ held_by self.now.debugger who order.now.command }
     {
         if order.needs_wheel() {
             other_holder(self.wheel, who)
@@ -432,14 +457,16 @@ impl Machine {
     /// that there is no room for a watch, that the session doesn't have the wheel that it would
     /// give, and then those of the timeline. They are replies, and change nothing. An `Err` says
     /// that there is no memory for the moves or the text that the command makes, and comes only
-    /// where it makes some; then nothing has changed either. The order was bound for this
-    /// application.
+    /// where it makes some; then nothing has changed either. What is shown leaves the records of
+    /// the moves too. The order was bound for this application.
     pub fn serve(&mut self, who: u32, order: &Order<'_, '_>) -> Result<Reply, NoMemory>
-        requires there { IsPresent self.old.sessions who }
-        requires application { order.now.known ≡ known_of self.old.app }
-        ensures ok { IfOk result (IsAnswered self.old who order.now.command self.new) }
+        requires there { IsPresent self.old.debugger.sessions who }
+        requires application { order.now.known ≡ known_of self.old.debugger.app }
+        ensures ok { IfOk result
+            (IsAnswered self.old.debugger who order.now.command self.new.debugger) }
+        ensures shown { IfOk result (λ reply. IsView reply → self.new.log ≡ self.old.log) }
         ensures narrow { IfOk result IsNarrow }
-        ensures no_memory { IsErr result → NeedsMemory self.old who order.now.command }
+        ensures no_memory { IsErr result → NeedsMemory self.old.debugger who order.now.command }
         ensures err { OnErr result (self.new ≡ self.old) }
     {
         self.keeps();

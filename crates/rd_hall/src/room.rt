@@ -96,6 +96,7 @@ impl<L: Setup> Room<L> {
         requires entries { limits.history ≡ L.most_entries }
         ensures room { IfOk result (λ opened. opened.0.desk ≡ record {
           debugger = opening app limits.moves;
+          log = [];
           most_entries = limits.history;
           history = [];
         }) }
@@ -118,14 +119,14 @@ impl<L: Setup> Room<L> {
 
     /// The target: the state that the moves done, and not undone, give from the start, whichever
     /// sessions made them. The history is one of the sequential debugger from its opening on, and
-    /// as long as the ledger's total. There is a record of each move done from the base on, and
-    /// going back by them gives the whole state before each.
+    /// as long as the ledger's total. The records that the room holds are of the moves done from
+    /// the base on, one of each, and going back by them gives the whole state before each.
     pub fn target(&self) -> &State
         ensures legal { IsLegal self.now.desk.history self.now.desk.debugger }
         ensures leads { state_after self.now.desk.debugger.app.runs
             self.now.desk.debugger.moves.done ≡ Ok result.now }
         ensures leads_back { LeadsBack self.now.desk.debugger.app.runs
-            self.now.desk.debugger.moves result.now }
+            self.now.desk.debugger.moves result.now self.now.desk.log }
         ensures counted { length self.now.desk.history ≡ self.now.total }
     {
         self.desk.keeps();

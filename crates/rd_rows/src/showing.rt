@@ -23,8 +23,9 @@ fn assert_shown<H: AllocGlobal + Abort>(
     view: View,
     wanted: &str,
 ) -> Result<(), Fail>
-    requires there { IsSome (text_shown machine.now.app.names (target_of machine.now) view) }
-    requires named { IsViewOf machine.now.app.names view }
+    requires there { IsSome
+        (text_shown machine.now.debugger.app.names (target_of machine.now.debugger) view) }
+    requires named { IsViewOf machine.now.debugger.app.names view }
 {
     machine.keeps();
     let line = show(rt.alloc(), machine.target(), machine.names(), view)?;
@@ -34,7 +35,7 @@ fn assert_shown<H: AllocGlobal + Abort>(
 
 // The queue, the task and the cores of the built-in application are shown so.
 fn assert_all_shown<H: AllocGlobal + Abort>(rt: &H, machine: &Machine) -> Result<(), Fail>
-    requires { machine.now.app.names ≡ builtin_names }
+    requires { machine.now.debugger.app.names ≡ builtin_names }
 {
     let queue = View::Thing {
         kind: Kind::Queue,

@@ -14,11 +14,11 @@ invariant_of-self c =
     let whole = c.self.invariant in
     let there = rw (← c.self.view_is) at c.requires in
     let longer = ap length c.push.ensures.entries in
-    let one_more = length_push d.history.entries (entry_of d.machine c.args.who Leave) in
+    let one_more = length_push d.history.entries (entry_of d.machine.debugger c.args.who Leave) in
     let as_many = ap (λ (e : Debugger). length e.sessions) c.leave.ensures.left in
-    let same = length-set d.machine.sessions (c.args.who - 1) None in
+    let same = length-set d.machine.debugger.sessions (c.args.who - 1) None in
     record {
-      legal = legal_push d.machine d.history.entries c.args.who Leave c.leave.new.self c.push.new.self.entries whole.legal there c.leave.ensures.left
+      legal = legal_push d.machine.debugger d.history.entries c.args.who Leave c.leave.new.self.debugger c.push.new.self.entries whole.legal there c.leave.ensures.left
           c.push.ensures.entries;
       within = omega (arith, longer, one_more, c.leave.ensures.present, whole.within);
       joins = omega (arith, as_many, same, whole.joins);

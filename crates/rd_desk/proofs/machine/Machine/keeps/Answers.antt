@@ -4,7 +4,7 @@ use Rattle.rd_state.specs.Boot.{boot_of}
 use Rattle.rd_state.specs.Snapshot.{Snapshot}
 use Rattle.rd_timeline.specs.Policy.{state_or}
 use Rattle.rd_timeline.specs.Runs.{moves_of}
-use Rattle.rd_desk.specs.Debugger.{Debugger, target_of}
+use Rattle.rd_desk.specs.Debugger.{MachineView, target_of}
 use Rattle.rd_desk.specs.DeskView.{LeadsBack}
 use Rattle.rd_desk.specs.MachineInside.{debugger_of}
 use Rattle.rd_desk.specs.Views.{AreNamesOf}
@@ -16,7 +16,7 @@ returns-clause-paired c =
     let m = c.self.inside in
     let target : target_of (debugger_of m) ≡ m.timeline.target = ap (state_or (boot_of m.timeline.app)) c.keeps.ensures.leads in
     let named = named_in_state m.timeline.app m.names m.timeline.target c.self.invariant.named c.keeps.ensures.valid in
-    subst (λ (d : Debugger). AreNamesOf (target_of d) d.app.names) c.self.view_is
+    subst (λ (v : MachineView). AreNamesOf (target_of v.debugger) v.debugger.app.names) c.self.view_is
     (subst (λ (s : Snapshot). AreNamesOf s m.names) (sym target) named)
 
 pub returns-clause-leads_back : goal.returns-clause-leads_back
@@ -24,12 +24,11 @@ returns-clause-leads_back c =
     let m = c.self.inside in
     let target : target_of (debugger_of m) ≡ m.timeline.target = ap (state_or (boot_of m.timeline.app)) c.keeps.ensures.leads in
     let kept = c.keeps.ensures.kept in
-    let back : LeadsBack m.timeline.app (moves_of m.timeline) m.timeline.target = record {
-      records = m.timeline.log;
+    let back : LeadsBack m.timeline.app (moves_of m.timeline) m.timeline.target m.timeline.log = record {
       base = omega arith;
       each = omega (arith, kept.records);
       can = kept.rewinds;
       back = kept.retraces;
     } in
-    subst (λ (d : Debugger). LeadsBack d.app.runs d.moves (target_of d)) c.self.view_is
-    (subst (LeadsBack m.timeline.app (moves_of m.timeline)) (sym target) back)
+    subst (λ (v : MachineView). LeadsBack v.debugger.app.runs v.debugger.moves (target_of v.debugger) v.log) c.self.view_is
+    (subst (λ (s : Snapshot). LeadsBack m.timeline.app (moves_of m.timeline) s m.timeline.log) (sym target) back)
