@@ -1,0 +1,2 @@
+-- The files of definitions of rd_origin.
+pub mod Playing
