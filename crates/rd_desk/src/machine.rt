@@ -339,7 +339,8 @@ impl Machine {
     fn watch(&mut self, who: u32, condition: Condition) -> Reply
         requires there { IsPresent self.old.debugger.sessions who }
         requires named { IsConditionOf self.old.debugger.app.runs condition }
-        ensures done { IsDone self.old.debugger who (bound.Keeps condition) self.new.debugger result }
+        ensures done { IsDone self.old.debugger who (bound.Keeps condition)
+            self.new.debugger result }
         ensures log { self.new.log ≡ self.old.log }
     {
         match self.sessions.watches(who).free() {
