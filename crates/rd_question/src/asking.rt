@@ -1,20 +1,20 @@
 //! From a question to its answer.
 
-ghost use Rattle.std.specs.Prelude.{◌≡◌, ◌≤◌, [], None, IfOk, IfErr};
+ghost use Rattle.std.specs.Prelude.{◌≤◌, IfOk};
 ghost use Rattle.rd_goal.specs.Goals.{IsGoalOf};
 ghost use Rattle.rd_question.specs.Questions.{IsQuestion};
-ghost use Rattle.rd_reach.specs.Plans.{no_plan};
 
 use crate::answer::answer;
 use crate::fault::Fault;
 use crate::options::{DEFAULT_MOVES, Question};
+use crate::planning::schedule_of;
+use crate::progress::Progress;
 use crate::telling::tell;
 use crate::wanted::refused_goal;
 use rd_goal::goal::Goal;
 use rd_goal::reading::read_goal;
 use rd_names::app::App;
-use rd_reach::answer::{Counts, Outcome, Room, Watch};
-use rd_reach::schedule::Schedule;
+use rd_reach::answer::{Outcome, Room};
 use rd_start::file::load;
 use rd_state::state::State;
 use std::alloc::{AllocGlobal, Global};
@@ -23,16 +23,6 @@ use std::rt::Files;
 
 // How many bytes a mebibyte has.
 const MEBIBYTE: usize = 1_048_576;
-
-// Nobody ends a search.
-#[derive(Drop)]
-struct Patience;
-
-impl Watch for Patience {
-    fn goes_on(&mut self, _counts: &Counts) -> bool {
-        true
-    }
-}
 
 // The application of the file at the path.
 fn application<H: Files + AllocGlobal>(handle: &H, path: &str) -> Result<App, Fault> {
@@ -55,19 +45,18 @@ fn goal_of(alloc: Global, app: &App, words: &[&[u8]]) -> Result<Goal, Fault>
     }
 }
 
-// Moves and ticks come as they like.
-fn all_orders(alloc: Global) -> Schedule
-    ensures { result ≡ no_plan }
-{
-    Schedule::new(0, None, Vec::new(alloc), None).unwrap()
-}
-
-// The answer to a question of an application.
-fn answered(alloc: Global, app: &App, question: &Question<'_>) -> Result<Outcome, Fault>
+// The answer to a question of an application, while `errors` is told how far it is.
+fn answered<E: Write>(
+    alloc: Global,
+    app: &App,
+    question: &Question<'_>,
+    errors: &mut E,
+) -> Result<Outcome, Fault>
     requires { IsQuestion question.now }
 {
     let goal = goal_of(alloc, app, question.goal.as_slice())?;
-    let schedule = all_orders(alloc);
+    let schedule = schedule_of(alloc, app, question)?;
+    let _few = schedule.isrs();
     let room = Room {
         states: question.states,
         bytes: question.memory * MEBIBYTE,
@@ -83,22 +72,28 @@ fn answered(alloc: Global, app: &App, question: &Question<'_>) -> Result<Outcome
         start,
         most,
         &room,
-        &mut Patience,
+        &mut Progress {
+            errors,
+            is_told: question.progress,
+            surprises: None,
+        },
     )?)
 }
 
-/// Answers a question of an application file, and tells the answer: the exit status is 0 where the
-/// goal comes behind no order that was asked for, 1 where it comes behind one, 2 where that can't
-/// be told. An `Err` says why there is no answer.
-pub(crate) fn ask<H: Files + AllocGlobal, W: Write>(
+/// Answers a question of an application file, and tells the answer; meanwhile `errors` is told how
+/// far the search is, where that was asked for. The exit status is 0 where the goal comes behind no
+/// order that was asked for, 1 where it comes behind one, 2 where that can't be told. An `Err` says
+/// why there is no answer.
+pub(crate) fn ask<H: Files + AllocGlobal, W: Write, E: Write>(
     handle: &H,
     question: &Question<'_>,
     writer: &mut W,
+    errors: &mut E,
 ) -> Result<u8, Fault>
     requires { IsQuestion question.now }
     ensures { IfOk result (λ status. status ≤ 2) }
 {
     let app = application(handle, question.file)?;
-    let outcome = answered(handle.alloc(), &app, question)?;
-    Ok(tell(writer, app.program().cores(), &outcome)?)
+    let outcome = answered(handle.alloc(), &app, question, errors)?;
+    Ok(tell(writer, app.program().cores(), question, &outcome)?)
 }

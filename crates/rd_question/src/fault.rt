@@ -1,5 +1,7 @@
 //! Why there is no answer.
 
+use crate::handler::NoHandler;
+use crate::pace::NoPace;
 use rd_bytes::no_memory;
 use rd_start::fault::Fault as FileFault;
 use std::alloc::AllocError;
@@ -12,6 +14,12 @@ pub enum Fault {
     /// The words are no command line; the text says what is wrong.
     #[error("{text}")]
     Words { text: String },
+    /// The pace is none.
+    #[error("--pace: {fault}")]
+    Pace { fault: NoPace },
+    /// An interrupt is none that may come.
+    #[error("--isr: {fault}")]
+    Isr { fault: NoHandler },
     /// A word of the command line is no text.
     #[error("a word of the command line is no text")]
     NoText,
@@ -38,6 +46,21 @@ impl From<AllocError> for Fault {
 impl From<no_memory::NoMemory> for Fault {
     fn from(_error: no_memory::NoMemory) -> Fault {
         Fault::NoMemory
+    }
+}
+
+impl From<NoPace> for Fault {
+    fn from(fault: NoPace) -> Fault {
+        Fault::Pace { fault }
+    }
+}
+
+impl From<NoHandler> for Fault {
+    fn from(fault: NoHandler) -> Fault {
+        match fault {
+            NoHandler::NoMemory => Fault::NoMemory,
+            fault => Fault::Isr { fault },
+        }
     }
 }
 

@@ -7,8 +7,17 @@ pub mod aim;
 pub mod answer;
 pub mod asking;
 pub mod fault;
+mod fewest;
+pub mod handler;
+mod isr_options;
+mod limited;
 pub mod options;
+pub mod pace;
+pub mod planning;
+pub mod progress;
 mod telling;
+#[cfg(test)]
+mod tests;
 mod wanted;
 
 use crate::asking::ask;
@@ -33,7 +42,7 @@ pub fn run_main<H: Files + AllocGlobal, W: Write, E: Write>(
 ) -> u8
     ensures { result ≤ 2 }
 {
-    match run(handle, words, writer) {
+    match run(handle, words, writer, errors) {
         Ok(status) => status,
         Err(fault) => report(errors, &fault),
     }
@@ -61,15 +70,16 @@ fn report<E: Write>(errors: &mut E, fault: &Fault) -> u8
 }
 
 // Does what the words ask for.
-fn run<H: Files + AllocGlobal, W: Write>(
+fn run<H: Files + AllocGlobal, W: Write, E: Write>(
     handle: &H,
     words: &[String],
     writer: &mut W,
+    errors: &mut E,
 ) -> Result<u8, Fault>
     ensures { IfOk result (λ status. status ≤ 2) }
 {
     match options(handle.alloc(), words)? {
-        Request::Ask { question } => ask(handle, &question, writer),
+        Request::Ask { question } => ask(handle, &question, writer, errors),
         Request::Help { text } => {
             let _ = writer.write_all(text.as_bytes());
             Ok(NONE)

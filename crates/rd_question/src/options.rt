@@ -4,6 +4,9 @@ ghost use Rattle.std.specs.Prelude.{◌≤◌, IfOk, IfSome};
 ghost use Rattle.rd_question.specs.Questions.{IsQuestion, IsRequest};
 
 use crate::fault::Fault;
+use crate::handler::Handler;
+use crate::isr_options::{after_arg, apart_arg, handlers_in, isr_arg, times_arg};
+use crate::pace::{NO_PACE, Pace, pace_of};
 use clap::error::ErrorKind;
 use clap::{Arg, ArgAction, ArgMatches, Command, value_parser};
 use rd_goal::reading::words_of;
@@ -37,10 +40,18 @@ pub struct Question<'a> {
     pub goal: Vec<&'a [u8]>,
     /// How many choices an order has at the most; none: nothing was asked.
     pub moves: Option<u32>,
+    /// The pace.
+    pub pace: Pace,
+    /// The interrupts that may come.
+    pub isrs: Vec<Handler>,
+    /// How many surprises an order has at the most; none: they aren't counted.
+    pub surprises: Option<u8>,
     /// How many states are kept: 1 to 1,000,000,000.
     pub states: usize,
     /// How many mebibytes are kept: 1 to 1,048,576.
     pub memory: usize,
+    /// Whether it is told meanwhile how far the search is.
+    pub progress: bool,
 }
 
 /// What a command line asks for.
@@ -77,6 +88,22 @@ fn moves_arg<'a>(alloc: Global) -> Arg<'a> {
         .help("Orders of at most N moves alone, 100 where nothing else is asked")
 }
 
+// `--pace M..N`.
+fn pace_arg<'a>(alloc: Global) -> Arg<'a> {
+    Arg::new(alloc, "pace").long("pace").value_name("M..N").help(
+        "Each busy core makes M to N moves from one tick to the next",
+    )
+}
+
+// `--surprises N`.
+fn surprises_arg<'a>(alloc: Global) -> Arg<'a> {
+    Arg::new(alloc, "surprises")
+        .long("surprises")
+        .value_name("N")
+        .value_parser(value_parser!(u8))
+        .help("Orders of at most N surprises alone, 0 to 255")
+}
+
 // `--states N`.
 fn states_arg<'a>(alloc: Global) -> Arg<'a> {
     Arg::new(alloc, "states")
@@ -97,6 +124,14 @@ fn memory_arg<'a>(alloc: Global) -> Arg<'a> {
         .help("For how many mebibytes states are kept, 1 to 1048576")
 }
 
+// `--progress`.
+fn progress_arg<'a>(alloc: Global) -> Arg<'a> {
+    Arg::new(alloc, "progress")
+        .long("progress")
+        .action(ArgAction::SetTrue)
+        .help("Tells on standard error how far the search is, now and then")
+}
+
 // What the words are parsed by.
 fn command<'a>(alloc: Global) -> Result<Command<'a>, AllocError> {
     Command::new(alloc, "rdreach")
@@ -106,8 +141,15 @@ fn command<'a>(alloc: Global) -> Result<Command<'a>, AllocError> {
         .arg(file_arg(alloc))?
         .arg(goal_arg(alloc))?
         .arg(moves_arg(alloc))?
+        .arg(pace_arg(alloc))?
+        .arg(isr_arg(alloc))?
+        .arg(times_arg(alloc))?
+        .arg(after_arg(alloc))?
+        .arg(apart_arg(alloc))?
+        .arg(surprises_arg(alloc))?
         .arg(states_arg(alloc))?
-        .arg(memory_arg(alloc))
+        .arg(memory_arg(alloc))?
+        .arg(progress_arg(alloc))
 }
 
 // The words of a goal that is said in several texts.
@@ -136,16 +178,28 @@ fn number_of<'a>(matches: &ArgMatches<'a>, id: &str, most: usize) -> usize
     number.min(most)
 }
 
+// The pace that is asked for, where one is.
+fn pace_in<'a>(matches: &ArgMatches<'a>) -> Result<Pace, Fault> {
+    match matches.get_str("pace") {
+        Some(word) => Ok(pace_of(word)?),
+        None => Ok(NO_PACE),
+    }
+}
+
 // What was asked for by the words that were found.
-fn question_of<'a>(alloc: Global, matches: &ArgMatches<'a>) -> Result<Question<'a>, AllocError>
+fn question_of<'a>(alloc: Global, matches: &ArgMatches<'a>) -> Result<Question<'a>, Fault>
     ensures { IfOk result IsQuestion }
 {
     Ok(Question {
         file: matches.get_str("FILE").unwrap_or(""),
         goal: goal_words(alloc, matches.get_strs("GOAL").unwrap_or(&[]))?,
         moves: moves_of(matches),
+        pace: pace_in(matches)?,
+        isrs: handlers_in(alloc, matches)?,
+        surprises: matches.get_one("surprises"),
         states: number_of(matches, "states", MAX_STATES),
         memory: number_of(matches, "memory", MAX_MEMORY),
+        progress: matches.get_flag("progress"),
     })
 }
 
@@ -162,8 +216,10 @@ fn without_question<'a>(alloc: Global, error: &clap::Error) -> Result<Request<'a
 }
 
 /// What the words of the command line ask for, without the program's own name: `FILE GOAL..
-/// [--moves N] [--states N] [--memory MIB]`, or help. `Words` where they are no such line,
-/// `NoMemory` where there is no memory to read them or for the text of help.
+/// [--moves N] [--pace M..N] [--isr CALLS [--times N] [--after I] [--apart T]] [--surprises N]
+/// [--states N] [--memory MIB] [--progress]`, or help. `Words` where they are no such line, `Pace` where the pace
+/// is none, `Isr` where an interrupt is none, `NoMemory` where there is no memory to read them or
+/// for the text of help.
 pub fn options<'a>(alloc: Global, words: &'a [String]) -> Result<Request<'a>, Fault>
     ensures { IfOk result IsRequest }
 {

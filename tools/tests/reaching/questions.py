@@ -36,7 +36,7 @@ def words_of(schedule: Schedule) -> List[str]:
         words += [SURPRISES, str(schedule.surprises)]
     for isr in schedule.interrupts:
         words += [ISR, "; ".join(isr.calls)]
-        words += ["--times", str(isr.times or "any")] if isr.times != 1 else []
+        words += ["--times", "any" if isr.times is None else str(isr.times)]
         words += ["--after", str(isr.follows)] if isr.follows is not None else []
         words += ["--apart", str(isr.apart)] if isr.apart else []
     return words

@@ -1,0 +1,166 @@
+//! Interrupts as they are asked for.
+
+use rd_text::words::number;
+use std::alloc::{AllocError, AllocFailed, Global};
+use thiserror::Error;
+
+/// An interrupt that may come: what it does, how often, and when.
+#[derive(Drop)]
+pub struct Handler {
+    /// Its calls, each as a command line: `isr send Q HEX` or `isr notify K I N ACTION`.
+    pub lines: Vec<String>,
+    /// How often it comes at the most; none: any number of times.
+    pub times: Option<u8>,
+    /// The one that it follows, of those that are asked for: it comes more rarely than that one.
+    pub follows: Option<usize>,
+    /// How many ticks after itself it may come again.
+    pub apart: u8,
+}
+
+/// What is said of an interrupt, as texts.
+#[derive(Clone, Copy)]
+pub struct Said<'a> {
+    /// Its calls, with `;` between them. Each may begin with `isr`.
+    pub calls: &'a str,
+    /// How often it comes: a number, or `any`. Once, where nothing is said.
+    pub times: Option<&'a str>,
+    /// The number of the one that it follows, of which the first is 0.
+    pub after: Option<&'a str>,
+    /// How many ticks after itself it may come again. None, where nothing is said.
+    pub apart: Option<&'a str>,
+}
+
+/// Why an interrupt isn't one that may come.
+#[derive(Debug, Drop, Error)]
+pub enum NoHandler {
+    /// One of its calls is none.
+    #[error("'{call}' is no call of an interrupt: send Q HEX, or notify K I N ACTION; more calls of \
+         one interrupt with ; between them")]
+    Call { call: String },
+    /// The application lacks what a call names.
+    #[error("'{call}' names a queue, a task or a notification entry that isn't there")]
+    Unknown { call: String },
+    /// The application's profile has no interrupts.
+    #[error("interrupts need profile 2")]
+    NoIsr,
+    /// How often it comes is no such number.
+    #[error("--times is 1 to 255, or any")]
+    Times,
+    /// It follows none that was said before.
+    #[error("--after is the number of an interrupt that was said before, of which the first is 0")]
+    After,
+    /// Neither it nor the one that it follows may come any number of times.
+    #[error("an interrupt that follows another, or is followed, needs --times N")]
+    Unlimited,
+    /// How far it is apart is no such number.
+    #[error("--apart is 0 to 255 ticks")]
+    Apart,
+    /// An option stands before all interrupts.
+    #[error("{option} stands behind the --isr that it belongs to")]
+    Stray { option: &'static str },
+    /// An option is said twice of one interrupt.
+    #[error("{option} is said twice of one --isr")]
+    Twice { option: &'static str },
+    /// There are too many.
+    #[error("there are 16 interrupts at the most")]
+    TooMany,
+    /// There is no memory for it.
+    #[error("no memory")]
+    NoMemory,
+}
+
+impl From<AllocError> for NoHandler {
+    fn from(_error: AllocError) -> NoHandler {
+        NoHandler::NoMemory
+    }
+}
+
+impl<T: Drop> From<AllocFailed<T>> for NoHandler {
+    fn from(_failed: AllocFailed<T>) -> NoHandler {
+        NoHandler::NoMemory
+    }
+}
+
+// The command line of a call, with one space between words.
+fn line_of(alloc: Global, call: &str) -> Result<String, AllocError> {
+    let mut line = String::from_str(alloc, "isr")?;
+    let mut first = true;
+    for word in call.split_whitespace() {
+        if !first || word != "isr" {
+            line.push_str(" ")?;
+            line.push_str(word)?;
+        }
+        first = false;
+    }
+    Ok(line)
+}
+
+// The command lines of calls that `;` parts.
+fn lines_of(alloc: Global, calls: &str) -> Result<Vec<String>, AllocError> {
+    let mut lines = Vec::new(alloc);
+    for call in calls.split(';') {
+        lines.push(line_of(alloc, call)?)?;
+    }
+    Ok(lines)
+}
+
+// The number of at least so much that a text is, at most 255.
+fn small_number(text: &str, least: u32) -> Option<u8> {
+    let number = number(text.as_bytes())?;
+    if number < least {
+        return None;
+    }
+    u8::try_from(number).ok()
+}
+
+// How often one comes of which this is said.
+fn times_of(said: Option<&str>) -> Result<Option<u8>, NoHandler> {
+    match said {
+        None => Ok(Some(1)),
+        Some("any") => Ok(None),
+        Some(text) => match small_number(text, 1) {
+            Some(times) => Ok(Some(times)),
+            None => Err(NoHandler::Times),
+        },
+    }
+}
+
+// The one that it follows, of those before, where it comes so often.
+fn follows_of(
+    said: Option<&str>,
+    times: Option<u8>,
+    before: &[Handler],
+) -> Result<Option<usize>, NoHandler> {
+    let Some(text) = said else {
+        return Ok(None);
+    };
+    let follows = number(text.as_bytes()).ok_or(NoHandler::After)? as usize;
+    let followed = before.get(follows).ok_or(NoHandler::After)?;
+    if times.is_none() || followed.times.is_none() {
+        return Err(NoHandler::Unlimited);
+    }
+    Ok(Some(follows))
+}
+
+// How far it is apart.
+fn apart_of(said: Option<&str>) -> Result<u8, NoHandler> {
+    match said {
+        None => Ok(0),
+        Some(text) => small_number(text, 0).ok_or(NoHandler::Apart),
+    }
+}
+
+/// The interrupt of which this is said, behind those that were said before. `Times`, `After`,
+/// `Unlimited` and `Apart` where an option is wrong. Whether its calls are some isn't asked here.
+pub fn handler_of(alloc: Global, said: Said<'_>, before: &[Handler]) -> Result<Handler, NoHandler> {
+    let times = times_of(said.times)?;
+    let follows = follows_of(said.after, times, before)?;
+    let apart = apart_of(said.apart)?;
+    let lines = lines_of(alloc, said.calls)?;
+    Ok(Handler {
+        lines,
+        times,
+        follows,
+        apart,
+    })
+}

@@ -1,0 +1,97 @@
+//! The pace: how time is said apart from moves.
+
+ghost use Rattle.std.specs.Prelude.{◌≡◌, IfOk, Some};
+ghost use Rattle.rd_text.specs.Words.{number_of};
+ghost use Rattle.rd_question.specs.Paces.{IsLeast, IsMost, IsWritten};
+
+use rd_text::words::number;
+use thiserror::Error;
+
+/// How many moves the task on a busy core makes from one tick to the next.
+#[derive(Clone, Copy, Debug)]
+pub struct Pace {
+    /// At the least.
+    pub at_least: u8,
+    /// At the most, if that is limited.
+    pub at_most: Option<u8>,
+}
+
+/// Moves come as they like.
+pub const NO_PACE: Pace = Pace {
+    at_least: 0,
+    at_most: None,
+};
+
+/// Why a word is no pace.
+#[derive(Debug, Drop, Error)]
+pub enum NoPace {
+    /// It isn't two numbers, or one, beside `..`.
+    #[error("a pace is M..N, M.. or ..N, where M is 0 to 255 and N is 1 to 255")]
+    Form,
+    /// No tick could come.
+    #[error("M is above N, so that no tick could come")]
+    Crossed,
+}
+
+// The number of at most 255 that a text writes.
+fn number_in(text: &str) -> Result<u8, NoPace>
+    ensures { IfOk result (λ number. number_of text.now ≡ Some number) }
+{
+    match number(text.as_bytes()) {
+        Some(number) if number <= 255 => Ok(number as u8),
+        _ => Err(NoPace::Form),
+    }
+}
+
+// The least number of moves, which is 0 where nothing is said.
+fn least_of(text: &str) -> Result<u8, NoPace>
+    ensures { IfOk result (IsLeast text.now) }
+{
+    if text.is_empty() {
+        Ok(0)
+    } else {
+        number_in(text)
+    }
+}
+
+// The largest number of moves, of which there is none where nothing is said.
+fn most_of(text: &str) -> Result<Option<u8>, NoPace>
+    ensures { IfOk result (IsMost text.now) }
+{
+    if text.is_empty() {
+        return Ok(None);
+    }
+    let most = number_in(text)?;
+    if most == 0 {
+        return Err(NoPace::Form);
+    }
+    Ok(Some(most))
+}
+
+// Whether ticks can come, and moves.
+fn is_crossed(pace: &Pace) -> bool {
+    match pace.at_most {
+        Some(most) => pace.at_least > most,
+        None => false,
+    }
+}
+
+/// The pace that a word is: `M..N`, `M..` or `..N`, where M is 0 to 255, N is 1 to 255 and M is at
+/// most N. `Form` where it is none of these, `Crossed` where M is above N.
+#[tactic(auto, using(crate::proofs::PaceLaws::in_parts))]
+pub fn pace_of(word: &str) -> Result<Pace, NoPace>
+    ensures { IfOk result (IsWritten word.now) }
+{
+    let (least, most) = word.split_once("..").ok_or(NoPace::Form)?;
+    if least.is_empty() && most.is_empty() {
+        return Err(NoPace::Form);
+    }
+    let pace = Pace {
+        at_least: least_of(least)?,
+        at_most: most_of(most)?,
+    };
+    if is_crossed(&pace) {
+        return Err(NoPace::Crossed);
+    }
+    Ok(pace)
+}
