@@ -5,3 +5,5 @@ pub mod cause;
 mod copying;
 pub mod origin;
 mod playing;
+#[cfg(test)]
+mod tests;
