@@ -1,4 +1,4 @@
-//! What a session calls of its gate, beside what it has written.
+//! What a session calls of its gate, beside what it has written and what the history has.
 
 ghost use Rattle.std.specs.Prelude.{◌≡◌, ◌+◌};
 ghost use Rattle.rd_desk.specs.declared.sessions.TheConstants.{MAX_JOINS};
@@ -6,6 +6,7 @@ ghost use Rattle.rd_desk.specs.declared.sessions.TheConstants.{MAX_JOINS};
 use crate::asserts::assert_same;
 use crate::attending::attend;
 use crate::counting::{CountingGate, TellingWriter};
+use crate::looking::LookingGate;
 use crate::memory::{LineByLine, Narrow};
 use rd_desk::limits::Limits;
 use rd_desk::sessions::MAX_JOINS;
@@ -22,25 +23,30 @@ use std::sync::atomic::{AtomicU64, Ordering};
 use std::sync::ledger::Blank;
 use std::test::Fail;
 
-// Lines, whether one read brings all, how many answers there are, and by how many writes at the
-// least they are written.
+// Lines, the numbers of those that are no commands, whether one read brings all, how many answers
+// there are, and by how many writes at the least they are written.
 #[derive(Clone, Copy)]
 struct Script<'a> {
     lines: &'a [u8],
+    no_commands: &'a [u64],
     is_whole: bool,
     answers: u64,
     writes: usize,
 }
 
-// A session with a gate that counts. It is told of each answer by the end.
-fn pass_the_gate<L: Setup, H: Wait + Abort + AllocGlobal>(
-    rt: &H,
-    hall: &Hall<L>,
+// A session with a gate that counts and looks. It is told of each answer by the end.
+fn pass_the_gate<'a, L: Setup, H: Wait + Abort + AllocGlobal>(
+    rt: &'a H,
+    hall: &'a Hall<L>,
     passes: &mut Vec<Pass<L>>,
-    script: Script<'_>,
+    script: Script<'a>,
 ) -> Gone<L> {
     let lines_out = AtomicU64::new(0);
-    let mut gate = CountingGate::new(rt, 1, &lines_out);
+    let mut gate = LookingGate {
+        counting: CountingGate::new(rt, 1, &lines_out),
+        hall,
+        no_commands: script.no_commands,
+    };
     let mut source = Over::new(LineByLine {
         rest: script.lines,
         calls: 0,
@@ -52,8 +58,8 @@ fn pass_the_gate<L: Setup, H: Wait + Abort + AllocGlobal>(
     });
     let gone = attend(rt, hall, passes, &mut source, &mut sink, &mut gate);
     assert_same(rt, lines_out.load(Ordering::SeqCst), script.answers);
-    assert_same(rt, gate.begun, script.answers);
-    assert_same(rt, gate.told, script.answers);
+    assert_same(rt, gate.counting.begun, script.answers);
+    assert_same(rt, gate.counting.told, script.answers);
     assert!(rt;
         script.writes <= sink.inner.narrow.writes,
         "there were fewer writes"
@@ -93,14 +99,16 @@ fn assert_gate<H: Wait + Abort + AllocGlobal>(rt: &H, script: Script<'_>) -> Res
     enter_and_pass::<Brand, H>(rt, blank, app, script)
 }
 
-// The gate is called before each line and after it, once, with its number and in order, and after
-// it only when its answer is written: line by line, and where one write has all answers. Lines that
-// are no commands are lines too, and so is an unfinished one at the end of the input.
+// The gate is called before each line and after it, once, with its number and in order, before it
+// only while it isn't asked, and after it only when its answer is written: line by line, and where
+// one write has all answers. Lines that are no commands are lines too, and so is an unfinished one
+// at the end of the input.
 #[test]
 fn each_line_passes_the_gate(rt: HostRuntime) -> Result<(), Fail> {
     for (is_whole, writes) in [(false, 6), (true, 2)] {
         let script = Script {
             lines: b"step 0\nfly\n\nshow queue q0\nback 2\nstep 0",
+            no_commands: &[2, 3],
             is_whole,
             answers: 6,
             writes,
@@ -120,6 +128,7 @@ fn a_long_line_passes_the_gate(rt: HostRuntime) -> Result<(), Fail> {
     for (is_whole, writes) in [(false, 3), (true, 1)] {
         let script = Script {
             lines: lines.as_slice(),
+            no_commands: &[2, 3],
             is_whole,
             answers: 3,
             writes,
@@ -139,6 +148,7 @@ fn many_answers_pass_the_gate(rt: HostRuntime) -> Result<(), Fail> {
     }
     let script = Script {
         lines: lines.as_slice(),
+        no_commands: &[],
         is_whole: true,
         answers: 4_000,
         writes: 2,

@@ -49,6 +49,8 @@ mod load;
 #[cfg(test)]
 mod locals;
 #[cfg(test)]
+mod looking;
+#[cfg(test)]
 mod memory;
 #[cfg(test)]
 mod messages;
