@@ -1,0 +1,62 @@
+"""What `rdbg help` says of the words that start a program, and of `install`, with no program at
+hand."""
+from typing import Dict
+
+RUN = """\
+Answers commands from standard input
+
+Usage: rdbg run [OPTIONS]
+
+Options:
+      --app <FILE>       The application file [default: the built-in application]
+      --moves <COUNT>    How many moves may be done at a time, 1 to 1000000 [default: 100000]
+      --history <COUNT>  How many entries the history may have, 2 to 1000000 [default: 100000]
+  -h, --help             Print help"""
+SERVE = """\
+Answers the commands of several sessions on a TCP port
+
+Usage: rdbg serve [OPTIONS] --app <FILE> --port <PORT> --sessions <COUNT>
+
+Options:
+      --app <FILE>        The application file
+      --port <PORT>       The TCP port, 1 to 65535
+      --sessions <COUNT>  How many sessions are served, 1 to 64
+      --moves <COUNT>     How many moves may be done at a time, 1 to 1000000 [default: 100000]
+      --history <COUNT>   How many entries the history may have, 2 to 1000000 [default: 100000]
+  -h, --help              Print help"""
+REACH = """\
+Answers what can still come in a model of a FreeRTOS application
+
+Usage: rdbg reach [OPTIONS] <FILE> <GOAL>...
+
+Arguments:
+  <FILE>     The application file
+  <GOAL>...  What is looked for, as one word or several: 'count q = 2 and not asleep'
+
+Options:
+      --moves <N>         Orders of at most N moves alone, 100 where nothing else is asked
+      --surprises <N>     Orders of at most N surprises alone, 0 to 255
+      --pace <M..N>       Each busy core makes M to N moves from one tick to the next
+      --isr <CALLS>       An interrupt that may come: 'send rx 41', or several calls with ;
+      --times <N>         How often the --isr before it comes at most: 1 to 255 or any [default: 1]
+      --after <I>         The --isr before it comes more rarely than the Ith, the first being 0
+      --apart <T>         The --isr before it comes again no sooner than T ticks later, 0 to 255
+      --from <FILE>       The start is where these command lines lead, and not the boot
+      --states <N>        How many states are kept, 1 to 1000000000 [default: 10000000]
+      --memory <MIB>      For how many mebibytes states are kept, 1 to 1048576 [default: 1024]
+      --within <SECONDS>  Ends the search after so long
+  -o <OUT>                Where the order that is found goes, too, as lines that rdbg run takes
+  -h, --help              Print help
+
+The first line is found, never, not within a bound, or full: not within one; the status is 1 where
+it is found, 0 where not, 2 where it can't be told. Ctrl-C ends it as --within does
+(docs/REACHING.md)."""
+INSTALL = """\
+Puts the programs, the companions, the pages of docs/ and rdbg(1) below a folder
+
+Usage: ./rdbg [--unproved] install PREFIX
+
+From a checkout. A program, rdbg's own and that of rdbg reach, is the proved one where that is
+built of the sources as they are (./rdbg --build and ./rdbg reach build them), else the one without
+proof, which is built where it isn't there; it says which. With --unproved it is that one."""
+OF: Dict[str, str] = {"run": RUN, "serve": SERVE, "reach": REACH, "install": INSTALL}
