@@ -1,15 +1,19 @@
 //! From a question to its answer.
 
 ghost use Rattle.std.specs.Prelude.{◌≤◌, IfOk};
+ghost use Rattle.rd_app.specs.Application.{priorities_of};
 ghost use Rattle.rd_goal.specs.Goals.{IsGoalOf};
 ghost use Rattle.rd_question.specs.Questions.{IsQuestion};
+ghost use Rattle.rd_state.specs.Settled.{IsSettled};
+ghost use Rattle.rd_state.specs.Valid.{IsValid};
 
 use crate::answer::answer;
 use crate::fault::Fault;
 use crate::options::{DEFAULT_MOVES, Question};
 use crate::planning::schedule_of;
 use crate::progress::Progress;
-use crate::telling::tell;
+use crate::start::{lines_of, start_of};
+use crate::telling::{Asked, tell};
 use crate::wanted::refused_goal;
 use rd_goal::goal::Goal;
 use rd_goal::reading::read_goal;
@@ -45,14 +49,17 @@ fn goal_of(alloc: Global, app: &App, words: &[&[u8]]) -> Result<Goal, Fault>
     }
 }
 
-// The answer to a question of an application, while `errors` is told how far it is.
+// The answer to a question of an application from this state, while `errors` is told how far it is.
 fn answered<E: Write>(
     alloc: Global,
     app: &App,
     question: &Question<'_>,
+    start: State,
     errors: &mut E,
 ) -> Result<Outcome, Fault>
-    requires { IsQuestion question.now }
+    requires question { IsQuestion question.now }
+    requires valid { IsValid app.now.runs start }
+    requires settled { IsSettled (priorities_of app.now.runs) start }
 {
     let goal = goal_of(alloc, app, question.goal.as_slice())?;
     let schedule = schedule_of(alloc, app, question)?;
@@ -61,8 +68,6 @@ fn answered<E: Write>(
         states: question.states,
         bytes: question.memory * MEBIBYTE,
     };
-    app.limits();
-    let start = State::boot(alloc, app.program())?;
     let most = question.moves.unwrap_or(DEFAULT_MOVES);
     Ok(answer(
         alloc,
@@ -94,6 +99,13 @@ pub(crate) fn ask<H: Files + AllocGlobal, W: Write, E: Write>(
     ensures { IfOk result (λ status. status ≤ 2) }
 {
     let app = application(handle, question.file)?;
-    let outcome = answered(handle.alloc(), &app, question, errors)?;
-    Ok(tell(writer, app.program().cores(), question, &outcome)?)
+    let lines = lines_of(handle, question.from)?;
+    let start = start_of(handle.alloc(), &app, question.from, lines.as_str())?;
+    let outcome = answered(handle.alloc(), &app, question, start, errors)?;
+    let asked = Asked {
+        app: &app,
+        lines: lines.as_str(),
+        question,
+    };
+    Ok(tell(writer, &asked, &outcome)?)
 }

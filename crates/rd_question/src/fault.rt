@@ -3,6 +3,7 @@
 use crate::handler::NoHandler;
 use crate::pace::NoPace;
 use rd_bytes::no_memory;
+use rd_origin::cause::NoOrigin;
 use rd_start::fault::Fault as FileFault;
 use std::alloc::AllocError;
 use std::io;
@@ -26,6 +27,12 @@ pub enum Fault {
     /// There is no application in the file.
     #[error("{path}: {fault}")]
     File { path: String, fault: FileFault },
+    /// There are no command lines in the file.
+    #[error("{path}: cannot read command lines, a text of at most 16777216 bytes")]
+    Lines { path: String },
+    /// The command lines of the file lead to no start.
+    #[error("{path}: {cause}")]
+    Start { path: String, cause: NoOrigin },
     /// The words are no goal; the text says which word, and what is wanted there.
     #[error("goal: {text}")]
     Goal { text: String },

@@ -15,6 +15,7 @@ pub mod options;
 pub mod pace;
 pub mod planning;
 pub mod progress;
+mod start;
 mod telling;
 #[cfg(test)]
 mod tests;

@@ -38,6 +38,8 @@ pub struct Question<'a> {
     pub file: &'a str,
     /// The words of the goal.
     pub goal: Vec<&'a [u8]>,
+    /// The path of the command lines that the search begins behind; none: it begins at boot.
+    pub from: Option<&'a str>,
     /// How many choices an order has at the most; none: nothing was asked.
     pub moves: Option<u32>,
     /// The pace.
@@ -77,6 +79,14 @@ fn goal_arg<'a>(alloc: Global) -> Arg<'a> {
         .num_args(1..)
         .action(ArgAction::Append)
         .help("What is looked for, as one word or several: 'count q = 2 and not asleep'")
+}
+
+// `--from COMMANDS`.
+fn from_arg<'a>(alloc: Global) -> Arg<'a> {
+    Arg::new(alloc, "from")
+        .long("from")
+        .value_name("COMMANDS")
+        .help("A file of command lines, behind which the search begins, in place of boot")
 }
 
 // `--moves N`.
@@ -140,6 +150,7 @@ fn command<'a>(alloc: Global) -> Result<Command<'a>, AllocError> {
         .no_binary_name(true)
         .arg(file_arg(alloc))?
         .arg(goal_arg(alloc))?
+        .arg(from_arg(alloc))?
         .arg(moves_arg(alloc))?
         .arg(pace_arg(alloc))?
         .arg(isr_arg(alloc))?
@@ -193,6 +204,7 @@ fn question_of<'a>(alloc: Global, matches: &ArgMatches<'a>) -> Result<Question<'
     Ok(Question {
         file: matches.get_str("FILE").unwrap_or(""),
         goal: goal_words(alloc, matches.get_strs("GOAL").unwrap_or(&[]))?,
+        from: matches.get_str("from"),
         moves: moves_of(matches),
         pace: pace_in(matches)?,
         isrs: handlers_in(alloc, matches)?,
@@ -216,10 +228,10 @@ fn without_question<'a>(alloc: Global, error: &clap::Error) -> Result<Request<'a
 }
 
 /// What the words of the command line ask for, without the program's own name: `FILE GOAL..
-/// [--moves N] [--pace M..N] [--isr CALLS [--times N] [--after I] [--apart T]] [--surprises N]
-/// [--states N] [--memory MIB] [--progress]`, or help. `Words` where they are no such line, `Pace` where the pace
-/// is none, `Isr` where an interrupt is none, `NoMemory` where there is no memory to read them or
-/// for the text of help.
+/// [--from COMMANDS] [--moves N] [--pace M..N] [--isr CALLS [--times N] [--after I] [--apart T]]
+/// [--surprises N] [--states N] [--memory MIB] [--progress]`, or help. `Words` where they are no
+/// such line, `Pace` where the pace is none, `Isr` where an interrupt is none, `NoMemory` where
+/// there is no memory to read them or for the text of help.
 pub fn options<'a>(alloc: Global, words: &'a [String]) -> Result<Request<'a>, Fault>
     ensures { IfOk result IsRequest }
 {

@@ -41,7 +41,7 @@ fn tell_progress<E: Write>(
     surprises: Option<u8>,
     counts: &Counts,
 ) -> io::Result<()> {
-    write!(errors, "progress within {}", 0)?;
+    write!(errors, "progress within {}", counts.within)?;
     if let Some(surprises) = surprises {
         write!(errors, " and {surprises} surprises")?;
     }

@@ -1,11 +1,14 @@
 //! What is told of an answer.
 
-ghost use Rattle.std.specs.Prelude.{◌≤◌, IfOk};
+ghost use Rattle.std.specs.Prelude.{◌<◌, ◌≤◌, IfOk, length};
 
 use crate::handler::Handler;
 use crate::options::Question;
+use rd_names::app::App;
 use rd_reach::answer::{Answer, Cause, Counts, Outcome};
+use rd_reach::came::Came;
 use rd_reach::choice::{Choice, choice_of};
+use rd_text::kind::Kind;
 use std::io;
 use std::io::Write;
 
@@ -18,6 +21,17 @@ const FOUND: u8 = 1;
 // The exit status where that can't be told.
 const UNTOLD: u8 = 2;
 
+/// A question with what it is asked of.
+#[derive(Drop)]
+pub(crate) struct Asked<'a> {
+    /// The application.
+    pub(crate) app: &'a App,
+    /// The command lines that the search begins behind.
+    pub(crate) lines: &'a str,
+    /// The question.
+    pub(crate) question: &'a Question<'a>,
+}
+
 // The calls of an interrupt, a line each.
 fn tell_isr<W: Write>(writer: &mut W, handlers: &[Handler], isr: usize) -> io::Result<()> {
     if let Some(handler) = handlers.get(isr) {
@@ -28,19 +42,55 @@ fn tell_isr<W: Write>(writer: &mut W, handlers: &[Handler], isr: usize) -> io::R
     Ok(())
 }
 
-// The commands of an order, a line each.
-fn tell_order<W: Write>(
-    writer: &mut W,
-    cores: usize,
-    handlers: &[Handler],
-    order: &[u8],
-) -> io::Result<()> {
+// The command lines that the search begins behind, and those of an order, a line each.
+fn tell_order<W: Write>(writer: &mut W, asked: &Asked<'_>, order: &[u8]) -> io::Result<()> {
+    for line in asked.lines.lines() {
+        writeln!(writer, "{line}")?;
+    }
+    let cores = asked.app.program().cores();
     for number in order {
         match choice_of(cores, *number) {
             Choice::Core(core) => writeln!(writer, "step {core}")?,
             Choice::Tick => writeln!(writer, "tick")?,
-            Choice::Isr(isr) => tell_isr(writer, handlers, isr as usize)?,
+            Choice::Isr(isr) => {
+                tell_isr(writer, asked.question.isrs.as_slice(), isr as usize)?
+            }
         }
+    }
+    Ok(())
+}
+
+// The instructions of a task that weren't come to, in a line, if there are some.
+fn tell_missed_by<W: Write>(
+    writer: &mut W,
+    app: &App,
+    task: usize,
+    came: &Came,
+) -> io::Result<()>
+    requires named { task < length app.now.names.tasks }
+    requires runs { task < length app.now.runs.tasks }
+{
+    let mut is_told = false;
+    for instruction in 0..app.code(task).len() {
+        if !came.came(task, instruction) {
+            if !is_told {
+                write!(writer, "no order came to {}", app.name(Kind::Task, task))?;
+                is_told = true;
+            }
+            write!(writer, " {instruction}")?;
+        }
+    }
+    if is_told {
+        writeln!(writer)?;
+    }
+    Ok(())
+}
+
+// The instructions that weren't come to, a line for each task that has some.
+fn tell_missed<W: Write>(writer: &mut W, app: &App, came: &Came) -> io::Result<()> {
+    app.limits();
+    for task in 0..app.names().counts().tasks {
+        tell_missed_by(writer, app, task, came)?;
     }
     Ok(())
 }
@@ -85,17 +135,16 @@ fn tell_never<W: Write>(writer: &mut W, surprises: Option<u8>) -> io::Result<()>
 // The answer by itself. The exit status it has.
 fn tell_answer<W: Write>(
     writer: &mut W,
-    cores: usize,
-    question: &Question<'_>,
+    asked: &Asked<'_>,
     answer: &Answer,
 ) -> io::Result<u8>
     ensures { IfOk result (λ status. status ≤ 2) }
 {
-    let surprises = question.surprises;
+    let surprises = asked.question.surprises;
     match answer {
         Answer::Found(order) => {
             writeln!(writer, "found")?;
-            tell_order(writer, cores, question.isrs.as_slice(), order.as_slice())?;
+            tell_order(writer, asked, order.as_slice())?;
             Ok(FOUND)
         }
         Answer::Never => {
@@ -115,19 +164,21 @@ fn tell_answer<W: Write>(
     }
 }
 
-/// Writes the answer to a question, where there are so many cores: what it is, the order as
-/// commands, if it is one, and what was gone through. Answers the exit status: 0 where the goal
-/// comes behind no order that was asked for, 1 where it comes behind one, 2 where that can't be
-/// told.
+/// Writes the answer to a question: what it is, the order as commands behind those that the search
+/// began behind, if it is one, what was gone through, and where no order was left out which
+/// instructions none came to. Answers the exit status: 0 where the goal comes behind no order that
+/// was asked for, 1 where it comes behind one, 2 where that can't be told.
 pub(crate) fn tell<W: Write>(
     writer: &mut W,
-    cores: usize,
-    question: &Question<'_>,
+    asked: &Asked<'_>,
     outcome: &Outcome,
 ) -> io::Result<u8>
     ensures { IfOk result (λ status. status ≤ 2) }
 {
-    let status = tell_answer(writer, cores, question, &outcome.answer)?;
+    let status = tell_answer(writer, asked, &outcome.answer)?;
     tell_counts(writer, &outcome.counts)?;
+    if status == NONE {
+        tell_missed(writer, asked.app, &outcome.came)?;
+    }
     Ok(status)
 }

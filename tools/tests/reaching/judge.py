@@ -8,7 +8,7 @@ from tests.reaching.clock import Clock, Rules, Schedule
 from tests.reaching.enumeration import Enumeration
 from tests.reaching.fewest import Cost, Levels, counting
 from tests.reaching.goals import ASLEEP, FAILED, FINISHED, NEVER, Goal
-from tests.reaching.machine import Answered, Machine
+from tests.reaching.machine import Answered, Machine, lines_taken
 from tests.reaching.questions import FROM, SURPRISES, Question, words_of
 
 FOUND = "found"
@@ -33,11 +33,12 @@ class Said(NamedTuple):
     errors: str
 
 
-def said(program: str, words: Sequence[str]) -> Said:
-    """Asks it."""
+def said(program: str, words: Sequence[str], start: Sequence[str] = ()) -> Said:
+    """Asks it. The order is what stands behind the lines of the start, which come before it."""
     ran = subprocess.run([program, *words], stdout=subprocess.PIPE, stderr=subprocess.PIPE)
     lines = ran.stdout.decode().splitlines()
-    order = tuple(it for it in lines[1:] if it.split()[0] in ("step", "tick", "isr"))
+    order = tuple(it for it in lines[1:] if not it.startswith(("states ", "no order came to ")))
+    order = order[len(start) :] if order[: len(start)] == tuple(start) else order
     counted = next((int(it.split()[1]) for it in lines if it.startswith("states ")), None)
     answer = lines[0] if lines else ""
     return Said(answer, order, counted, ran.returncode, ran.stderr.decode())
@@ -90,7 +91,7 @@ class Judge:
         costs = dict(zip(come, levels.fewest(come)))
         for goal in fewest:
             words = [*self.words, goal.words, "--moves", str(there.moves)]
-            heard = said(self.rdreach, words)
+            heard = said(self.rdreach, words, self.machine.start)
             for fault in self._faults(heard, there, goal, costs.get(goal)):
                 yield f"{' '.join(words[1:])}: {fault}: {heard}"
         if there.is_all:
@@ -172,10 +173,11 @@ def judge(
     """What is wrong with what rdreach says of a question, whose files are put into a folder."""
     file, commands = folder / "application.json", folder / "start.commands"
     file.write_text(question.text)
-    commands.write_text("".join(f"{line}\n" for line in question.start))
+    start = lines_taken(asked.rdbg, file, question.start)
+    commands.write_text("".join(f"{line}\n" for line in start))
     words = words_of(question.schedule)
-    words += [FROM, str(commands)] if question.start else []
-    with Machine(asked.rdbg, file, question.start) as machine:
+    words += [FROM, str(commands)] if start else []
+    with Machine(asked.rdbg, file, start) as machine:
         judged = Judge(machine, question.schedule, asked, words)
         return all_faults(judged, question.goals, moves, places)
 

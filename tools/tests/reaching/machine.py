@@ -48,6 +48,14 @@ class Session:
         self.process.communicate()
 
 
+def lines_taken(program: str, file: pathlib.Path, lines: Sequence[str]) -> Lines:
+    """Those of the lines that a run of the program doesn't refuse, one behind the other."""
+    session = Session(program, file)
+    taken = tuple(line for line in lines if session.ask([line])[0].startswith("ok "))
+    session.close()
+    return taken
+
+
 def as_shown(views: Views) -> Views:
     """What tells places apart where no law says that they are the same: all that is shown."""
     return views

@@ -1,0 +1,97 @@
+//! Where a search begins.
+
+ghost use Rattle.std.specs.Prelude.{IfOk};
+ghost use Rattle.rd_app.specs.Application.{priorities_of};
+ghost use Rattle.rd_origin.specs.Playing.{IsOrigin};
+ghost use Rattle.rd_state.specs.Settled.{IsSettled};
+ghost use Rattle.rd_state.specs.Valid.{IsValid};
+
+use crate::fault::Fault;
+use rd_names::app::App;
+use rd_origin::cause::NoOrigin;
+use rd_origin::origin::origin;
+use rd_state::state::State;
+use std::alloc::{AllocGlobal, Global};
+use std::fs;
+use std::io;
+use std::io::{ErrorKind, Read};
+use std::rt::Files;
+
+// How many bytes the command lines have at the most.
+const MAX_LINES: usize = 16_777_216;
+
+// The refusal of a file that has no command lines.
+fn no_lines(alloc: Global, path: &str) -> Fault {
+    match String::from_str(alloc, path) {
+        Ok(path) => Fault::Lines { path },
+        Err(_) => Fault::NoMemory,
+    }
+}
+
+// The refusal of command lines that lead to no start.
+fn no_start(alloc: Global, path: &str, cause: NoOrigin) -> Fault {
+    if cause == NoOrigin::NoMemory {
+        return Fault::NoMemory;
+    }
+    match String::from_str(alloc, path) {
+        Ok(path) => Fault::Start { path, cause },
+        Err(_) => Fault::NoMemory,
+    }
+}
+
+// The text of a file, by how opening it ended.
+fn text_of_opened<R: Read + Drop>(
+    alloc: Global,
+    path: &str,
+    opened: io::Result<R>,
+) -> Result<String, Fault> {
+    let Ok(reader) = opened else {
+        return Err(no_lines(alloc, path));
+    };
+    let mut bytes = Vec::new(alloc);
+    // (one byte more shows that there are too many)
+    if let Err(error) = reader.take(MAX_LINES as u64 + 1).read_to_end(&mut bytes) {
+        return Err(match error.kind() {
+            ErrorKind::OutOfMemory => Fault::NoMemory,
+            _ => no_lines(alloc, path),
+        });
+    }
+    if bytes.len() > MAX_LINES {
+        return Err(no_lines(alloc, path));
+    }
+    match String::from_utf8(bytes) {
+        Ok(text) => Ok(text),
+        Err(_) => Err(no_lines(alloc, path)),
+    }
+}
+
+/// The command lines that a search begins behind: those of the file at the path, or none where it
+/// begins at boot. `Lines` where the file can't be read, is no text or has more than 16,777,216
+/// bytes, `NoMemory` where there is no memory to read it.
+pub(crate) fn lines_of<H: Files + AllocGlobal>(
+    handle: &H,
+    path: Option<&str>,
+) -> Result<String, Fault> {
+    match path {
+        Some(path) => text_of_opened(handle.alloc(), path, fs::open(handle, path)),
+        None => Ok(String::new(handle.alloc())),
+    }
+}
+
+/// The state behind these lines, which is that at boot where there are none. `Start` where a line
+/// is no command or is refused: the first of them.
+pub(crate) fn start_of(
+    alloc: Global,
+    app: &App,
+    path: Option<&str>,
+    lines: &str,
+) -> Result<State, Fault>
+    ensures origin { IfOk result (IsOrigin app.now lines.now) }
+    ensures valid { IfOk result (IsValid app.now.runs) }
+    ensures settled { IfOk result (IsSettled (priorities_of app.now.runs)) }
+{
+    match origin(alloc, app, lines) {
+        Ok(state) => Ok(state),
+        Err(cause) => Err(no_start(alloc, path.unwrap_or(""), cause)),
+    }
+}
