@@ -1,7 +1,7 @@
 -- A text in two parts.
 use Rattle.std.proofs.Common.{◌≡◌, ◌∙◌, ℕ, List, ◌++◌, take, drop, ap, sym}
 use Rattle.std.proofs.lemmas.List.{take-append-drop}
-use Rattle.core.specs.Str.Pattern.{FindsText, SplitsAroundMatch}
+use Rattle.std.specs.Str.Pattern.{FindsText, SplitsAroundMatch}
 
 pub in_parts : (text by front back : List ℕ) → SplitsAroundMatch (FindsText by) text front back → text ≡ front ++ (by ++ back)
 in_parts text by front back h =
