@@ -12,10 +12,9 @@ use rd_origin::cause::NoOrigin;
 use rd_origin::origin::origin;
 use rd_state::state::State;
 use std::alloc::{AllocGlobal, Global};
-use std::fs;
-use std::io;
 use std::io::{ErrorKind, Read};
 use std::rt::Files;
+use std::{fs, io};
 
 // How many bytes the command lines have at the most.
 const MAX_LINES: usize = 16_777_216;

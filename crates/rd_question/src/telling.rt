@@ -52,21 +52,14 @@ fn tell_order<W: Write>(writer: &mut W, asked: &Asked<'_>, order: &[u8]) -> io::
         match choice_of(cores, *number) {
             Choice::Core(core) => writeln!(writer, "step {core}")?,
             Choice::Tick => writeln!(writer, "tick")?,
-            Choice::Isr(isr) => {
-                tell_isr(writer, asked.question.isrs.as_slice(), isr as usize)?
-            }
+            Choice::Isr(isr) => { tell_isr(writer, asked.question.isrs.as_slice(), isr as usize)? }
         }
     }
     Ok(())
 }
 
 // The instructions of a task that weren't come to, in a line, if there are some.
-fn tell_missed_by<W: Write>(
-    writer: &mut W,
-    app: &App,
-    task: usize,
-    came: &Came,
-) -> io::Result<()>
+fn tell_missed_by<W: Write>(writer: &mut W, app: &App, task: usize, came: &Came) -> io::Result<()>
     requires named { task < length app.now.names.tasks }
     requires runs { task < length app.now.runs.tasks }
 {
@@ -133,11 +126,7 @@ fn tell_never<W: Write>(writer: &mut W, surprises: Option<u8>) -> io::Result<()>
 }
 
 // The answer by itself. The exit status it has.
-fn tell_answer<W: Write>(
-    writer: &mut W,
-    asked: &Asked<'_>,
-    answer: &Answer,
-) -> io::Result<u8>
+fn tell_answer<W: Write>(writer: &mut W, asked: &Asked<'_>, answer: &Answer) -> io::Result<u8>
     ensures { IfOk result (λ status. status ≤ 2) }
 {
     let surprises = asked.question.surprises;
@@ -168,11 +157,7 @@ fn tell_answer<W: Write>(
 /// began behind, if it is one, what was gone through, and where no order was left out which
 /// instructions none came to. Answers the exit status: 0 where the goal comes behind no order that
 /// was asked for, 1 where it comes behind one, 2 where that can't be told.
-pub(crate) fn tell<W: Write>(
-    writer: &mut W,
-    asked: &Asked<'_>,
-    outcome: &Outcome,
-) -> io::Result<u8>
+pub(crate) fn tell<W: Write>(writer: &mut W, asked: &Asked<'_>, outcome: &Outcome) -> io::Result<u8>
     ensures { IfOk result (λ status. status ≤ 2) }
 {
     let status = tell_answer(writer, asked, &outcome.answer)?;
