@@ -113,8 +113,8 @@ const HANDLED: [Row; 13] = [
     (Some(1), None, None, Some("256"), Handled::Apart),
 ];
 
-fn handled(result: Result<Handler, NoHandler>) -> Handled {
-    match result {
+fn handled(made: Result<Handler, NoHandler>) -> Handled {
+    match made {
         Ok(handler) => Handled::As(
             handler.lines.len(),
             handler.times,
