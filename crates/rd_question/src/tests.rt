@@ -113,7 +113,7 @@ const HANDLED: [Row; 13] = [
     (Some(1), None, None, Some("256"), Handled::Apart),
 ];
 
-fn handled(made: Result<Handler, NoHandler>) -> Handled {
+fn outcome_of(made: Result<Handler, NoHandler>) -> Handled {
     match made {
         Ok(handler) => Handled::As(
             handler.lines.len(),
@@ -146,7 +146,7 @@ fn an_interrupt_comes_as_it_is_said(rt: HostRuntime) -> Result<(), Fail> {
             after,
             apart,
         };
-        let found = handled(handler_of(alloc, said, before.as_slice()));
+        let found = outcome_of(handler_of(alloc, said, before.as_slice()));
         assert_same(&rt, found, wanted);
     }
     Ok(())
