@@ -1,17 +1,11 @@
 -- Lines that are played one after the other, and what a timeline answers.
-use Rattle.std.proofs.Common.{◌≡◌, ◌∙◌, ℕ, ◌+◌, ◌<◌, List, Bor, ap, drop, get_or, length, refl, subst, sym}
+use Rattle.std.proofs.Common.{◌≡◌, ◌∙◌, ℕ, ◌+◌, ◌<◌, List, Bor, ap, drop, get_or, length, refl}
 use Rattle.std.specs.Prelude.{Ok, Err, Some, None}
 use Rattle.std.proofs.lemmas.List.{at_drop_more}
 use Rattle.rd_refusal.specs.declared.refusal.Refusal.{Refusal}
 use Rattle.rd_text.specs.Words.{texts}
-use Rattle.rd_app.specs.Application.{Application, priorities_of}
 use Rattle.rd_names.specs.Apps.{AppView}
-use Rattle.rd_state.specs.Settled.{IsSettled}
-use Rattle.rd_state.specs.Snapshot.{Snapshot}
-use Rattle.rd_state.specs.Valid.{IsValid}
 use Rattle.rd_timeline.specs.Answers.{answer_of}
-use Rattle.rd_timeline.specs.Course.{Course}
-use Rattle.rd_timeline.specs.History.{IsStateAfter, state_after}
 use Rattle.rd_timeline.specs.Runs.{Answers, Leaves, Moves, Plain, Refuses, Response, Searched, moves_after}
 use Rattle.rd_origin.specs.declared.cause.NoOrigin.{NoOrigin}
 use Rattle.rd_origin.specs.declared.cause.NoOrigin.TheVariants.{Refused}
@@ -50,11 +44,3 @@ pub line_stops : (app : AppView) (moves : Moves) (number : ℕ) (lines : List (B
 line_stops app moves number lines i e cause lt stopped =
     at_drop_more (λ (rest : List (Bor (List ℕ))). lines_played app moves number (texts rest)) lines i e lt
     ∙ ap (behind (λ after. lines_played app after (number + 1) (texts (drop (i + 1) lines)))) stopped
-
--- the target of a timeline is what its moves give
-pub target_is : (app : Application) (t : Course) (s : Snapshot) → t.app ≡ app → s ≡ t.target → state_after t.app t.done ≡ Ok t.target
-    → IsValid t.app t.target → IsSettled (priorities_of t.app) t.target
-    → IsStateAfter app t.done s
-target_is app t s same is leads valid settled =
-    let there : IsStateAfter t.app t.done t.target = record { state = leads; valid = valid; settled = settled } in
-    subst (λ (a : Application). IsStateAfter a t.done s) same (subst (λ (x : Snapshot). IsStateAfter t.app t.done x) (sym is) there)

@@ -1,9 +1,10 @@
-//! The start of a search: the state that command lines leave behind boot.
+//! The start of a search: the state that command lines leave behind boot, and the run of their moves.
 #![tactic(auto)]
 
 pub mod cause;
 mod copying;
 pub mod origin;
 mod playing;
+pub mod run;
 #[cfg(test)]
 mod tests;

@@ -1,6 +1,7 @@
 //! Command lines, played by a timeline.
 
-ghost use Rattle.std.specs.Prelude.{◌≡◌, ◌≢◌, Err, IfErr, Ok, OnOk, Some};
+ghost use Rattle.std.specs.Prelude.{◌≡◌, ◌≢◌, Err, IfErr, IfOk, Ok, OnOk, Some};
+ghost use Rattle.std.specs.Str.Lines.{lines};
 ghost use Rattle.rd_text.specs.Words.{texts};
 ghost use Rattle.rd_moves.specs.Requests.{IsRequestOf};
 ghost use Rattle.rd_timeline.specs.Runs.{moves_of, response_to};
@@ -24,6 +25,7 @@ use rd_moves::request::Request;
 use rd_names::app::App;
 use rd_refusal::refusal::Refusal;
 use rd_timeline::timeline::Timeline;
+use std::alloc::{AllocError, Global};
 
 /// How many moves may be done: as many as a run can be given.
 pub const MAX_MOVES: usize = 1_000_000;
@@ -175,9 +177,8 @@ fn play_line(
     }
 }
 
-/// Plays these lines, numbered from 1, up to the first that is no command or is refused, which the
-/// error names; `NoMemory` where a growth was refused.
-pub(crate) fn play_all(
+// Plays these lines.
+fn play_all(
     timeline: &mut Timeline,
     app: &App,
     known: &Known,
@@ -196,4 +197,32 @@ pub(crate) fn play_all(
         play_line(timeline, app, known, lines[index].as_bytes(), index + 1)?;
     }
     Ok(())
+}
+
+// The lines of a text.
+fn lines_in(alloc: Global, text: &str) -> Result<Vec<&str>, AllocError>
+    ensures { IfOk result (λ found. texts found.items ≡ lines text.now) }
+{
+    text.lines().collect(alloc)
+}
+
+/// Plays the lines of a text, numbered from 1, up to the first that is no command or is refused,
+/// which the error names; `NoMemory` where a growth was refused.
+pub(crate) fn play_text(
+    alloc: Global,
+    app: &App,
+    text: &str,
+    timeline: &mut Timeline,
+) -> Result<(), NoOrigin>
+    requires application { timeline.old.app ≡ app.now.runs }
+    requires limit { timeline.old.limit ≡ MAX_MOVES }
+    ensures ok { OnOk result (lines_played app.now (moves_of timeline.old) 1 (lines text.now)
+        ≡ Ok (moves_of timeline.new)) }
+    ensures err { IfErr result (λ cause. cause ≢ NoMemory
+        → lines_played app.now (moves_of timeline.old) 1 (lines text.now) ≡ Err cause) }
+    ensures app { timeline.new.app ≡ timeline.old.app }
+{
+    let lines = lines_in(alloc, text)?;
+    let known = Known::of(alloc, app)?;
+    play_all(timeline, app, &known, lines.as_slice())
 }

@@ -1,5 +1,4 @@
 -- The files of lemmas of rd_question.
-pub mod AnswerLaws
 pub mod AskedLaws
-pub mod FewerLaws
 pub mod PaceLaws
+pub mod SaidLaws

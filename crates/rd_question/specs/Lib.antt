@@ -1,6 +1,7 @@
 -- The files of definitions of rd_question.
-pub mod Answers
 pub mod Asked
+pub mod EngineView
+pub mod Handlers
 pub mod Paces
 pub mod Questions
-pub mod Telling
+pub mod Said

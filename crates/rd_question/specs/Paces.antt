@@ -1,5 +1,5 @@
 -- How a pace is written.
-use Rattle.std.specs.Prelude.{◌≡◌, ℕ, Option, None, Some, List, [], ◌∷◌, ◌++◌, codes}
+use Rattle.std.specs.Prelude.{◌≡◌, ℕ, ◌≤◌, Option, None, Some, List, [], ◌∷◌, ◌++◌, IfSome, codes}
 use Rattle.rd_text.specs.Words.{number_of}
 use Rattle.rd_question.specs.declared.pace.Pace.{Pace}
 
@@ -12,6 +12,10 @@ IsLeast (byte ∷ bytes) number = number_of (byte ∷ bytes) ≡ Some number
 abbrev pub IsMost : List ℕ → Option ℕ → Type 0
 IsMost [] most = most ≡ None
 IsMost (byte ∷ bytes) most = (number : ℕ) × (most ≡ Some number) × (number_of (byte ∷ bytes) ≡ Some number)
+
+-- Moves can come by the pace, and ticks: it asks for no more moves than it lets come, and lets some.
+abbrev pub CanCome : Pace → Type 0
+CanCome pace = IfSome pace.at_most (λ most. (1 ≤ most) × (pace.at_least ≤ most))
 
 -- The word writes the pace: the least, '..', the most.
 pub record IsWritten (word : List ℕ) (pace : Pace) : Type 0 where

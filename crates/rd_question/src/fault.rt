@@ -2,10 +2,11 @@
 
 use crate::handler::NoHandler;
 use crate::pace::NoPace;
+use crate::part_word::NoPart;
 use rd_bytes::no_memory;
 use rd_origin::cause::NoOrigin;
 use rd_start::fault::Fault as FileFault;
-use std::alloc::AllocError;
+use std::alloc::{AllocError, AllocFailed};
 use std::io;
 use thiserror::Error;
 
@@ -14,28 +15,80 @@ use thiserror::Error;
 pub enum Fault {
     /// The words are no command line; the text says what is wrong.
     #[error("{text}")]
-    Words { text: String },
+    Words {
+        text: String,
+    },
     /// The pace is none.
     #[error("--pace: {fault}")]
-    Pace { fault: NoPace },
+    Pace {
+        fault: NoPace,
+    },
+    /// The part is none.
+    #[error("--part: {fault}")]
+    Part {
+        fault: NoPart,
+    },
     /// An interrupt is none that may come.
     #[error("--isr: {fault}")]
-    Isr { fault: NoHandler },
+    Isr {
+        fault: NoHandler,
+    },
     /// A word of the command line is no text.
     #[error("a word of the command line is no text")]
     NoText,
     /// There is no application in the file.
     #[error("{path}: {fault}")]
-    File { path: String, fault: FileFault },
+    File {
+        path: String,
+        fault: FileFault,
+    },
     /// There are no command lines in the file.
     #[error("{path}: cannot read command lines, a text of at most 16777216 bytes")]
-    Lines { path: String },
+    Lines {
+        path: String,
+    },
     /// The command lines of the file lead to no start.
     #[error("{path}: {cause}")]
-    Start { path: String, cause: NoOrigin },
+    Start {
+        path: String,
+        cause: NoOrigin,
+    },
+    /// The command line that was added is none, or is refused.
+    #[error("{cause}")]
+    Command {
+        cause: NoOrigin,
+    },
     /// The words are no goal; the text says which word, and what is wanted there.
     #[error("goal: {text}")]
-    Goal { text: String },
+    Goal {
+        text: String,
+    },
+    /// A line says nothing to the engine.
+    #[error("a line begins with from, line, pace, surprises, moves, states, memory, exact, isr, reach, lost, \
+         doomed, help or quit; help says what stands behind")]
+    NoLine,
+    /// A line has more than 1,000,000 bytes.
+    #[error("a line has at most 1000000 bytes")]
+    LongLine,
+    /// A line is no text.
+    #[error("a line is a text in UTF-8")]
+    NoLineText,
+    /// A number is none that may be asked for.
+    #[error("{option} is a number, {least} to {most}")]
+    Number {
+        option: &'static str,
+        least: usize,
+        most: usize,
+    },
+    /// It says neither on nor off.
+    #[error("exact is on or off")]
+    Switch,
+    /// Orders may be left out of what is said of all.
+    #[error("what is lost or doomed is so for all orders: without --moves, --surprises and --part")]
+    Bounded,
+    /// The lines couldn't be read.
+    #[error("cannot read the lines")]
+    Unread,
     /// There is no memory to begin.
     #[error("no memory")]
     NoMemory,
@@ -46,6 +99,12 @@ pub enum Fault {
 
 impl From<AllocError> for Fault {
     fn from(_error: AllocError) -> Fault {
+        Fault::NoMemory
+    }
+}
+
+impl<T: Drop> From<AllocFailed<T>> for Fault {
+    fn from(_failed: AllocFailed<T>) -> Fault {
         Fault::NoMemory
     }
 }
@@ -62,11 +121,26 @@ impl From<NoPace> for Fault {
     }
 }
 
+impl From<NoPart> for Fault {
+    fn from(fault: NoPart) -> Fault {
+        Fault::Part { fault }
+    }
+}
+
 impl From<NoHandler> for Fault {
     fn from(fault: NoHandler) -> Fault {
         match fault {
             NoHandler::NoMemory => Fault::NoMemory,
             fault => Fault::Isr { fault },
+        }
+    }
+}
+
+impl From<NoOrigin> for Fault {
+    fn from(cause: NoOrigin) -> Fault {
+        match cause {
+            NoOrigin::NoMemory => Fault::NoMemory,
+            NoOrigin::BadLine { .. } | NoOrigin::Refused { .. } => Fault::Command { cause },
         }
     }
 }

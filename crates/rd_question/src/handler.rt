@@ -1,5 +1,8 @@
 //! Interrupts as they are asked for.
 
+ghost use Rattle.std.specs.Prelude.{◌≡◌, IfOk, Some};
+ghost use Rattle.rd_question.specs.Handlers.{apart_said, follows_said, small_number, times_said};
+
 use rd_text::words::number;
 use std::alloc::{AllocError, AllocFailed, Global};
 use thiserror::Error;
@@ -105,7 +108,9 @@ fn lines_of(alloc: Global, calls: &str) -> Result<Vec<String>, AllocError> {
 }
 
 // The number of at least so much that a text is, at most 255.
-fn small_number(text: &str, least: u32) -> Option<u8> {
+fn small_number(text: &str, least: u32) -> Option<u8>
+    ensures { result ≡ small_number least text.now }
+{
     let number = number(text.as_bytes())?;
     if number < least {
         return None;
@@ -114,7 +119,9 @@ fn small_number(text: &str, least: u32) -> Option<u8> {
 }
 
 // How often one comes of which this is said.
-fn times_of(said: Option<&str>) -> Result<Option<u8>, NoHandler> {
+fn times_of(said: Option<&str>) -> Result<Option<u8>, NoHandler>
+    ensures { IfOk result (λ times. times_said said.entry ≡ Some times) }
+{
     match said {
         None => Ok(Some(1)),
         Some("any") => Ok(None),
@@ -130,7 +137,9 @@ fn follows_of(
     said: Option<&str>,
     times: Option<u8>,
     before: &[Handler],
-) -> Result<Option<usize>, NoHandler> {
+) -> Result<Option<usize>, NoHandler>
+    ensures { IfOk result (λ follows. follows_said said.entry ≡ Some follows) }
+{
     let Some(text) = said else {
         return Ok(None);
     };
@@ -143,7 +152,9 @@ fn follows_of(
 }
 
 // How far it is apart.
-fn apart_of(said: Option<&str>) -> Result<u8, NoHandler> {
+fn apart_of(said: Option<&str>) -> Result<u8, NoHandler>
+    ensures { IfOk result (λ apart. apart_said said.entry ≡ Some apart) }
+{
     match said {
         None => Ok(0),
         Some(text) => small_number(text, 0).ok_or(NoHandler::Apart),
@@ -152,7 +163,11 @@ fn apart_of(said: Option<&str>) -> Result<u8, NoHandler> {
 
 /// The interrupt of which this is said, behind those that were said before. `Times`, `After`,
 /// `Unlimited` and `Apart` where an option is wrong. Whether its calls are some isn't asked here.
-pub fn handler_of(alloc: Global, said: Said<'_>, before: &[Handler]) -> Result<Handler, NoHandler> {
+pub fn handler_of(alloc: Global, said: Said<'_>, before: &[Handler]) -> Result<Handler, NoHandler>
+    ensures times { IfOk result (λ handler. times_said said.entry.times ≡ Some handler.times) }
+    ensures follows { IfOk result (λ handler. follows_said said.entry.after ≡ Some handler.follows) }
+    ensures apart { IfOk result (λ handler. apart_said said.entry.apart ≡ Some handler.apart) }
+{
     let times = times_of(said.times)?;
     let follows = follows_of(said.after, times, before)?;
     let apart = apart_of(said.apart)?;

@@ -1,49 +1,55 @@
 //! What can still come in an application: the words that ask it, the answer, and what is told of it.
 #![tactic(auto)]
 
-ghost use Rattle.std.specs.Prelude.{◌≤◌, IfOk};
+ghost use Rattle.std.specs.Prelude.{◌≡◌, ◌≤◌, IfOk};
 
-pub mod aim;
-pub mod answer;
 pub mod asking;
+mod dialogue;
+mod engine;
+mod engine_isr;
+pub mod engine_line;
 pub mod fault;
-mod fewest;
 pub mod handler;
+mod input;
 mod isr_options;
-mod limited;
 pub mod options;
 pub mod pace;
+pub mod part_word;
 pub mod planning;
-pub mod progress;
+mod progress;
+pub mod query;
 mod start;
 mod telling;
-#[cfg(test)]
-mod tests;
+mod telling_doomed;
+mod telling_lost;
 mod wanted;
 
 use crate::asking::ask;
+use crate::dialogue::answer_lines;
 use crate::fault::Fault;
 use crate::options::{Request, options};
 use std::alloc::AllocGlobal;
 use std::io;
-use std::io::{ErrorKind, Write};
+use std::io::{ErrorKind, Read, Write};
 use std::rt::Files;
 
-// The exit status where the goal comes behind no order, and after help.
+// The exit status where the goal comes behind no order, at the end of lines, and after help.
 const NONE: u8 = 0;
 
 /// Runs the program on the words of its command line, without its own name, and answers its exit
 /// status: 0 where the goal comes behind no order that was asked for, and after help; 1 where it
-/// comes; 2 where that can't be told, whose cause is said on `errors`.
-pub fn run_main<H: Files + AllocGlobal, W: Write, E: Write>(
+/// comes; 2 where that can't be told, whose cause is said on `errors`. Without a goal the lines that
+/// come of `reader` are answered, and the status is 0 at their end.
+pub fn run_main<H: Files + AllocGlobal, R: Read, W: Write, E: Write>(
     handle: &H,
     words: &[String],
+    reader: &mut R,
     writer: &mut W,
     errors: &mut E,
 ) -> u8
     ensures { result ≤ 2 }
 {
-    match run(handle, words, writer, errors) {
+    match run(handle, words, reader, writer, errors) {
         Ok(status) => status,
         Err(fault) => report(errors, &fault),
     }
@@ -52,7 +58,7 @@ pub fn run_main<H: Files + AllocGlobal, W: Write, E: Write>(
 /// Says why the words of the command line couldn't be had: one is no text, or there is no memory.
 /// Answers the exit status, which is 2.
 pub fn refuse_words<E: Write>(errors: &mut E, error: &io::Error) -> u8
-    ensures { result ≤ 2 }
+    ensures { result ≡ 2 }
 {
     if error.kind() == ErrorKind::InvalidData {
         report(errors, &Fault::NoText)
@@ -64,16 +70,17 @@ pub fn refuse_words<E: Write>(errors: &mut E, error: &io::Error) -> u8
 // Says what is wrong, and answers the exit status. There is nobody left to be told that the saying
 // failed.
 fn report<E: Write>(errors: &mut E, fault: &Fault) -> u8
-    ensures { result ≤ 2 }
+    ensures { result ≡ 2 }
 {
     let _ = writeln!(errors, "rdreach: {fault}");
     2
 }
 
 // Does what the words ask for.
-fn run<H: Files + AllocGlobal, W: Write, E: Write>(
+fn run<H: Files + AllocGlobal, R: Read, W: Write, E: Write>(
     handle: &H,
     words: &[String],
+    reader: &mut R,
     writer: &mut W,
     errors: &mut E,
 ) -> Result<u8, Fault>
@@ -81,6 +88,10 @@ fn run<H: Files + AllocGlobal, W: Write, E: Write>(
 {
     match options(handle.alloc(), words)? {
         Request::Ask { question } => ask(handle, &question, writer, errors),
+        Request::Engine { question } => {
+            answer_lines(handle, question, reader, writer, errors)?;
+            Ok(NONE)
+        }
         Request::Help { text } => {
             let _ = writer.write_all(text.as_bytes());
             Ok(NONE)

@@ -1,23 +1,23 @@
 //! The command line.
 
-ghost use Rattle.std.specs.Prelude.{◌≤◌, IfOk, IfSome};
-ghost use Rattle.rd_question.specs.Questions.{IsQuestion, IsRequest};
+ghost use Rattle.std.specs.Prelude.{◌≡◌, ◌≤◌, IfOk, IfSome};
+ghost use Rattle.rd_question.specs.Questions.{IsQuestion, IsRequest, manner_of};
 
 use crate::fault::Fault;
 use crate::handler::Handler;
 use crate::isr_options::{after_arg, apart_arg, handlers_in, isr_arg, times_arg};
 use crate::pace::{NO_PACE, Pace, pace_of};
+use crate::part_word::part_of;
+use crate::query::Query;
 use clap::error::ErrorKind;
 use clap::{Arg, ArgAction, ArgMatches, Command, value_parser};
+use rd_answer::manner::Manner;
+use rd_dealt::part::Part;
 use rd_goal::reading::words_of;
 use std::alloc::{AllocError, Global};
 
 /// How many choices an order may have at the most, where that is asked for.
 pub const MAX_MOVES: usize = 1_000_000_000;
-
-/// How many choices an order has at the most, where nothing else is asked: ticks may go on for ever,
-/// and then orders have no end of their own.
-pub const DEFAULT_MOVES: u32 = 100;
 
 /// How many states may be kept at the most.
 pub const MAX_STATES: usize = 1_000_000_000;
@@ -31,13 +31,19 @@ const DEFAULT_STATES_WORD: &str = "10000000";
 // How many mebibytes are kept, where nothing else is asked, as a word of the command line.
 const DEFAULT_MEMORY_WORD: &str = "1024";
 
+// What help says below the options.
+const AS_ENGINE: &str = "Without a goal it is an engine: each line of standard input is answered, \
+    and an empty line\nends the answer; help says which lines there are\n";
+
 /// What is asked of an application.
 #[derive(Drop)]
 pub struct Question<'a> {
     /// The path of the application file.
     pub file: &'a str,
-    /// The words of the goal.
+    /// The words of the goal; none for an engine, which is told goals in lines.
     pub goal: Vec<&'a [u8]>,
+    /// What is asked of the goal.
+    pub query: Query,
     /// The path of the command lines that the search begins behind; none: it begins at boot.
     pub from: Option<&'a str>,
     /// How many choices an order has at the most; none: nothing was asked.
@@ -52,8 +58,25 @@ pub struct Question<'a> {
     pub states: usize,
     /// How many mebibytes are kept: 1 to 1,048,576.
     pub memory: usize,
+    /// The part of all orders that is gone through; none: all of them.
+    pub part: Option<Part>,
+    /// Whether states are told apart to the last field.
+    pub exact: bool,
     /// Whether it is told meanwhile how far the search is.
     pub progress: bool,
+}
+
+impl<'a> Question<'a> {
+    /// How the search goes: by as many choices as are asked for, or by any number of them.
+    pub(crate) fn manner(&self) -> Manner
+        ensures { result ≡ manner_of self.now }
+    {
+        Manner {
+            most: self.moves.unwrap_or(MAX_MOVES as u32),
+            any_length: self.moves.is_none(),
+            exact: self.exact,
+        }
+    }
 }
 
 /// What a command line asks for.
@@ -61,6 +84,8 @@ pub struct Question<'a> {
 pub enum Request<'a> {
     /// An answer.
     Ask { question: Question<'a> },
+    /// Answers to the lines of an input, with these settings at first.
+    Engine { question: Question<'a> },
     /// Help, with its text.
     Help { text: String },
 }
@@ -75,10 +100,26 @@ fn file_arg<'a>(alloc: Global) -> Arg<'a> {
 // `GOAL..`.
 fn goal_arg<'a>(alloc: Global) -> Arg<'a> {
     Arg::new(alloc, "GOAL")
-        .required(true)
         .num_args(1..)
         .action(ArgAction::Append)
         .help("What is looked for, as one word or several: 'count q = 2 and not asleep'")
+}
+
+// `--lost`.
+fn lost_arg<'a>(alloc: Global) -> Result<Arg<'a>, AllocError> {
+    Arg::new(alloc, "lost")
+        .long("lost")
+        .action(ArgAction::SetTrue)
+        .help("Asks from which place of the run of --from on the goal can come no more")
+        .conflicts_with("doomed")
+}
+
+// `--doomed`.
+fn doomed_arg<'a>(alloc: Global) -> Arg<'a> {
+    Arg::new(alloc, "doomed")
+        .long("doomed")
+        .action(ArgAction::SetTrue)
+        .help("Asks for an order to a place from which the goal can come no more")
 }
 
 // `--from COMMANDS`.
@@ -95,7 +136,7 @@ fn moves_arg<'a>(alloc: Global) -> Arg<'a> {
         .long("moves")
         .value_name("N")
         .value_parser(value_parser!(usize).range(0..=MAX_MOVES as i64))
-        .help("Orders of at most N moves alone, 100 where nothing else is asked")
+        .help("Orders of at most N moves alone, and not of any length")
 }
 
 // `--pace M..N`.
@@ -134,6 +175,22 @@ fn memory_arg<'a>(alloc: Global) -> Arg<'a> {
         .help("For how many mebibytes states are kept, 1 to 1048576")
 }
 
+// `--part K/N`.
+fn part_arg<'a>(alloc: Global) -> Arg<'a> {
+    Arg::new(alloc, "part")
+        .long("part")
+        .value_name("K/N")
+        .help("The Kth of N parts of all orders alone, 1/1 to 255/255")
+}
+
+// `--exact`.
+fn exact_arg<'a>(alloc: Global) -> Arg<'a> {
+    Arg::new(alloc, "exact")
+        .long("exact")
+        .action(ArgAction::SetTrue)
+        .help("Tells states apart to the last field, the tick and the turn among them")
+}
+
 // `--progress`.
 fn progress_arg<'a>(alloc: Global) -> Arg<'a> {
     Arg::new(alloc, "progress")
@@ -146,10 +203,13 @@ fn progress_arg<'a>(alloc: Global) -> Arg<'a> {
 fn command<'a>(alloc: Global) -> Result<Command<'a>, AllocError> {
     Command::new(alloc, "rdreach")
         .about("Answers what can still come in a model of a FreeRTOS application")
+        .after_help(AS_ENGINE)
         .bin_name("rdreach")?
         .no_binary_name(true)
         .arg(file_arg(alloc))?
         .arg(goal_arg(alloc))?
+        .arg(lost_arg(alloc)?)?
+        .arg(doomed_arg(alloc))?
         .arg(from_arg(alloc))?
         .arg(moves_arg(alloc))?
         .arg(pace_arg(alloc))?
@@ -160,6 +220,8 @@ fn command<'a>(alloc: Global) -> Result<Command<'a>, AllocError> {
         .arg(surprises_arg(alloc))?
         .arg(states_arg(alloc))?
         .arg(memory_arg(alloc))?
+        .arg(part_arg(alloc))?
+        .arg(exact_arg(alloc))?
         .arg(progress_arg(alloc))
 }
 
@@ -189,6 +251,25 @@ fn number_of<'a>(matches: &ArgMatches<'a>, id: &str, most: usize) -> usize
     number.min(most)
 }
 
+// The part that is asked for, where one is.
+fn part_in<'a>(matches: &ArgMatches<'a>) -> Result<Option<Part>, Fault> {
+    match matches.get_str("part") {
+        Some(word) => Ok(Some(part_of(word)?)),
+        None => Ok(None),
+    }
+}
+
+// What is asked of the goal.
+fn query_in<'a>(matches: &ArgMatches<'a>) -> Query {
+    if matches.get_flag("lost") {
+        Query::Lost
+    } else if matches.get_flag("doomed") {
+        Query::Doomed
+    } else {
+        Query::Reach
+    }
+}
+
 // The pace that is asked for, where one is.
 fn pace_in<'a>(matches: &ArgMatches<'a>) -> Result<Pace, Fault> {
     match matches.get_str("pace") {
@@ -204,6 +285,7 @@ fn question_of<'a>(alloc: Global, matches: &ArgMatches<'a>) -> Result<Question<'
     Ok(Question {
         file: matches.get_str("FILE").unwrap_or(""),
         goal: goal_words(alloc, matches.get_strs("GOAL").unwrap_or(&[]))?,
+        query: query_in(matches),
         from: matches.get_str("from"),
         moves: moves_of(matches),
         pace: pace_in(matches)?,
@@ -211,8 +293,21 @@ fn question_of<'a>(alloc: Global, matches: &ArgMatches<'a>) -> Result<Question<'
         surprises: matches.get_one("surprises"),
         states: number_of(matches, "states", MAX_STATES),
         memory: number_of(matches, "memory", MAX_MEMORY),
+        part: part_in(matches)?,
+        exact: matches.get_flag("exact"),
         progress: matches.get_flag("progress"),
     })
+}
+
+// A question with a goal asks for its answer, and one without a goal for an engine.
+fn request_of<'a>(matches: &ArgMatches<'a>, question: Question<'a>) -> Request<'a>
+    requires { IsQuestion question }
+    ensures { IsRequest result }
+{
+    match matches.get_strs("GOAL") {
+        Some(_) => Request::Ask { question },
+        None => Request::Engine { question },
+    }
 }
 
 // What becomes of words that are no question: help is one of clap's errors.
@@ -227,18 +322,18 @@ fn without_question<'a>(alloc: Global, error: &clap::Error) -> Result<Request<'a
     }
 }
 
-/// What the words of the command line ask for, without the program's own name: `FILE GOAL..
-/// [--from COMMANDS] [--moves N] [--pace M..N] [--isr CALLS [--times N] [--after I] [--apart T]]
-/// [--surprises N] [--states N] [--memory MIB] [--progress]`, or help. `Words` where they are no
-/// such line, `Pace` where the pace is none, `Isr` where an interrupt is none, `NoMemory` where
-/// there is no memory to read them or for the text of help.
+/// What the words of the command line ask for, without the program's own name: `FILE [GOAL..]
+/// [--lost | --doomed] [--from COMMANDS] [--moves N] [--pace M..N] [--isr CALLS [--times N] [--after I] [--apart T]]
+/// [--surprises N] [--states N] [--memory MIB] [--part K/N] [--exact] [--progress]`, an engine where no
+/// goal is said; or help. `Words` where they are no such line, `Pace` where the pace is none, `Isr` where
+/// an interrupt is none, `Part` where the part is none, `NoMemory` where there is no memory to read them or for the text of help.
 pub fn options<'a>(alloc: Global, words: &'a [String]) -> Result<Request<'a>, Fault>
     ensures { IfOk result IsRequest }
 {
     match command(alloc)?.try_get_matches_from(words) {
         Ok(matches) => {
             let question = question_of(alloc, &matches)?;
-            Ok(Request::Ask { question })
+            Ok(request_of(&matches, question))
         }
         Err(error) => without_question(alloc, &error),
     }

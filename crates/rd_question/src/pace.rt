@@ -1,8 +1,8 @@
 //! The pace: how time is said apart from moves.
 
-ghost use Rattle.std.specs.Prelude.{◌≡◌, IfOk, Some};
+ghost use Rattle.std.specs.Prelude.{◌≡◌, ◌≤◌, IfOk, IfSome, Some, false};
 ghost use Rattle.rd_text.specs.Words.{number_of};
-ghost use Rattle.rd_question.specs.Paces.{IsLeast, IsMost, IsWritten};
+ghost use Rattle.rd_question.specs.Paces.{CanCome, IsLeast, IsMost, IsWritten};
 
 use rd_text::words::number;
 use thiserror::Error;
@@ -56,7 +56,8 @@ fn least_of(text: &str) -> Result<u8, NoPace>
 
 // The largest number of moves, of which there is none where nothing is said.
 fn most_of(text: &str) -> Result<Option<u8>, NoPace>
-    ensures { IfOk result (IsMost text.now) }
+    ensures written { IfOk result (IsMost text.now) }
+    ensures some { IfOk result (λ most. IfSome most (λ moves. 1 ≤ moves)) }
 {
     if text.is_empty() {
         return Ok(None);
@@ -69,7 +70,10 @@ fn most_of(text: &str) -> Result<Option<u8>, NoPace>
 }
 
 // Whether ticks can come, and moves.
-fn is_crossed(pace: &Pace) -> bool {
+fn is_crossed(pace: &Pace) -> bool
+    ensures { result ≡ false
+        → IfSome pace.now.at_most (λ most. pace.now.at_least ≤ most) }
+{
     match pace.at_most {
         Some(most) => pace.at_least > most,
         None => false,
@@ -80,7 +84,8 @@ fn is_crossed(pace: &Pace) -> bool {
 /// most N. `Form` where it is none of these, `Crossed` where M is above N.
 #[tactic(auto, using(crate::proofs::PaceLaws::in_parts))]
 pub fn pace_of(word: &str) -> Result<Pace, NoPace>
-    ensures { IfOk result (IsWritten word.now) }
+    ensures written { IfOk result (IsWritten word.now) }
+    ensures comes { IfOk result CanCome }
 {
     let (least, most) = word.split_once("..").ok_or(NoPace::Form)?;
     if least.is_empty() && most.is_empty() {

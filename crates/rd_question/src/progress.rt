@@ -1,21 +1,27 @@
 //! What is told while a search goes on.
 
+use rd_answer::onlooker::Onlooker;
 use rd_reach::answer::{Counts, Watch};
 use std::io;
 use std::io::Write;
 
-/// Who looks on while the answer to a question is searched for.
-pub trait Onlooker: Watch {
-    /// From now on orders of at most so many surprises are looked for, since others are known.
-    fn narrows(&mut self, surprises: u8);
-}
-
 /// Lets a search go on, and tells what it went through each time it is asked, where that is wanted.
 #[derive(Drop)]
 pub(crate) struct Progress<'a, E: Write> {
-    pub(crate) errors: &'a mut E,
-    pub(crate) is_told: bool,
-    pub(crate) surprises: Option<u8>,
+    errors: &'a mut E,
+    is_told: bool,
+    surprises: Option<u8>,
+}
+
+impl<'a, E: Write> Progress<'a, E> {
+    /// No bound of surprises was said yet.
+    pub(crate) fn new(errors: &'a mut E, is_told: bool) -> Progress<'a, E> {
+        Progress {
+            errors,
+            is_told,
+            surprises: None,
+        }
+    }
 }
 
 impl<'a, E: Write> Watch for Progress<'a, E> {

@@ -3,6 +3,7 @@
 ghost use Rattle.std.specs.Prelude.{IfOk};
 ghost use Rattle.rd_app.specs.Application.{priorities_of};
 ghost use Rattle.rd_origin.specs.Playing.{IsOrigin};
+ghost use Rattle.rd_origin.specs.RunView.{IsRunOf};
 ghost use Rattle.rd_state.specs.Settled.{IsSettled};
 ghost use Rattle.rd_state.specs.Valid.{IsValid};
 
@@ -10,6 +11,7 @@ use crate::fault::Fault;
 use rd_names::app::App;
 use rd_origin::cause::NoOrigin;
 use rd_origin::origin::origin;
+use rd_origin::run::Run;
 use rd_state::state::State;
 use std::alloc::{AllocGlobal, Global};
 use std::io::{ErrorKind, Read};
@@ -91,6 +93,22 @@ pub(crate) fn start_of(
 {
     match origin(alloc, app, lines) {
         Ok(state) => Ok(state),
+        Err(cause) => Err(no_start(alloc, path.unwrap_or(""), cause)),
+    }
+}
+
+/// The run of these lines, which has no moves where there are none. `Start` as for `start_of`. It
+/// ends in `close`.
+pub(crate) fn run_of(
+    alloc: Global,
+    app: &App,
+    path: Option<&str>,
+    lines: &str,
+) -> Result<Run, Fault>
+    ensures { IfOk result (IsRunOf app.now lines.now) }
+{
+    match Run::of(alloc, app, lines) {
+        Ok(run) => Ok(run),
         Err(cause) => Err(no_start(alloc, path.unwrap_or(""), cause)),
     }
 }

@@ -1,25 +1,27 @@
 //! What is told of an answer.
 
-ghost use Rattle.std.specs.Prelude.{◌<◌, ◌≤◌, IfOk, length};
+ghost use Rattle.std.specs.Prelude.{◌≡◌, ◌<◌, ◌≤◌, IfOk, length};
+ghost use Rattle.rd_answer.specs.Answers.{status_of};
 
 use crate::handler::Handler;
 use crate::options::Question;
+use rd_dealt::part::Part;
 use rd_names::app::App;
-use rd_reach::answer::{Answer, Cause, Counts, Outcome};
+use rd_reach::answer::{Answer, Cause, Outcome};
 use rd_reach::came::Came;
 use rd_reach::choice::{Choice, choice_of};
 use rd_text::kind::Kind;
 use std::io;
 use std::io::Write;
 
-// The exit status where the goal comes behind no order that was asked for.
-const NONE: u8 = 0;
+/// The exit status where the goal comes behind no order that was asked for.
+pub(crate) const NONE: u8 = 0;
 
-// The exit status where it comes behind one.
-const FOUND: u8 = 1;
+/// The exit status where it comes behind one.
+pub(crate) const FOUND: u8 = 1;
 
-// The exit status where that can't be told.
-const UNTOLD: u8 = 2;
+/// The exit status where that can't be told.
+pub(crate) const UNTOLD: u8 = 2;
 
 /// A question with what it is asked of.
 #[derive(Drop)]
@@ -42,11 +44,20 @@ fn tell_isr<W: Write>(writer: &mut W, handlers: &[Handler], isr: usize) -> io::R
     Ok(())
 }
 
-// The command lines that the search begins behind, and those of an order, a line each.
-fn tell_order<W: Write>(writer: &mut W, asked: &Asked<'_>, order: &[u8]) -> io::Result<()> {
+/// The command lines that the search begins behind, a line each.
+pub(crate) fn tell_lines<W: Write>(writer: &mut W, asked: &Asked<'_>) -> io::Result<()> {
     for line in asked.lines.lines() {
         writeln!(writer, "{line}")?;
     }
+    Ok(())
+}
+
+/// The command lines of an order, a line each.
+pub(crate) fn tell_order<W: Write>(
+    writer: &mut W,
+    asked: &Asked<'_>,
+    order: &[u8],
+) -> io::Result<()> {
     let cores = asked.app.program().cores();
     for number in order {
         match choice_of(cores, *number) {
@@ -79,8 +90,8 @@ fn tell_missed_by<W: Write>(writer: &mut W, app: &App, task: usize, came: &Came)
     Ok(())
 }
 
-// The instructions that weren't come to, a line for each task that has some.
-fn tell_missed<W: Write>(writer: &mut W, app: &App, came: &Came) -> io::Result<()> {
+/// The instructions that weren't come to, a line for each task that has some.
+pub(crate) fn tell_missed<W: Write>(writer: &mut W, app: &App, came: &Came) -> io::Result<()> {
     app.limits();
     for task in 0..app.names().counts().tasks {
         tell_missed_by(writer, app, task, came)?;
@@ -88,65 +99,79 @@ fn tell_missed<W: Write>(writer: &mut W, app: &App, came: &Came) -> io::Result<(
     Ok(())
 }
 
-// What ended a search.
-fn told(cause: Cause) -> &'static str {
+/// What ended a search.
+pub(crate) fn told(cause: Cause) -> &'static str {
     match cause {
         Cause::States => "as many states as may be kept (--states)",
         Cause::Bytes => "as much memory as may be taken (--memory)",
         Cause::Memory => "there is no more memory",
         Cause::Stopped => "it was stopped",
+        Cause::Limit => "the tick came to the last there is (--exact)",
     }
 }
 
-// What was gone through.
-fn tell_counts<W: Write>(writer: &mut W, counts: &Counts) -> io::Result<()> {
-    writeln!(
-        writer,
-        "states {} moves {} deepest {}",
-        counts.states, counts.moves, counts.deepest
-    )
+/// What was gone through: states that were kept, moves, and those of the longest order.
+pub(crate) fn tell_counts<W: Write>(
+    writer: &mut W,
+    states: usize,
+    moves: u64,
+    deepest: usize,
+) -> io::Result<()> {
+    writeln!(writer, "states {states} moves {moves} deepest {deepest}")
 }
 
 // The bounds that an answer is said of: so many moves, and so many surprises, if they are counted.
 fn tell_bounds<W: Write>(writer: &mut W, moves: u32, surprises: Option<u8>) -> io::Result<()> {
     match surprises {
-        Some(surprises) => {
-            writeln!(writer, "not within {moves} moves and {surprises} surprises")
-        }
-        None => writeln!(writer, "not within {moves} moves"),
+        Some(surprises) => { write!(writer, "not within {moves} moves and {surprises} surprises") }
+        None => write!(writer, "not within {moves} moves"),
     }
 }
 
 // That it is so behind no order, of whatever length.
 fn tell_never<W: Write>(writer: &mut W, surprises: Option<u8>) -> io::Result<()> {
     match surprises {
-        Some(surprises) => writeln!(writer, "not within {surprises} surprises"),
-        None => writeln!(writer, "never"),
+        Some(surprises) => write!(writer, "not within {surprises} surprises"),
+        None => write!(writer, "never"),
+    }
+}
+
+// The end of the first line: the part that the answer is of, if it is of one.
+fn tell_part<W: Write>(writer: &mut W, part: Option<&Part>) -> io::Result<()> {
+    match part {
+        Some(part) => writeln!(writer, ", part {} of {}", part.number(), part.of()),
+        None => writeln!(writer),
     }
 }
 
 // The answer by itself. The exit status it has.
 fn tell_answer<W: Write>(writer: &mut W, asked: &Asked<'_>, answer: &Answer) -> io::Result<u8>
-    ensures { IfOk result (λ status. status ≤ 2) }
+    ensures { IfOk result (λ status. status ≡ status_of answer.now) }
 {
     let surprises = asked.question.surprises;
+    let part = asked.question.part.as_ref();
     match answer {
         Answer::Found(order) => {
-            writeln!(writer, "found")?;
+            write!(writer, "found")?;
+            tell_part(writer, part)?;
+            tell_lines(writer, asked)?;
             tell_order(writer, asked, order.as_slice())?;
             Ok(FOUND)
         }
         Answer::Never => {
             tell_never(writer, surprises)?;
+            tell_part(writer, part)?;
             Ok(NONE)
         }
         Answer::NotWithin(most) => {
             tell_bounds(writer, *most, surprises)?;
+            tell_part(writer, part)?;
             Ok(NONE)
         }
         Answer::Full(depth, cause) => {
             write!(writer, "full: ")?;
             tell_bounds(writer, *depth, surprises)?;
+            tell_part(writer, part)?;
             writeln!(writer, "{}", told(*cause))?;
             Ok(UNTOLD)
         }
@@ -158,10 +183,12 @@ fn tell_answer<W: Write>(writer: &mut W, asked: &Asked<'_>, answer: &Answer) -> 
 /// instructions none came to. Answers the exit status: 0 where the goal comes behind no order that
 /// was asked for, 1 where it comes behind one, 2 where that can't be told.
 pub(crate) fn tell<W: Write>(writer: &mut W, asked: &Asked<'_>, outcome: &Outcome) -> io::Result<u8>
-    ensures { IfOk result (λ status. status ≤ 2) }
+    ensures status { IfOk result (λ status. status ≡ status_of outcome.now.answer) }
+    ensures within { IfOk result (λ status. status ≤ 2) }
 {
     let status = tell_answer(writer, asked, &outcome.answer)?;
-    tell_counts(writer, &outcome.counts)?;
+    let counts = &outcome.counts;
+    tell_counts(writer, counts.states, counts.moves, counts.deepest)?;
     if status == NONE {
         tell_missed(writer, asked.app, &outcome.came)?;
     }

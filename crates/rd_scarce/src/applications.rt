@@ -27,12 +27,19 @@ const INTERRUPTED: &str = concat!(
     r#"{"name":"t3","priority":0,"code":["set r1 9","jump 0"]}]}"#,
 );
 
+// A task counts down from 3, and ends.
+const COUNTDOWN: &str = concat!(
+    r#"{"profile":1,"cores":1,"tasks":[{"name":"t0","priority":1,"code":["set r1 3","#,
+    r#""add r1 4294967295","jumpz r1 4","jump 1","end"]}]}"#,
+);
+
 /// Which application a run has.
 #[derive(Clone, Copy)]
 pub enum Which {
     Builtin,
     Twice,
     Interrupted,
+    Countdown,
 }
 
 // Reads it. `Err(None)` says that there is no memory for it.
@@ -60,6 +67,7 @@ fn try_to_make(alloc: Global, which: Which) -> Result<App, Option<Wrong>> {
         },
         Which::Twice => try_to_read(alloc, TWICE),
         Which::Interrupted => try_to_read(alloc, INTERRUPTED),
+        Which::Countdown => try_to_read(alloc, COUNTDOWN),
     }
 }
 

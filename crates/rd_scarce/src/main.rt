@@ -2,6 +2,7 @@
 //! (`ci/refused`), and each run shows that the refusal has changed nothing.
 #![tactic(auto)]
 
+mod aim;
 mod applications;
 mod attending;
 mod before;
@@ -11,7 +12,9 @@ mod interrupted;
 mod moves;
 mod order;
 mod refused;
+mod replaying;
 mod rows;
+mod searching;
 mod sitting;
 mod told;
 mod wrong;
@@ -22,6 +25,7 @@ use crate::interrupted::INTERRUPTED;
 use crate::moves::{TWICE, go_both_ways};
 use crate::order::{Order, ROOM, Run, read_text};
 use crate::refused::Refused;
+use crate::searching::{Sought, search};
 use crate::wrong::Wrong;
 use std::alloc::{AllocGlobal, Global};
 use std::process::ExitCode;
@@ -34,7 +38,8 @@ fn waste(alloc: Global, count: usize) {
     }
 }
 
-// Does a run: at its end so many entries are in the history, or so many moves are done.
+// Does a run: at its end so many entries are in the history, so many moves are done, or a search
+// keeps so many places.
 fn run<H: Wait + AllocGlobal>(rt: &H, run: Run, refused: &mut Refused) -> Result<usize, Wrong> {
     match run {
         Run::Hall => sit(rt, rt.alloc(), Sitting::Alone, refused),
@@ -42,6 +47,8 @@ fn run<H: Wait + AllocGlobal>(rt: &H, run: Run, refused: &mut Refused) -> Result
         Run::Session => sit(rt, rt.alloc(), Sitting::Session, refused),
         Run::Timeline => go_both_ways(rt.alloc(), Which::Twice, &TWICE, refused),
         Run::Interrupts => go_both_ways(rt.alloc(), Which::Interrupted, &INTERRUPTED, refused),
+        Run::Search => search(rt.alloc(), Sought::Failure, refused),
+        Run::Orders => search(rt.alloc(), Sought::End, refused),
     }
 }
 

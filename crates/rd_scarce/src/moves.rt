@@ -1,5 +1,10 @@
 //! Runs by the calls of a timeline.
 
+ghost use Rattle.std.specs.Prelude.{IfOk};
+ghost use Rattle.rd_app.specs.Application.{priorities_of};
+ghost use Rattle.rd_state.specs.Settled.{IsSettled};
+ghost use Rattle.rd_state.specs.Valid.{IsValid};
+
 use crate::applications::{Which, make};
 use crate::calls::{Call, End, Row, make_call};
 use crate::refused::{At, Refused, TRIES};
@@ -154,8 +159,11 @@ fn follow_all(
     Ok(timeline.at())
 }
 
-// The target at boot, to compare with.
-fn make_boot(alloc: Global, app: &Program, refused: &mut Refused) -> Result<State, Wrong> {
+/// The target at boot, made again where it was refused.
+pub fn make_boot(alloc: Global, app: &Program, refused: &mut Refused) -> Result<State, Wrong>
+    ensures valid { IfOk result (IsValid app.now) }
+    ensures settled { IfOk result (IsSettled (priorities_of app.now)) }
+{
     for _ in 0..TRIES {
         match State::boot(alloc, app) {
             Ok(boot) => return Ok(boot),

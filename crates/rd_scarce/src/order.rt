@@ -16,6 +16,10 @@ pub enum Run {
     Wheel,
     /// `runs_to_a_condition`, by a session over memory.
     Session,
+    /// A search that finds nothing.
+    Search,
+    /// A search that finds an order.
+    Orders,
 }
 
 impl fmt::Display for Run {
@@ -26,6 +30,8 @@ impl fmt::Display for Run {
             Run::Interrupts => "interrupts",
             Run::Wheel => "wheel",
             Run::Session => "session",
+            Run::Search => "search",
+            Run::Orders => "orders",
         })
     }
 }
@@ -47,6 +53,8 @@ impl Order {
             "interrupts" => Run::Interrupts,
             "wheel" => Run::Wheel,
             "session" => Run::Session,
+            "search" => Run::Search,
+            "orders" => Run::Orders,
             _ => return None,
         };
         let wasted = number.parse::<usize>().ok()?;

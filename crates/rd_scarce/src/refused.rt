@@ -13,7 +13,7 @@ pub enum At {
     Making,
     /// A copy of the target, to compare it with later.
     Copy,
-    /// To open a hall, or a timeline.
+    /// To open a hall, a timeline, or what a search starts from.
     Open,
     /// To join.
     Join,
@@ -21,6 +21,8 @@ pub enum At {
     Ask,
     /// An interrupt, by a call of a timeline.
     Interrupt,
+    /// A search.
+    Search,
 }
 
 impl At {
@@ -32,6 +34,7 @@ impl At {
             At::Join => "join",
             At::Ask => "ask",
             At::Interrupt => "interrupt",
+            At::Search => "search",
         }
     }
 }

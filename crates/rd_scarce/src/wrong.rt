@@ -63,4 +63,10 @@ pub enum Wrong {
     /// Going back to the start doesn't give the target at boot.
     #[error("the target at 0 isn't that at boot")]
     Boot,
+    /// A search answers what isn't so, or what nobody asked for.
+    #[error("the answer of a search is another one")]
+    Answer,
+    /// An order that was found doesn't lead to what was looked for.
+    #[error("the order that was found leads elsewhere")]
+    Order,
 }

@@ -1,5 +1,7 @@
 //! What the tests share.
 
+use rd_answer::onlooker::Onlooker;
+use rd_reach::answer::{Counts, Watch};
 use std::fmt::Debug;
 use std::process::Abort;
 
@@ -7,4 +9,18 @@ use std::process::Abort;
 /// proof some seconds wherever it stands.)
 pub fn assert_same<T: PartialEq + Debug + Copy>(rt: &impl Abort, found: T, wanted: T) {
     assert_eq!(rt; found, wanted);
+}
+
+/// Lets each search go on.
+#[derive(Drop)]
+pub struct Quiet;
+
+impl Watch for Quiet {
+    fn goes_on(&mut self, _counts: &Counts) -> bool {
+        true
+    }
+}
+
+impl Onlooker for Quiet {
+    fn narrows(&mut self, _surprises: u8) {}
 }

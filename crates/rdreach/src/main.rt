@@ -13,7 +13,13 @@ fn command_words(rt: &HostRuntime) -> io::Result<Vec<String>> {
 fn main(rt: HostRuntime) -> ExitCode {
     let mut errors = rt.stderr();
     let status = match command_words(&rt) {
-        Ok(words) => run_main(&rt, words.as_slice(), &mut rt.stdout(), &mut errors),
+        Ok(words) => run_main(
+            &rt,
+            words.as_slice(),
+            &mut rt.stdin(),
+            &mut rt.stdout(),
+            &mut errors,
+        ),
         Err(error) => refuse_words(&mut errors, &error),
     };
     ExitCode::from(status)

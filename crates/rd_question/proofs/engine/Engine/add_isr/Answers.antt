@@ -1,0 +1,5 @@
+use Rattle.std.proofs.Common.{refl}
+use Rattle.rd_question.proofs.engine.Engine.add_isr.Goals as goal
+
+pub returns-in-Ok-clause-added : goal.returns-in-Ok-clause-added
+returns-in-Ok-clause-added c = (c.in_ok-handler.handler, rw (c.in_ok-push.ensures.items, ← c.self.view_is) refl)

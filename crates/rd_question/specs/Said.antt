@@ -1,0 +1,129 @@
+-- What a line says to the engine.
+use Rattle.std.specs.Prelude.{◌≡◌, ◌≤◌, ◌⊎◌, ◌&&◌, ◌==◌, ◌++◌, ◌∷◌, ℕ, ⊤, Bool, true, false, List, []}
+use Rattle.std.specs.Prelude.{Option, Some, None, IfSome, codes, if◌then◌else◌, nat_le, option_map}
+use Rattle.std.specs.List.{after_first, before_first}
+use Rattle.std.specs.Str.{trim}
+use Rattle.rd_text.specs.Words.{number_of}
+use Rattle.rd_question.specs.EngineView.{EngineView}
+use Rattle.rd_question.specs.Paces.{IsWritten}
+use Rattle.rd_question.specs.declared.engine_line.TheConstants.{MAX_SURPRISES}
+use Rattle.rd_question.specs.declared.engine_line.Line.{Line}
+use Rattle.rd_question.specs.declared.engine_line.Line.TheVariants as line
+use Rattle.rd_question.specs.declared.engine_line.Setting.{Setting}
+use Rattle.rd_question.specs.declared.engine_line.Setting.TheVariants as setting
+use Rattle.rd_question.specs.declared.handler.Handler.{Handler}
+use Rattle.rd_question.specs.declared.options.TheConstants.{MAX_MEMORY, MAX_MOVES, MAX_STATES}
+use Rattle.rd_question.specs.declared.pace.Pace.{Pace}
+use Rattle.rd_question.specs.declared.pace.TheConstants.{NO_PACE}
+use Rattle.rd_question.specs.declared.query.Query.{Query}
+use Rattle.rd_question.specs.declared.query.Query.TheVariants as query
+
+abbrev pub is_blank : ℕ → Bool
+is_blank byte = byte == 32
+
+-- what stands before the first space
+abbrev pub keyword_of : List ℕ → List ℕ
+keyword_of text = before_first is_blank text
+
+-- what stands behind it, without space at either end
+abbrev pub operand_of : List ℕ → List ℕ
+operand_of text = trim (after_first is_blank text)
+
+-- the number, if it is one of these
+abbrev pub kept_within : ℕ → ℕ → Option ℕ → Option ℕ
+kept_within least most None = None
+kept_within least most (Some number) =
+    if nat_le least number && nat_le number most then Some number else None
+
+-- the number that the word writes, if it is one of these
+abbrev pub number_within : ℕ → ℕ → List ℕ → Option ℕ
+number_within least most word = kept_within least most (number_of word)
+
+-- The word writes the pace, or there is none and the word says so.
+abbrev pub IsPaceSaid : List ℕ → Pace → Type 0
+IsPaceSaid word pace = ((word ≡ codes "none") × (pace ≡ NO_PACE)) ⊎ IsWritten word pace
+
+-- The word writes how many there are at the most, or says that there is no limit.
+abbrev pub IsLimitSaid : ℕ → List ℕ → Option ℕ → Type 0
+IsLimitSaid most word None = word ≡ codes "none"
+IsLimitSaid most word (Some limit) = number_within 0 most word ≡ Some limit
+
+-- the word by which it is asked
+abbrev pub query_word : Query → List ℕ
+query_word query.Reach = codes "reach"
+query_word query.Lost = codes "lost"
+query_word query.Doomed = codes "doomed"
+
+-- The word says whether it is on.
+abbrev pub IsSwitchSaid : List ℕ → Bool → Type 0
+IsSwitchSaid word true = word ≡ codes "on"
+IsSwitchSaid word false = word ≡ codes "off"
+
+-- A line with this keyword, and this behind it, says the setting.
+abbrev pub IsSetting : List ℕ → List ℕ → Setting → Type 0
+IsSetting keyword operand (setting.Pace pace) = (keyword ≡ codes "pace") × IsPaceSaid operand pace
+IsSetting keyword operand (setting.Surprises most) =
+    (keyword ≡ codes "surprises") × IsLimitSaid MAX_SURPRISES operand most
+IsSetting keyword operand (setting.Moves most) =
+    (keyword ≡ codes "moves") × IsLimitSaid MAX_MOVES operand most
+IsSetting keyword operand (setting.States most) =
+    (keyword ≡ codes "states") × (number_within 1 MAX_STATES operand ≡ Some most)
+IsSetting keyword operand (setting.Memory most) =
+    (keyword ≡ codes "memory") × (number_within 1 MAX_MEMORY operand ≡ Some most)
+IsSetting keyword operand (setting.Exact exact) =
+    (keyword ≡ codes "exact") × IsSwitchSaid operand exact
+IsSetting keyword operand (setting.Isr said) = keyword ≡ codes "isr"
+IsSetting keyword operand setting.NoIsrs = (keyword ≡ codes "isr") × (operand ≡ codes "none")
+
+-- A line with this keyword, and this behind it, says that.
+abbrev pub IsLine : List ℕ → List ℕ → Line → Type 0
+IsLine keyword operand line.Boot = (keyword ≡ codes "from") × (operand ≡ [])
+IsLine keyword operand (line.From path) = (keyword ≡ codes "from") × (operand ≡ path.now)
+IsLine keyword operand (line.Command command) = (keyword ≡ codes "line") × (operand ≡ command.now)
+IsLine keyword operand (line.Set made) = IsSetting keyword operand made
+IsLine keyword operand (line.Ask query goal) = (keyword ≡ query_word query) × (operand ≡ goal.now)
+IsLine keyword operand line.Help = (keyword ≡ codes "help") × (operand ≡ [])
+IsLine keyword operand line.Quit = (keyword ≡ codes "quit") × (operand ≡ [])
+
+-- The text, without space at either end, is a line that says that.
+abbrev pub IsSaid : List ℕ → Line → Type 0
+IsSaid text said = IsLine (keyword_of (trim text)) (operand_of (trim text)) said
+
+-- The setting's number is within its limits.
+abbrev pub IsWithinLimits : Setting → Type 0
+IsWithinLimits (setting.Pace pace) = ⊤
+IsWithinLimits (setting.Surprises most) = ⊤
+IsWithinLimits (setting.Moves most) = IfSome most (λ number. number ≤ MAX_MOVES)
+IsWithinLimits (setting.States most) = most ≤ MAX_STATES
+IsWithinLimits (setting.Memory most) = most ≤ MAX_MEMORY
+IsWithinLimits (setting.Exact exact) = ⊤
+IsWithinLimits (setting.Isr said) = ⊤
+IsWithinLimits setting.NoIsrs = ⊤
+
+abbrev pub IsLineWithinLimits : Line → Type 0
+IsLineWithinLimits line.Boot = ⊤
+IsLineWithinLimits (line.From path) = ⊤
+IsLineWithinLimits (line.Command command) = ⊤
+IsLineWithinLimits (line.Set made) = IsWithinLimits made
+IsLineWithinLimits (line.Ask query goal) = ⊤
+IsLineWithinLimits line.Help = ⊤
+IsLineWithinLimits line.Quit = ⊤
+
+-- The engine has one interrupt more, behind the others.
+abbrev pub HasOneMore : EngineView → EngineView → Type 0
+HasOneMore old new = (isr : Handler) × (new ≡ record old { isrs = old.isrs ++ isr ∷ [] })
+
+-- The setting is made, and nothing else has changed.
+abbrev pub IsSet : Setting → EngineView → EngineView → Type 0
+IsSet (setting.Pace pace) old new = new ≡ record old { pace = pace }
+IsSet (setting.Surprises most) old new = new ≡ record old { surprises = most }
+IsSet (setting.Moves most) old new = new ≡ record old { moves = most }
+IsSet (setting.States most) old new = new ≡ record old { states = most }
+IsSet (setting.Memory most) old new = new ≡ record old { memory = most }
+IsSet (setting.Exact exact) old new = new ≡ record old { exact = exact }
+IsSet (setting.Isr said) old new = HasOneMore old new
+IsSet setting.NoIsrs old new = new ≡ record old { isrs = [] }
+
+-- Searches begin elsewhere, and nothing else has changed.
+abbrev pub BeginsElsewhere : EngineView → EngineView → Type 0
+BeginsElsewhere old new = (lines : List ℕ) × (new ≡ record old { lines = lines })
