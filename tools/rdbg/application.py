@@ -1,17 +1,39 @@
 """An application as data: what an accepted file says, each thing with its place in the text."""
 import dataclasses
-from typing import Iterator, List, Optional, Tuple
+from typing import Iterator, List, Optional, Sequence, Tuple, Union
 
-from rdbg.tree import Node, Number, Object, Place, objects
+from rdbg import kinds
+from rdbg.tree import Node, Number, Object, Part, Place, objects
 
 
 @dataclasses.dataclass(frozen=True)
 class Instruction:
-    """An instruction: `text` is what rdbg reads, `written` what stands in the text."""
+    """An instruction: `text` is what rdbg reads, `written` what stands in the text; `part` is given
+    where that is a line of several instructions, or one that says it in another way. `beside` is the
+    comment of its line, and `above` those of the lines above it."""
 
     text: str
     written: str
     place: Place
+    part: Optional[Part] = None
+    above: Tuple[str, ...] = ()
+    beside: str = ""
+
+    @property
+    def told(self) -> str:
+        """It as a move of it is told: the line as it is written, and which of its instructions it
+        is behind the first."""
+        if self.part is None:
+            return self.written
+        note = self.part.note
+        if self.part.index:
+            note = f"{self.part.index + 1} of {self.part.count}"
+        return f"{self.written} ({note})" if note else self.written
+
+    @property
+    def begins(self) -> bool:
+        """Whether it is the first instruction of its line."""
+        return self.part is None or not self.part.index
 
     def words(self) -> List[str]:
         """Its words, the first of them the instruction's own."""
@@ -75,9 +97,37 @@ class Group:
     place: Place
 
 
+# How often an interrupt comes that comes any number of times, and how often others may.
+ANY, MOST_TIMES, MOST_APART = 0, 255, 255
+
+
+@dataclasses.dataclass(frozen=True)
+class Interrupt:
+    """An interrupt that may come: its name, the calls of its handler as rdbg's lines without `isr`,
+    how often it comes at the most (`ANY`: any number of times), that each time answers one of
+    another (`after`), how many ticks pass at the least before it comes again, and whether it ends a
+    wait, so that searches let it come without being asked."""
+
+    name: str
+    calls: Tuple[str, ...]
+    times: int = 1
+    after: Optional[str] = None
+    apart: int = 0
+    is_of_wait: bool = False
+
+    def lines(self) -> Tuple[str, ...]:
+        """The lines of rdbg's that make it."""
+        return tuple(f"isr {call}" for call in self.calls)
+
+
+# Whatever an application has that has a name.
+Named = Union[Task, Queue, QueueSet, Stream, Messages, Group]
+
+
 @dataclasses.dataclass(frozen=True)
 class Application:
-    """What runs. A thing's number is its index in its list."""
+    """What runs. A thing's number is its index in its list. Of a text in lines, there are the
+    interrupts that it names, of which a JSON has none."""
 
     profile: int
     cores: int
@@ -89,18 +139,25 @@ class Application:
     messages: Tuple[Messages, ...]
     groups: Tuple[Group, ...]
     tasks: Tuple[Task, ...]
+    interrupts: Tuple[Interrupt, ...] = ()
+
+    def interrupt(self, name: str) -> Optional[Interrupt]:
+        """The interrupt of this name."""
+        return next((it for it in self.interrupts if it.name == name), None)
 
     def task(self, name: str) -> Optional[Task]:
         """The task of this name."""
         return next((task for task in self.tasks if task.name == name), None)
 
+    def of(self, kind: kinds.Kind) -> Sequence[Named]:
+        """All that there are of a kind."""
+        found: Sequence[Named] = getattr(self, kind.key)
+        return found
+
     def objects(self) -> Iterator[Tuple[str, str]]:
         """Each object's kind, as `show` names it, and its name, in the order of the file."""
-        yield from (("queue", it.name) for it in self.queues)
-        yield from (("set", it.name) for it in self.sets)
-        yield from (("stream", it.name) for it in self.streams)
-        yield from (("message", it.name) for it in self.messages)
-        yield from (("group", it.name) for it in self.groups)
+        for kind in kinds.OBJECTS:
+            yield from ((kind.word, it.name) for it in self.of(kind))
 
 
 def number(owner: Object, key: str, absent: int = 0) -> int:
@@ -130,7 +187,8 @@ def place(owner: Object) -> Place:
 def instruction(node: Node) -> Instruction:
     """An instruction of a file without faults."""
     value = str(node.value)
-    return Instruction(value, value if node.written is None else node.written, node.place)
+    written = value if node.written is None else node.written
+    return Instruction(value, written, node.place, node.part)
 
 
 def task(it: Object) -> Task:

@@ -3,7 +3,7 @@ and after it, or held against them."""
 import dataclasses
 from typing import Callable, Dict, List, Optional
 
-from rdbg import replies
+from rdbg import kinds, replies
 from rdbg.looks import Key, Look, Object, content_of
 
 INTERRUPT = "isr"
@@ -132,7 +132,7 @@ def could_be(before: Look, after: Look, made: ByHand) -> bool:
 
 def could_be_send(before: Look, after: Look, words: List[str], answer: Optional[int]) -> bool:
     """The same of an interrupt that sends to a queue."""
-    key = ("queue", words[2])
+    key = (kinds.QUEUE.word, words[2])
     was, now = before.objects.get(key), after.objects.get(key)
     if not isinstance(was, replies.Queue) or not isinstance(now, replies.Queue):
         return True

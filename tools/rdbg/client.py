@@ -48,10 +48,10 @@ def text_of(line: bytes) -> str:
 
 
 @functools.lru_cache(maxsize=None)
-def built_by(wrapper: str, words: str) -> str:
-    """The program that `./rdbg` starts after these words of its own, which it builds where it has
-    to. Raises `Failure` where it can't."""
-    asked = [wrapper, *words.split(), "--build"]
+def built_by(wrapper: str, words: str, name: str = "rdbg") -> str:
+    """The program of a name, `rdbg` or `rdreach`, that `./rdbg` starts after these words of its own,
+    which it builds where it has to. Raises `Failure` where it can't."""
+    asked = [wrapper, *words.split(), "--build", *([] if name == "rdbg" else [name])]
     pipe, none = subprocess.PIPE, subprocess.DEVNULL
     try:
         process = children.start(asked, none, pipe, None, signal.SIGTERM, is_apart=False)
@@ -60,6 +60,7 @@ def built_by(wrapper: str, words: str) -> str:
     with process:
         path, _ = process.communicate()
     STARTED.pop(process)
+    os.environ["RDBG_SAID"] = "1"  # (that it isn't proved, which is said once)
     if process.returncode or not path.strip():
         raise Failure("there is no program to start")
     return os.fsdecode(path.strip())
@@ -68,11 +69,13 @@ def built_by(wrapper: str, words: str) -> str:
 def program() -> str:
     """The program that a session of its own starts: the one that the environment names, or that of
     `./rdbg`, which says there where it is itself, and what it was given before the companion."""
-    named = os.environ.get("RDBG_PROGRAM")
-    if named:
-        return named
+    return os.environ.get("RDBG_PROGRAM") or built_by_wrapper("rdbg")
+
+
+def built_by_wrapper(name: str) -> str:
+    """The program of a name that `./rdbg` starts, as it was called itself."""
     wrapper = os.environ.get("RDBG_WRAPPER", str(WRAPPER))
-    return built_by(wrapper, os.environ.get("RDBG_WRAPPER_WORDS", ""))
+    return built_by(wrapper, os.environ.get("RDBG_WRAPPER_WORDS", ""), name)
 
 
 class Incoming:

@@ -1,7 +1,7 @@
 """What is wrong with a command line that the program has refused, in a sentence."""
 from typing import Dict, List, Optional, Sequence, Tuple
 
-from rdbg.checking.wording import shown
+from rdbg.wording import shown
 from rdbg.digits import natural
 from rdbg.near import nearest
 

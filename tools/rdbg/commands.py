@@ -7,8 +7,9 @@ import dataclasses
 import re
 from typing import Callable, Dict, FrozenSet, Iterator, List, Optional, Sequence, Tuple, Type
 
-from rdbg import replies
+from rdbg import kinds, record, replies
 from rdbg.digits import number
+from rdbg.wording import with_article
 
 MOST_NUMBER = 4_294_967_295
 MOST_COUNT = 1_000_000
@@ -73,22 +74,8 @@ SYMBOLS: Dict[str, Symbol] = {
         Symbol("WORD", "a phase", ", ".join(PHASES), PHASES.__contains__),
         Symbol("ACTION", "an action", "none, bits, inc, set or setif", ACTIONS.__contains__),
         Symbol("wN", "a watch", "w0 to w15", is_watch),
-        Symbol("K", "a task", "its name", is_name),
-        Symbol("Q", "a queue", "its name", is_name),
-        Symbol("S", "a queue set", "its name", is_name),
-        Symbol("B", "a stream buffer", "its name", is_name),
-        Symbol("M", "a message buffer", "its name", is_name),
-        Symbol("G", "an event group", "its name", is_name),
+        *(Symbol(it.symbol, with_article(it.noun), "its name", is_name) for it in kinds.ALL),
     )
-}
-# The symbol of each kind of thing that has a name, by the word that `show` has for it.
-KIND_SYMBOLS: Dict[str, str] = {
-    "task": "K",
-    "queue": "Q",
-    "set": "S",
-    "stream": "B",
-    "message": "M",
-    "group": "G",
 }
 
 
@@ -158,13 +145,13 @@ CONDITIONS: Tuple[Form, ...] = (
 FORMS: Tuple[Form, ...] = (
     move("step C", "the task on core C does one instruction"),
     move("tick", "a tick passes"),
-    move("back COUNT", "takes back the last moves, COUNT of them"),
+    move(f"{record.BACK} COUNT", "takes back the last moves, COUNT of them"),
     move("forward COUNT", "makes COUNT moves: an instruction of each busy core, then a tick"),
-    move("redo COUNT", "makes the moves again that were taken back last"),
+    move(f"{record.REDO} COUNT", "makes the moves again that were taken back last"),
     move("until COND COUNT", "forward until COND holds after a move, at most COUNT moves"),
-    move("back until COND", "goes back to the last earlier place where COND holds"),
+    move(f"{record.BACK} until COND", "goes back to the last earlier place where COND holds"),
     move("until wN COUNT", "the same with the condition of watch N"),
-    move("back until wN", "the same with the condition of watch N"),
+    move(f"{record.BACK} until wN", "the same with the condition of watch N"),
     move("poke reg K R N", "register R of the task becomes N"),
     move("poke data K HEX", "the task's data becomes these bytes, - for none"),
     move("poke pc K N", "a task in phase run goes on at instruction N"),
@@ -182,7 +169,12 @@ FORMS: Tuple[Form, ...] = (
     look("show task K", "its core, pc, phase, registers, data and notes", replies.Task),
     look("show cores", "who is on which core, who is ready, tick and turn", replies.Cores),
     look("show moves", "how many moves are done, taken back, and kept", replies.Moves),
-    change("trim N", "keeps the records of the last N moves, and no others", replies.Moved, TARGET),
+    change(
+        f"{record.TRIM} N",
+        "keeps the records of the last N moves, and no others",
+        replies.Moved,
+        TARGET,
+    ),
     change(
         "wheel take", "takes the wheel: no other session moves the target", replies.WheelDone, WHEEL
     ),

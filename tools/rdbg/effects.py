@@ -65,17 +65,23 @@ class Move:
     effects: Tuple[Effect, ...] = ()
     written: Optional[str] = None
 
+    @property
+    def who(self) -> str:
+        """The task that made it, or what it is where none did."""
+        return self.task or self.kind
+
+    @property
+    def does(self) -> str:
+        """What was done, and what that was answered; nothing more of a tick."""
+        if self.kind == "edit":
+            return self.line or "an edit that can't be told"
+        done = self.written or self.instruction or ""
+        return done if self.answer is None else f"{done} -> {self.answer}"
+
     def text(self) -> str:
         """It in one line, without its place and core."""
-        if self.kind == "tick":
-            head = f"tick {self.tick}"
-        elif self.kind == "edit":
-            head = self.line or "an edit that can't be told"
-        else:
-            words = [self.task, self.pc, self.written or self.instruction]
-            head = " ".join(str(word) for word in words if word is not None)
-        if self.answer is not None:
-            head += f" -> {self.answer}"
+        words = ["tick", self.tick] if self.kind == "tick" else [self.task, self.pc, self.does]
+        head = " ".join(str(word) for word in words if word not in (None, ""))
         return ", ".join([head, *(effect.text(self.task) for effect in self.effects)])
 
     def row(self, width: int = 0) -> str:

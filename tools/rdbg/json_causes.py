@@ -2,7 +2,7 @@
 import re
 from typing import Optional, Tuple
 
-from rdbg.checking import wording
+from rdbg import wording
 from rdbg.digits import is_digits
 
 CLOSES = {"[": "]", "{": "}"}

@@ -9,7 +9,7 @@ from typing import Any, List, NoReturn, Optional, Sequence, Tuple
 
 from rdbg import json_causes as causes
 from rdbg.failure import Failure
-from rdbg.checking.faults import Fault
+from rdbg.fault import Fault
 from rdbg.tree import Member, Node, Number, Object, Place, Places, Value
 
 NOT_JSON = "L1 NotJson"

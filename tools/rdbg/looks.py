@@ -2,20 +2,15 @@
 import dataclasses
 from typing import Dict, List, Mapping, Optional, Sequence, Tuple, Union
 
-from rdbg import replies
+from rdbg import kinds, replies
 from rdbg.application import Application
 
 Object = Union[replies.Queue, replies.QueueSet, replies.Stream, replies.Messages, replies.Group]
 # An object's kind, as `show` names it, and its name: two of one kind have two names.
 Key = Tuple[str, str]
 OBJECTS = (replies.Queue, replies.QueueSet, replies.Stream, replies.Messages, replies.Group)
-KINDS: Dict[type, str] = {
-    replies.Queue: "queue",
-    replies.QueueSet: "set",
-    replies.Stream: "stream",
-    replies.Messages: "message",
-    replies.Group: "group",
-}
+# The kind that each is of; they stand in the order of the kinds.
+KINDS: Dict[type, str] = {reply: kind.word for reply, kind in zip(OBJECTS, kinds.OBJECTS)}
 BYTES_SHOWN = 16
 
 

@@ -46,7 +46,10 @@ def synopsis(companions: Sequence[Entry]) -> Tuple[Entry, ...]:
             "rdbg install PREFIX",
             "from a checkout: puts the programs, the companions and rdbg(1) below PREFIX",
         ),
-        Entry("rdbg --build", "from a checkout: builds the program, and says where it is"),
+        Entry(
+            "rdbg --build",
+            "from a checkout: builds the program, and says where it is; with rdreach that one",
+        ),
         Entry(
             "rdbg --unproved ..",
             "from a checkout: the same words with a program that is built without proof",
@@ -71,9 +74,19 @@ STATUSES = (
 
 ENVIRONMENT = (
     Entry("RDBG_PROGRAM", "the program that is started, in place of the one that was built"),
-    Entry("RDBG_REACH", "the same of the program that rdbg reach starts"),
+    Entry("RDBG_REACH", "the same of the program that searches: reach, hunt and sh ask it"),
     Entry("RDBG_HISTORY", "the file in which rdbg sh keeps the lines that were typed"),
     Entry("RDBG_TOKEN", "the token of a room that asks for one; sh and dap say it there"),
+)
+
+PAGES = (
+    Entry("../README.md", "the first command, a task as a script, what is proved"),
+    Entry("README.md", "every page, by who reads it"),
+    Entry("FROM_C.md, CALLS.md", "how C becomes a script, and each call of one"),
+    Entry("COMMANDS.md, FORMATS.md", "each command, refusal, file, reply and limit"),
+    Entry("COMPANIONS.md, HUNTING.md, REACHING.md", "the companions, and searches for a fault"),
+    Entry("TOGETHER.md, EDITORS.md, SECURITY.md", "several at one target, editors, ports"),
+    Entry("MODEL.md, PROMISES.md", "the kernel's rules, and what is proved"),
 )
 
 DESCRIPTION = (
@@ -92,6 +105,7 @@ def sections(companions: Sequence[Entry]) -> Tuple[Section, ...]:
         Section("OPTIONS", "Of run and serve:", OPTIONS),
         Section("EXIT STATUS", entries=STATUSES, is_brief=False),
         Section("ENVIRONMENT", entries=ENVIRONMENT, is_brief=False),
+        Section("PAGES", "In docs, of a checkout or below PREFIX/share/rdbg:", PAGES),
     )
 
 

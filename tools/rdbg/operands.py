@@ -3,6 +3,7 @@ import dataclasses
 import re
 from typing import Dict, Mapping, Optional, Sequence, Tuple
 
+from rdbg import kinds
 from rdbg.digits import is_digits
 
 MOST_NUMBER = 4_294_967_295
@@ -45,16 +46,11 @@ KINDS: Tuple[OperandKind, ...] = (
     OperandKind("WISH", "wish", "any or all", "any|all"),
     OperandKind("CLR", "word for clearing", "keep or clear", "keep|clear"),
     OperandKind("clear|dec", "word for clearing", "clear or dec", "clear|dec"),
-    OperandKind("Q", "queue", "a name", NAME),
-    OperandKind("S", "queue set", "a name", NAME),
-    OperandKind("B", "stream buffer", "a name", NAME),
-    OperandKind("M", "message buffer", "a name", NAME),
-    OperandKind("G", "event group", "a name", NAME),
-    OperandKind("K", "task", "a name", NAME),
+    *(OperandKind(it.symbol, it.noun, "a name", NAME) for it in kinds.ALL),
 )
 KIND_OF: Dict[str, OperandKind] = {kind.symbol: kind for kind in KINDS}
 # The kinds that are names, in the order of a file's keys.
-NAMED = ("Q", "S", "B", "M", "G", "K")
+NAMED = tuple(it.symbol for it in kinds.ALL)
 PATTERN_OF = {kind.symbol: re.compile(kind.pattern) for kind in KINDS}
 
 

@@ -1,14 +1,9 @@
-"""What stands in words of command lines: numbers, ports, and the application's file."""
+"""What stands in words of command lines: numbers and ports."""
 import argparse
-import sys
-from typing import TYPE_CHECKING, Callable, Optional
+from typing import Callable
 
-from rdbg.checking.wording import shown
+from rdbg.wording import shown
 from rdbg.digits import number
-from rdbg.failure import Failure
-
-if TYPE_CHECKING:
-    from rdbg.source import Source
 
 MOST_COUNT = 1_000_000
 MOST_PORT = 65_535
@@ -32,17 +27,3 @@ def port(text: str) -> int:
     if value is None:
         raise argparse.ArgumentTypeError(f"1 to {MOST_PORT}, not '{shown(text)}'")
     return value
-
-
-def read(path: Optional[str]) -> "Optional[Source]":
-    """The application's file; its faults end it with a line each."""
-    if path is None:
-        return None
-    from rdbg.source import load
-
-    source = load(path)
-    if source.application is None:
-        for fault in source.faults:
-            print(f"{source.path}:{fault}", file=sys.stderr)
-        raise Failure(f"{path} is refused as {source.faults[0].kind}")
-    return source

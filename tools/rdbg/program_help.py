@@ -27,30 +27,36 @@ Options:
 REACH = """\
 Answers what can still come in a model of a FreeRTOS application
 
-Usage: rdbg reach [OPTIONS] <FILE> <GOAL>...
+Usage: rdbg reach [OPTIONS] <FILE> [GOAL]...
 
 Arguments:
-  <FILE>     The application file
-  <GOAL>...  What is looked for, as one word or several: 'count q = 2 and not asleep'
+  <FILE>     The application file, JSON or in lines (.fw)
+  [GOAL]...  What is looked for, as one word or several: 'count q = 2 and not asleep'
 
 Options:
-      --moves <N>         Orders of at most N moves alone, 100 where nothing else is asked
+      --lost              Where the run of --from lost the goal: the point of no return
+      --doomed            Whether an order leads to where the goal can come no more
+      --moves <N>         Orders of at most N moves alone, and not of any length
       --surprises <N>     Orders of at most N surprises alone, 0 to 255
       --pace <M..N>       Each busy core makes M to N moves from one tick to the next
-      --isr <CALLS>       An interrupt that may come: 'send rx 41', or several calls with ;
+      --isr <CALLS>       An interrupt that may come: 'send rx 41', several calls with ;, or a name
       --times <N>         How often the --isr before it comes at most: 1 to 255 or any [default: 1]
       --after <I>         The --isr before it comes more rarely than the Ith, the first being 0
       --apart <T>         The --isr before it comes again no sooner than T ticks later, 0 to 255
       --from <FILE>       The start is where these command lines lead, and not the boot
       --states <N>        How many states are kept, 1 to 1000000000 [default: 10000000]
       --memory <MIB>      For how many mebibytes states are kept, 1 to 1048576 [default: 1024]
+      --part <K/N>        The Kth of N parts of all orders alone, 1/1 to 255/255
+      --exact             Tells states apart to the last field, the tick and the turn among them
       --within <SECONDS>  Ends the search after so long
+  -D <NAME=N>             Of a text in lines: the const NAME is N
   -o <OUT>                Where the order that is found goes, too, as lines that rdbg run takes
   -h, --help              Print help
 
 The first line is found, never, not within a bound, or full: not within one; the status is 1 where
-it is found, 0 where not, 2 where it can't be told. Ctrl-C ends it as --within does
-(docs/REACHING.md)."""
+it is found, 0 where not, 2 where it can't be told; of --lost still (1), lost at (0) or full (2)
+(docs/NO_RETURN.md). Ctrl-C ends it as --within does. Without a goal each line of standard input is
+answered, and an empty line ends the answer: help says which lines there are (docs/REACHING.md)."""
 INSTALL = """\
 Puts the programs, the companions, the pages of docs/ and rdbg(1) below a folder
 

@@ -2,6 +2,8 @@
 import dataclasses
 from typing import Optional, Tuple
 
+from rdbg import kinds
+
 MOST_TICK = 4_294_967_295
 MOST_INSTRUCTIONS = 256
 
@@ -46,17 +48,16 @@ class Shape:
         return tuple(key.name for key in self.keys)
 
 
-def name_of(noun: str) -> Key:
-    """The key `name`."""
-    return Key("name", f"the name by which instructions and commands know the {noun}", "name")
+def of_kind(kind: kinds.Kind, keys: Tuple[Key, ...], freertos: str) -> Shape:
+    """The object that stands for a thing of a kind: its name, and its other keys."""
+    text = f"the name by which instructions and commands know the {kind.noun}"
+    name = Key("name", text, "name")
+    return Shape(kind.noun, kind.plural, kind.symbol, (name, *keys), freertos)
 
 
-QUEUE = Shape(
-    "queue",
-    "queues",
-    "Q",
+QUEUE = of_kind(
+    kinds.QUEUE,
     (
-        name_of("queue"),
         Key(
             "length", "how many items there is room for", "number", 1, 64, freertos="uxQueueLength"
         ),
@@ -64,12 +65,9 @@ QUEUE = Shape(
     ),
     freertos="xQueueCreate",
 )
-QUEUE_SET = Shape(
-    "queue set",
-    "queue sets",
-    "S",
+QUEUE_SET = of_kind(
+    kinds.QUEUE_SET,
     (
-        name_of("queue set"),
         Key(
             "length",
             "how many handles there is room for",
@@ -87,12 +85,9 @@ QUEUE_SET = Shape(
     ),
     freertos="xQueueCreateSet",
 )
-STREAM = Shape(
-    "stream buffer",
-    "stream buffers",
-    "B",
+STREAM = of_kind(
+    kinds.STREAM,
     (
-        name_of("stream buffer"),
         Key(
             "size",
             "how many bytes there is room for",
@@ -113,12 +108,9 @@ STREAM = Shape(
     ),
     freertos="xStreamBufferCreate",
 )
-MESSAGE = Shape(
-    "message buffer",
-    "message buffers",
-    "M",
+MESSAGE = of_kind(
+    kinds.MESSAGE,
     (
-        name_of("message buffer"),
         Key(
             "size",
             "how many bytes there is room for; each message takes four more than it has",
@@ -130,19 +122,14 @@ MESSAGE = Shape(
     ),
     freertos="xMessageBufferCreate",
 )
-GROUP = Shape(
-    "event group",
-    "event groups",
-    "G",
-    (name_of("event group"),),
+GROUP = of_kind(
+    kinds.GROUP,
+    (),
     freertos="xEventGroupCreate",
 )
-TASK = Shape(
-    "task",
-    "tasks",
-    "K",
+TASK = of_kind(
+    kinds.TASK,
     (
-        name_of("task"),
         Key(
             "priority",
             "the priority; a higher number is a higher one",
@@ -203,12 +190,12 @@ FILE = Shape(
             is_needed=False,
             freertos="configINITIAL_TICK_COUNT",
         ),
-        objects("queues", QUEUE),
-        objects("sets", QUEUE_SET),
-        objects("streams", STREAM),
-        objects("messages", MESSAGE),
-        objects("groups", GROUP),
-        objects("tasks", TASK, 1),
+        objects(kinds.QUEUE.key, QUEUE),
+        objects(kinds.QUEUE_SET.key, QUEUE_SET),
+        objects(kinds.STREAM.key, STREAM),
+        objects(kinds.MESSAGE.key, MESSAGE),
+        objects(kinds.GROUP.key, GROUP),
+        objects(kinds.TASK.key, TASK, 1),
     ),
 )
 

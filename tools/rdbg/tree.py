@@ -78,16 +78,29 @@ Value = Union[None, bool, Number, str, Tuple["Node", ...], Object]
 
 
 @dataclasses.dataclass(frozen=True)
+class Part:
+    """What an instruction is of a line that says more than one does, or says it in another way:
+    which of the line's instructions, counted from 0, how many there are, what is said behind the
+    line's own text, and what the line costs in moves."""
+
+    index: int = 0
+    count: int = 1
+    note: str = ""
+    cost: str = ""
+
+
+@dataclasses.dataclass(frozen=True)
 class Node:
     """A value and its place. Of a text, `places` are those of its characters, where they are known.
     `written` is what stands there where it differs, as an instruction with a label, and `spelled`
-    each of its words."""
+    each of its words; `part` is given where the line isn't the instruction itself."""
 
     value: Value
     place: Place
     places: Sequence[Place] = ()
     written: Optional[str] = None
     spelled: Tuple[str, ...] = ()
+    part: Optional[Part] = None
 
     def place_of(self, index: int) -> Place:
         """The place of a character of a text, or of the text where that isn't known."""

@@ -9,7 +9,7 @@ from typing import Dict, Iterator, List, Sequence
 from rdbg.client import Session
 from rdbg.looks import Names
 from rdbg.main import main
-from rdbg.source import load
+from rdbg.files.source import load
 from tests.chromium import Browser
 from tests.paths import DOCS, EXAMPLES
 

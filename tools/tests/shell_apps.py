@@ -3,9 +3,9 @@ import json
 import random
 from typing import Dict, List
 
-from rdbg.shell.opening import begin
-from rdbg.shell.target import Limits, Target
-from rdbg.source import Source, source
+from rdbg.driving.opening import begin
+from rdbg.driving.target import Limits, Target
+from rdbg.files.source import Source, source
 
 NAMES = {"Q": ["q0", "q1"], "S": ["s0"], "B": ["b0"], "M": ["m0"], "G": ["g0"]}
 FORMS = (

@@ -4,11 +4,11 @@ import io
 import pathlib
 from typing import Iterator, List, Optional, Tuple
 
-from rdbg.shell.interrupt import Interrupt
-from rdbg.shell.opening import begin
+from rdbg.driving.interrupt import Interrupt
+from rdbg.driving.opening import begin
 from rdbg.shell.shell import Shell
-from rdbg.shell.target import Limits
-from rdbg.source import Source, load
+from rdbg.driving.target import Limits
+from rdbg.files.source import Source, load
 from tests.paths import EXAMPLES
 
 

@@ -69,10 +69,15 @@ class Started:
     """A companion that runs, with all processes that it has started, and theirs."""
 
     def __init__(
-        self, *words: str, program: Optional[str] = None, ignored: Optional[int] = None
+        self,
+        *words: str,
+        program: Optional[str] = None,
+        reach: Optional[str] = None,
+        ignored: Optional[int] = None,
     ) -> None:
         self.mark = f"{os.getpid()}-{time.monotonic_ns()}"
-        more: Dict[str, str] = {} if program is None else {"RDBG_PROGRAM": program}
+        named = {"RDBG_PROGRAM": program, "RDBG_REACH": reach}
+        more: Dict[str, str] = {name: path for name, path in named.items() if path is not None}
         begin = [sys.executable, str(COMPANION)]
         if ignored is not None:
             begin = ["sh", "-c", f"trap '' {ignored}; exec \"$@\"", "sh", *begin]

@@ -9,7 +9,7 @@ from typing import List
 
 from rdbg.client import program
 from rdbg.failure import Failure
-from rdbg.source import source
+from rdbg.files.source import source
 from tests import broken
 
 # So many broken files; RDBG_MANY in the environment says another number.

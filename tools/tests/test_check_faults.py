@@ -4,7 +4,7 @@ from typing import List
 
 from rdbg.checking.faults import MOST_FAULTS, faults_of
 from rdbg.checking.remarks import remarks_of
-from rdbg.source import source
+from rdbg.files.source import source
 from rdbg.tree import Node, Place
 from tests.paths import EXAMPLES
 

@@ -2,7 +2,7 @@
 import unittest
 from typing import List
 
-from rdbg.source import source
+from rdbg.files.source import source
 from rdbg.checking.statements import statement
 from tests.test_check_faults import FILE, faults, of_code
 

@@ -5,6 +5,7 @@ import unittest
 from typing import List
 
 from rdbg.adapter.looking import CAUSES
+from tests import searches
 from tests.dap_client import Client, Message, editor
 from tests.dap_schema import Held
 from tests.paths import EXAMPLES
@@ -109,10 +110,10 @@ class Lines(Held):
         with editor() as client:
             client.begin(self.file, limit=200)
             for more, why in (
-                ({"condition": "count job > 0"}, "near it is `jobs`"),
+                ({"condition": "count job > 0"}, "`count jobs > 0` would be right"),
                 ({"condition": "jobs>0"}, ""),
-                ({"condition": "count jobs > 0 5"}, "is too much behind a condition"),
-                ({"condition": "reg maker 9 = 1"}, "NoSuch"),
+                ({"condition": "count jobs > 0 5"}, "'and', 'or', ')' or the end is wanted there"),
+                ({"condition": "reg maker 9 = 1"}, "a register is wanted there, 0 to 7"),
                 ({"hitCondition": "often"}, "'often' is no number of hits"),
                 ({"hitCondition": "0"}, "'0' is no number of hits"),
                 ({"logMessage": "here"}, "log messages aren't done"),
@@ -166,19 +167,36 @@ class Names(Held):
                 ("wakes worker", "wakes worker"),
                 ("changes jobs", "changes jobs"),
                 ("failed", "failed"),
+                ("asleep or not at worker 0", "asleep or not at worker 0"),
+                ("reg worker 0 = reg poller 0", "reg worker 0 = reg poller 0"),
             ):
                 self.assertEqual(named(client, name)[0].get("message"), text)
             for name, why in (
                 ("", "a condition, as"),
                 ("producer 9", "has no instruction 9"),
-                ("sleeps", "sleeps what?"),
-                ("sleeps nobody", "there is no task 'nobody'"),
-                ("changes worker", "worker is a task"),
+                ("sleeps", "the name of a task is wanted there"),
+                ("sleeps nobody", "word 2, 'nobody': the name of a task is wanted there"),
+                ("changes worker", "the name of an object is wanted there"),
                 ("reg worker", ""),
             ):
                 found = named(client, name)[0]
                 self.assertFalse(found["verified"])
                 self.assertIn(why, found["message"])
+
+    def test_goals_that_are_typed(self) -> None:
+        with editor() as client:
+            client.begin(LOST)
+            said = client.typed("until! at worker 1 and not runs producer")
+            self.assertIn("at 8 met: at worker 1 and not runs producer", said)
+            self.assertIn("`stuck` would be right", client.typed("rc! stuk"))
+
+    @unittest.skipUnless(searches.real(), "no program that searches")
+    def test_what_can_still_come(self) -> None:
+        with editor() as client:
+            client.begin(LOST)
+            self.assertEqual("found", client.typed("reach reg poller 0 = 1").splitlines()[0])
+            client.typed("forward 7")
+            self.assertEqual("never", client.typed("reach reg poller 0 = 1").strip())
 
     def test_the_first_of_several(self) -> None:
         with editor() as client:
@@ -245,11 +263,11 @@ class Names(Held):
             client.refused("exceptionInfo", threadId=uart)
             self.assertEqual(client.stopped("next", threadId=uart)["reason"], "exception")
             client.stopped("reverseContinue", threadId=uart)
-            client.ask("setExceptionBreakpoints", filters=["stuck"])
+            client.ask("setExceptionBreakpoints", filters=["asleep"])
             self.assertEqual(client.stopped("continue", threadId=uart)["reason"], "exception")
-            self.assertEqual(client.ask("exceptionInfo", threadId=1)["exceptionId"], "stuck")
+            self.assertEqual(client.ask("exceptionInfo", threadId=1)["exceptionId"], "asleep")
             stop = client.stopped("continue", threadId=uart)
-            self.assertIn("nothing goes on: all wait", stop["description"])
+            self.assertIn("nothing goes on: all that is left waits", stop["description"])
 
 
 class Causes(unittest.TestCase):

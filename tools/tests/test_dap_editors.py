@@ -106,7 +106,7 @@ class Folders(Held):
             client.ask("initialize", adapterID="rdbg", clientID="vscode")
             client.ask("launch", asked)
             client.event("initialized")
-            client.ask("setExceptionBreakpoints", filters=["failed", "stuck"])
+            client.ask("setExceptionBreakpoints", filters=["failed", "asleep"])
             self.assertEqual(client.stopped("configurationDone")["reason"], "entry")
             client.ask("disconnect")
             self.assertEqual(process.wait(30), 0)

@@ -10,14 +10,14 @@ from typing import Callable, Dict, Iterator, List, Sequence, Set, Tuple
 from rdbg import replies
 from rdbg.adapter.pausing import Pause
 from rdbg.adapter.running import Runner
-from rdbg.adapter.stops import Amount, Becomes, Begins, Content, Counted, Phases, Stop, Where
+from rdbg.adapter.stops import Amount, Becomes, Begins, Content, Counted, Reaches, Stop, Where
 from rdbg.looks import Look
-from rdbg.shell.conditions import Condition
-from rdbg.shell.goals import Sleeps, wakes
-from rdbg.shell.opening import begin
-from rdbg.shell.target import Limits, Target
-from rdbg.shell.walk import Walk
-from rdbg.source import load
+from rdbg.goals.conditions import Condition
+from rdbg.goals.claims import ASLEEP, Holds, Joined, Not, Runs, SomeFailed, Waits
+from rdbg.driving.opening import begin
+from rdbg.driving.target import Limits, Target
+from rdbg.driving.walk import Walk
+from rdbg.files.source import load
 from tests.made import Maker
 from tests.paths import EXAMPLES
 
@@ -132,10 +132,12 @@ class Known:
             Becomes(self.condition(), is_at_start=True),
             Becomes(self.condition()),
             Amount(chance.choice(watched)),
-            Begins("failed"),
-            Begins("stuck"),
-            Phases(f"sleeps {task}", task, Sleeps(task)),
-            Phases(f"wakes {task}", task, wakes(self.target, task)),
+            Begins(SomeFailed()),
+            Begins(ASLEEP),
+            Reaches(Waits(task, is_endless=True)),
+            Reaches(Not(Waits(task)), f"wakes {task}"),
+            Reaches(Joined("or", Runs(task), Holds(self.condition()))),
+            Reaches(Joined("and", Not(Waits(task)), Holds(self.condition()))),
             *(Content(self.target, key) for key in look.objects),
         ]
         return chance.choice(stops)
@@ -146,7 +148,7 @@ class Known:
         found = self.places(stop)
         if self.chance.random() < 0.3:
             condition = self.condition()
-            stop, found = Where(stop, condition), found & self.holding(condition)
+            stop, found = Where(stop, Holds(condition)), found & self.holding(condition)
             self.met[stop] = found
         if self.chance.random() < 0.3:
             text = self.chance.choice(list(HITS))
@@ -175,7 +177,7 @@ class Exact(unittest.TestCase):
         behind = [place for place in met if place > start]
         self.assertEqual(known.target.place, behind[0] if behind else PLACES, text)
         self.assertEqual(outcome.how, "met" if behind else "limit", text)
-        self.assertEqual(set(outcome.met), self.met_at(known, stops), text)
+        self.assertEqual(set(outcome.met), self.met_at(known, stops) if behind else set(), text)
         self.assertEqual(known.target.places().done + known.target.places().undone, PLACES)
 
     def met_at(self, known: Known, stops: Sequence[Stop]) -> Set[Stop]:

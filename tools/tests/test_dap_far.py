@@ -8,12 +8,13 @@ from typing import Any, Callable, List
 from rdbg.adapter.pausing import Pause
 from rdbg.adapter.running import Runner
 from rdbg.adapter.stops import Amount, Becomes, Begins, Counted, Stop, Where
-from rdbg.shell.conditions import Condition
-from rdbg.shell.interrupt import Interrupted
-from rdbg.shell.opening import begin
-from rdbg.shell.target import Limits, Target
-from rdbg.shell.walk import Walk
-from rdbg.source import load
+from rdbg.goals.claims import ASLEEP, Holds, SomeFailed
+from rdbg.goals.conditions import Condition
+from rdbg.driving.interrupt import Interrupted
+from rdbg.driving.opening import begin
+from rdbg.driving.target import Limits, Target
+from rdbg.driving.walk import Walk
+from rdbg.files.source import load
 from tests.dap_client import Client, editor
 from tests.dap_schema import Held
 
@@ -195,7 +196,7 @@ class Joint(unittest.TestCase):
         self.addCleanup(target.session.close)
         walk, tally = Walk(target, Pause()), Tally(target)
         at_add = Becomes(Condition("pc", "toggler", number=2))
-        stop = Where(at_add, Condition("reg", "toggler", 2, "=", 1))
+        stop = Where(at_add, Holds(Condition("reg", "toggler", 2, "=", 1)))
         place = 2 * (1 + 5 * (TOGGLES - 1) + 4) - 1  # (the last round lacks its `jump`)
         _, lines = tally.of(lambda: Runner(walk, lambda: [stop], lambda: None).forwards(40_000))
         self.assertEqual(walk.place, place)
@@ -224,7 +225,7 @@ class Once(unittest.TestCase):
 
     def runner(self, *stops: Stop) -> Runner:
         """A run to some stops and to failures, as one button begins it."""
-        all_of_them = [*stops, Begins("failed"), Begins("stuck")]
+        all_of_them = [*stops, Begins(SomeFailed()), Begins(ASLEEP)]
         return Runner(self.walk, lambda: list(all_of_them), lambda: None)
 
     def check_again(self, stop: Callable[[], Stop], place: int) -> None:
@@ -248,7 +249,7 @@ class Once(unittest.TestCase):
     def test_of_conditions_hits_and_variables(self) -> None:
         once = lambda hits: hits == 1
         small = Condition("reg", "counter", 0, "=", 0)
-        self.check_again(lambda: Where(self.arrival(4), small), self.place)
+        self.check_again(lambda: Where(self.arrival(4), Holds(small)), self.place)
         self.walk.goto(0)
         self.check_again(lambda: Counted(self.arrival(4), "1", once), self.place)
         self.walk.goto(0)

@@ -276,7 +276,11 @@ class Arguments(Held):
                 ("evaluate", {"expression": "quit"}, "Disconnect"),
                 ("evaluate", {"expression": "x\n" * 2_000}, "2000 lines at once"),
                 ("evaluate", {"expression": "x", "context": "hover"}, "is no register"),
-                ("evaluate", {"expression": "reg nobody 0 = 1", "context": "watch"}, "isn't there"),
+                (
+                    "evaluate",
+                    {"expression": "reg nobody 0 = 1", "context": "watch"},
+                    "word 2, 'nobody'",
+                ),
                 ("evaluate", {"expression": "step 0", "context": "hover"}, "is no register"),
                 ("stepInTargets", {"frameId": 2}, "rdbg answers no request"),
             ]

@@ -8,13 +8,15 @@ import sys
 import tempfile
 import time
 import unittest
+from typing import List
 
+from tests import searches
 from tests.fake import program
 from tests.hunts import path, replayed, said, written
 from tests.paths import COMPANION
 
 LOST = path("lost_item")
-QUICK = ("--moves", "12", "--surprises", "1", "--workers", "1")
+QUICK = ("--moves", "12", "--surprises", "1")
 
 
 class Said(unittest.TestCase):
@@ -36,7 +38,9 @@ class Said(unittest.TestCase):
         self.assertEqual("  at 0: core 1 is 4 moves ahead", errors[1])
         self.assertEqual("place  tick  core  who       pc  does                effects", errors[2])
         self.assertIn("recv jobs 0 -> 1    data 41, jobs 0/1", errors[6])
-        self.assertEqual("tried:", errors[7])
+        self.assertRegex(
+            errors[7], r"tried: \d+ states, \d+ moves made; the longest order has \d+ moves"
+        )
 
     def test_into_a_file(self) -> None:
         status, lines, errors = said(LOST, "reg poller 0 = 1", *QUICK, "-o", "found.commands")
@@ -47,13 +51,13 @@ class Said(unittest.TestCase):
 
     def test_a_file_has_no_find_of_an_earlier_hunt(self) -> None:
         file = pathlib.Path("found.commands")
-        for words in (
-            QUICK,
-            ("--states", "5", *QUICK),
-            ("--exhaustive", "--moves", "5", "--workers", "1"),
+        for words, status in (
+            (QUICK, 0),
+            (("--states", "5", *QUICK), 2),
+            (("--exhaustive", "--moves", "5"), 0),
         ):
             file.write_text("step 0\n")
-            self.assertEqual(0, said(LOST, "reg poller 7 = 1", *words, "-o", str(file))[0])
+            self.assertEqual(status, said(LOST, "reg poller 7 = 1", *words, "-o", str(file))[0])
             self.assertEqual("", file.read_text())
         # (words that are refused leave it as it is, and none is made where there was none)
         file.write_text("step 0\n")
@@ -76,7 +80,7 @@ class Said(unittest.TestCase):
         file = pathlib.Path("found.commands")
         file.write_text("step 0\n")
         with program([], "rdbg: no memory\n", 1):
-            self.assertEqual(2, said(LOST, "stuck", "-o", str(file))[0])
+            self.assertEqual(2, said(LOST, "reg poller 0 = 1", "-o", str(file))[0])
         self.assertEqual("", file.read_text())
 
     def test_the_usage_has_one_goal(self) -> None:
@@ -86,24 +90,39 @@ class Said(unittest.TestCase):
         self.assertIn("FILE GOAL looks for", usage)
         self.assertNotIn("GOAL [GOAL ...]", usage)
 
-    def test_none_found_says_what_was_tried(self) -> None:
+    def test_none_found_says_of_which_orders(self) -> None:
         status, lines, errors = said(LOST, "reg poller 7 = 1", *QUICK)
         self.assertEqual((0, []), (status, lines))
         self.assertEqual("none found: reg poller 7 = 1", errors[0])
-        self.assertEqual("  1 order without a surprise", errors[2])
-        self.assertRegex(errors[3], r"  \d+ orders with 1 surprise, at \d+ places")
-        self.assertEqual(
-            "each of 12 moves at the most; a core up to 4 moves ahead, a tick early", errors[4]
+        self.assertEqual("not within 12 moves and 1 surprises", errors[1])
+        self.assertRegex(
+            errors[2], r"tried: \d+ states, \d+ moves made; the longest order has 12 moves"
         )
-        self.assertEqual("more surprises, moves, or other surprises weren't tried", errors[5])
+        self.assertEqual(3, len(errors))
         self.assertFalse(os.path.exists("found.commands"))
 
-    def test_where_more_surprises_bring_nothing(self) -> None:
+    def test_never(self) -> None:
         alone = """{"profile": 1, "cores": 1, "queues": [{"name": "q", "length": 1, "item": 1}],
         "tasks": [{"name": "a", "priority": 1, "code": ["recv q max", "end"]}]}"""
         file = written(".", alone)
-        _, _, errors = said(file, "failed", "--surprises", "9", "--workers", "1")
-        self.assertEqual("more of such surprises come to no other state", errors[-1])
+        status, _, errors = said(file, "failed", "--expect", "none")
+        self.assertEqual((0, "never"), (status, errors[1]))
+        # (there are no longer orders, and none with more surprises, that were left out: but these
+        # alone were asked for)
+        _, _, errors = said(file, "failed", "--surprises", "9")
+        self.assertEqual("not within 9 surprises", errors[1])
+
+    def test_the_page_of_a_find(self) -> None:
+        status, _, _ = said(
+            LOST, "reg poller 0 = 1", "--page", "found.html", "-o", "found.commands"
+        )
+        self.assertEqual(1, status)
+        page = pathlib.Path("found.html").read_text()
+        self.assertTrue(page.startswith("<!DOCTYPE html>"), page[:40])
+        self.assertIn("recv jobs 0", page)
+        # (where none is found there is none)
+        self.assertEqual(0, said(LOST, "reg poller 7 = 1", *QUICK, "--page", "none.html")[0])
+        self.assertFalse(os.path.exists("none.html"))
 
     def test_lines_and_all(self) -> None:
         pathlib.Path("pair.fw").write_text(
@@ -111,10 +130,10 @@ class Said(unittest.TestCase):
             "task a priority 1\n    recv q 0\n    end\n"
             "task b priority 1\n    send q 0\n    end\n"
         )
-        status, lines, errors = said("pair.fw", "reg a 0 = 1", "--workers", "1")
+        status, lines, errors = said("pair.fw", "reg a 0 = 1")
         self.assertEqual(1, status)
         self.assertEqual(["watch reg a 0 = 1", "step 1", "forward 2"], lines[:3])
-        status, lines, errors = said("pair.fw", "differs", "--all", "3", "--workers", "1")
+        status, lines, errors = said("pair.fw", "differs", "--all", "3")
         self.assertEqual(1, status)
         # (in forward's order a finds nothing; and where b is first a has it)
         self.assertIn("how the first order ends (<), and this one (>):", errors)
@@ -124,19 +143,26 @@ class Said(unittest.TestCase):
         self.assertIn("regs 1,", ends[1])
 
     def test_smallest(self) -> None:
-        words = ["reg worker 0 = 1", "--surprises", "1", "--workers", "1", "--smallest"]
+        words = ["reg worker 0 = 1", "--surprises", "1", "--smallest"]
         status, lines, errors = said(LOST, *words)
         # forward's order comes to it at 7 (docs/LOST_ITEM.md: at 5 the job is there, then a tick)
         self.assertEqual(
             (1, "found: reg worker 0 = 1, at 7, without a surprise"), (status, errors[0])
         )
 
-    def test_smallest_by_more_processes(self) -> None:
-        # (what was asked for before a find is looked at behind it, where fewer moves are left)
-        for workers in ("1", "2", "4"):
-            words = [path("frames"), "stuck", "--smallest", "--workers", workers]
-            status, _, errors = said(*words)
-            self.assertEqual((1, "found: stuck, at 25, with 1 surprise"), (status, errors[0]))
+    def test_none_is_smaller(self) -> None:
+        status, _, errors = said(path("frames"), "stuck", "--smallest")
+        self.assertEqual((1, "found: stuck, at 25, with 1 surprise"), (status, errors[0]))
+        self.assertEqual(
+            "none smaller: not within 24 moves and 1 surprises; not within 0 surprises", errors[-1]
+        )
+
+    def test_a_pace(self) -> None:
+        # (of two moves a tick core 1 makes no four before core 0 has made one)
+        status, _, errors = said(LOST, "reg poller 0 = 1", "--pace", "1..2", "--smallest")
+        self.assertEqual(1, status)
+        self.assertNotIn("  at 0: core 1 is 4 moves ahead", errors)
+        self.assertEqual(2, said(LOST, "reg poller 0 = 1", "--pace", "2..1")[0])
 
 
 class Statuses(unittest.TestCase):
@@ -153,84 +179,96 @@ class Statuses(unittest.TestCase):
             self.assertEqual(status, said(LOST, goal, *QUICK, "--expect", expected)[0])
 
     def test_a_limit_of_time(self) -> None:
-        words = [path("stale_mended"), "failed", "--surprises", "4", "--within", "1"]
-        for workers in ("1", "2"):
-            began = time.monotonic()
-            status, _, errors = said(*words, "--workers", workers)
-            self.assertEqual((0, "that isn't all: the time was up"), (status, errors[-1]))
-            self.assertLess(time.monotonic() - began, 20)
-        self.assertEqual(2, said(*words, "--expect", "none", "--workers", "2")[0])
+        words = [path("soak"), "reg sensor 7 = 1", "--within", "1"]
+        began = time.monotonic()
+        expectations: List[List[str]] = [[], ["--expect", "none"], ["--expect", "found"]]
+        for expected in expectations:
+            status, _, errors = said(*words, *expected)
+            self.assertEqual((2, "that isn't all: the time was up"), (status, errors[-1]))
+            self.assertRegex(errors[1], "full")
+        self.assertLess(time.monotonic() - began, 60)
 
     def test_a_limit_of_states(self) -> None:
-        status, _, errors = said(LOST, "reg poller 7 = 1", *QUICK, "--states", "5")
-        self.assertEqual(0, status)
-        self.assertEqual("that isn't all: there are more states than --states allows", errors[-1])
-        words = ["--exhaustive", "--states", "20", "--workers", "1", "--expect", "none"]
-        status, _, errors = said(LOST, "reg poller 7 = 1", *words)
-        self.assertEqual(2, status)
-        self.assertRegex(errors[1], r"tried: every order of \d moves; 2\d states")
+        why = "that isn't all: there are more states than --states allows"
+        asked: List[List[str]] = [[], ["--exhaustive"], ["--expect", "none"]]
+        for words in asked:
+            status, _, errors = said(LOST, "reg poller 7 = 1", "--states", "20", *words)
+            self.assertEqual((2, why), (status, errors[-1]))
+            self.assertRegex(errors[1], r"full: not within \d+ moves")
+            self.assertRegex(errors[2], "tried: 20 states, ")
 
-    def test_goals_that_are_none_are_told_as_the_prompt_tells_them(self) -> None:
+    def test_goals_that_are_none(self) -> None:
         for goal, why in (
-            ("stuk", "near it is `stuck`"),
-            ("Differs", "near it is `differs`"),
-            ("count jobs>0", "spaces stand round an operator: `count jobs > 0`"),
-            ("count jobs >= 1", ">= 1 is > 0: `count jobs > 0`"),
-            ("count jobs == 1", "== is =: `count jobs = 1`"),
-            ("count job > 0", "there is no queue 'job'; near it is `jobs`"),
-            ("phase workr run", "there is no task 'workr'; near it is `worker`"),
-            ("note worker 1 = 0", "there is one notification entry, from 0 on"),
-            ("count jobs > 0 and pc worker = 1", "a condition has no `and`: hunt for one of them"),
-            ("count jobs > 0 or stuck", "a condition has no `or`: hunt for one of them at a time"),
-            ("not phase worker run", "a condition has no `not`: turn it round"),
-            ("count jobs", "behind `count jobs` comes =, < or >"),
-            ("count jobs > 0 5", "'5' is too much"),
-            ("worker pc = 3", "a condition begins with what is looked at: `pc worker = 3`"),
-            ("jobs", "a goal is stuck, failed, differs, or a condition (count, bytes"),
-            ("w0", "a hunt has no watches"),
-            ("", "a goal is stuck, failed, differs, or a condition"),
+            ("stuk", "; `stuck` would be right"),
+            ("count jobs>0", "; `count jobs > 0` would be right"),
+            (
+                "count job > 0",
+                "word 2, 'job': the name of a queue is wanted there; `count jobs > 0`",
+            ),
+            ("note worker 1 = 0", "word 3, '1': the index of a notification entry is wanted there"),
+            ("count jobs", "it ends too early: '=', '<' or '>' is wanted there"),
+            ("jobs", "word 1, 'jobs': a claim, 'not' or '(' is wanted there"),
+            ("w0", "word 1, 'w0': a claim, 'not' or '(' is wanted there"),
+            ("wakes worker", "word 1, 'wakes': this is said of a move"),
+            ("", "it ends too early: a claim, 'not' or '(' is wanted there"),
         ):
             with self.subTest(goal):
                 status, lines, errors = said(LOST, goal)
                 self.assertEqual((2, [], 1), (status, lines, len(errors)))
-                self.assertIn(f"rdbg hunt: '{goal}' is no goal", errors[0])
+                self.assertIn("rdbg hunt: goal: ", errors[0])
                 self.assertIn(why, errors[0])
+
+    def test_goals_that_are_joined(self) -> None:
+        goal = "count jobs = 1 and not (waits worker or runs poller)"
+        status, lines, errors = said(LOST, goal)
+        self.assertEqual((1, f"found: {goal}, at 5, without a surprise"), (status, errors[0]))
+        # (at the end are the tasks, and the objects of which the goal speaks)
+        views = [f"show task {name}" for name in ("worker", "producer", "poller")]
+        self.assertEqual(["forward 5", "show cores", *views, "show queue jobs"], lines)
 
     def test_two_goals(self) -> None:
         status, _, errors = said(LOST, "stuck", "failed")
         self.assertEqual(2, status)
-        self.assertIn("'failed' is too much: a hunt has one goal, and stuck is one", errors[0])
+        self.assertIn("word 2, 'failed': 'and', 'or', ')' or the end is wanted there", errors[0])
         # (the words of one may be apart)
         self.assertEqual(1, said(LOST, "reg", "poller", "0", "=", "1", *QUICK)[0])
 
     def test_words_that_cant_be(self) -> None:
-        most = 4 * len(os.sched_getaffinity(0))
         for words, why in (
-            ([LOST, "stuk"], "'stuk' is no goal"),
-            ([LOST, "reg worker 8 = 0"], "registers are 0 to 7"),
+            ([LOST, "stuk"], "`stuck` would be right"),
+            ([LOST, "reg worker 8 = 0"], "a register is wanted there, 0 to 7"),
             (["none.json", "stuck"], "cannot read none.json"),
             ([LOST, "stuck", "--part", "3/2"], "K/N with K of 1 to N"),
             ([LOST, "stuck", "--within", "0"], "a number of seconds"),
-            ([LOST, "stuck", "--ahead", "1001"], "--ahead takes 1 to 1000"),
-            ([LOST, "stuck", "--exhaustive", "--part", "1/2"], "it takes no --part"),
+            ([LOST, "stuck", "--exhaustive", "--surprises", "1"], "it takes no --surprises"),
+            ([LOST, "stuck", "--surprises", "256"], "--surprises is a number, 0 to 255"),
+            ([LOST, "stuck", "--states", "0"], "invalid value"),
+            ([LOST, "differs", "--pace", "1..2"], "--pace is of goals that are met"),
             ([LOST, "stuck", "--exhaustive", "--smallest"], "it takes no --smallest"),
             ([LOST, "stuck", "--smallest", "--all", "2"], "it takes no --all"),
             ([LOST, "differs", "--smallest"], "none of differs"),
             ([LOST, "stuck", "-o", "/none/found.commands"], "cannot write /none/found.commands"),
-            ([LOST, "stuck", "--workers", "0"], "1 to 1000000, not '0'"),
-            ([LOST, "stuck", "--workers", str(most + 1)], f"takes 1 to {most} here, and not"),
+            ([LOST, "stuck", "--moves", "0"], "1 to 1000000, not '0'"),
             ([LOST], "the following arguments are required"),
         ):
             with self.subTest(why):
                 status, lines, errors = said(*words)
                 self.assertEqual((2, []), (status, lines))
-                self.assertIn(why, errors[-1])
+                self.assertIn(why, "\n".join(errors))
 
     def test_a_program_that_ends(self) -> None:
-        for workers in ("1", "2"):
-            with program([], "rdbg: no memory\n", 1):
-                status, lines, errors = said(LOST, "stuck", "--workers", workers)
-            self.assertEqual((2, [], ["rdbg hunt: rdbg: no memory"]), (status, lines, errors))
+        with program([], "rdbg: no memory\n", 1):
+            status, lines, errors = said(LOST, "reg poller 0 = 1")
+        self.assertEqual((2, [], ["rdbg hunt: rdbg: no memory"]), (status, lines, errors))
+
+    def test_a_search_that_ends(self) -> None:
+        with searches.program("", end=searches.KILLED):
+            status, lines, errors = said(LOST, "stuck")
+        self.assertEqual((2, []), (status, lines))
+        self.assertEqual(["rdbg hunt: the program was ended by SIGKILL"], errors)
+        with searches.program("", "rdreach: no such option\n", "exit 2"):
+            status, lines, errors = said(LOST, "stuck")
+        self.assertEqual((2, [], ["rdreach: no such option"]), (status, lines, errors))
 
     def test_a_refused_application(self) -> None:
         with tempfile.TemporaryDirectory() as folder:
@@ -244,41 +282,55 @@ class Statuses(unittest.TestCase):
         "tasks": [{"name": "a", "priority": 1, "code": ["set r1 1", "jump 0"]}]}"""
         with tempfile.TemporaryDirectory() as folder:
             file = written(folder, late)
-            status, _, errors = said(file, "reg a 2 = 1", "--workers", "1")
+            status, _, errors = said(file, "reg a 2 = 1")
             self.assertEqual((0, "none found: reg a 2 = 1"), (status, errors[0]))
-            status, _, errors = said(file, "tick = 4294967295", "--workers", "1")
+            status, _, errors = said(file, "tick = 4294967295")
             self.assertEqual(1, status)
-            status, _, errors = said(file, "reg a 2 = 1", "--exhaustive", "--workers", "1")
-            self.assertIn("every order there is", errors[1])
+            status, _, errors = said(file, "reg a 2 = 1", "--exhaustive")
+            self.assertEqual((0, "never"), (status, errors[1]))
+
+
+class Questions(unittest.TestCase):
+    """Questions of the program that searches, each a row of one table."""
+
+    def test_one_more(self) -> None:
+        answer = "found\nstep 0\nstates 5 moves 9 deepest 2\n\n"
+        with searches.program(answer):
+            status, lines, errors = said(LOST, "doomed", "reg worker 0 = 1")
+        # (the goal needn't hold behind the order)
+        head = "found: doomed reg worker 0 = 1, at 1, without a surprise"
+        self.assertEqual((1, head, "forward 1"), (status, errors[0], lines[0]))
+
+    def test_those_that_there_are(self) -> None:
+        self.assertEqual(1, said(LOST, "reach", "reg poller 0 = 1")[0])
+        self.assertEqual(1, said(LOST, "doomed", "at worker 1")[0])
+        # (where a run lost a goal is no order)
+        self.assertEqual(2, said(LOST, "lost", "at worker 1")[0])
 
 
 class Interrupted(unittest.TestCase):
     """Ctrl-C."""
 
-    def test_it_says_what_was_tried(self) -> None:
-        for workers in ("1", "2"):
-            # (a search that has no end of its own)
-            words = [path("soak"), "failed", "--workers", workers]
-            words += ["--surprises", "40", "--moves", "1000"]
-            ran = subprocess.Popen(
-                [sys.executable, "-B", str(COMPANION), "hunt", *words],
-                stdout=subprocess.PIPE,
-                stderr=subprocess.PIPE,
-                text=True,
-            )
-            # (once it has started a process of its own it is at work)
-            children = pathlib.Path(f"/proc/{ran.pid}/task/{ran.pid}/children")
-            while not children.read_text().strip():
-                time.sleep(0.1)
-            time.sleep(1)
-            ran.send_signal(signal.SIGINT)
-            _, errors = ran.communicate(timeout=60)
-            self.assertEqual(130, ran.returncode, errors)
-            self.assertRegex(
-                errors, "none found: failed\ntried:\n  [01] orders? without a surprise"
-            )
-            self.assertIn("that isn't all: Ctrl-C came", errors)
-            self.assertNotIn("Traceback", errors)
+    def test_it_says_what_was_gone_through(self) -> None:
+        # (a search that takes longer than anybody waits)
+        words = [path("soak"), "reg sensor 7 = 1"]
+        ran = subprocess.Popen(
+            [sys.executable, "-B", str(COMPANION), "hunt", *words],
+            stdout=subprocess.PIPE,
+            stderr=subprocess.PIPE,
+            text=True,
+        )
+        # (once it has started a process of its own it is at work)
+        children = pathlib.Path(f"/proc/{ran.pid}/task/{ran.pid}/children")
+        while not children.read_text().strip():
+            time.sleep(0.1)
+        time.sleep(2)
+        ran.send_signal(signal.SIGINT)
+        _, errors = ran.communicate(timeout=60)
+        self.assertEqual(130, ran.returncode, errors)
+        self.assertRegex(errors, "none found: reg sensor 7 = 1\nfull: not within")
+        self.assertIn("that isn't all: Ctrl-C came", errors)
+        self.assertNotIn("Traceback", errors)
 
 
 if __name__ == "__main__":

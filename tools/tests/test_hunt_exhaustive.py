@@ -5,15 +5,12 @@ import unittest
 from typing import Dict, List, Tuple
 
 from rdbg.client import Session
-from tests.hunts import every_order, hunted, path, written
+from tests.hunts import found, path, said, states, written
 
 TIMED = """{"profile": 1, "cores": 2, "queues": [{"name": "q", "length": 1, "item": 1}],
 "tasks": [{"name": "a", "priority": 1, "code": ["recv q 2", "jumpz r0 0", "end"]},
 {"name": "b", "priority": 1, "code": ["send q 1", "jumpz r0 3", "jump 0", "end"]},
 {"name": "c", "priority": 0, "code": ["recv q 0", "jump 0"]}]}"""
-PAIR = """{"profile": 1, "cores": 2, "queues": [{"name": "q", "length": 1, "item": 1}],
-"tasks": [{"name": "a", "priority": 1, "code": ["recv q 0", "end"]},
-{"name": "b", "priority": 1, "code": ["send q 0", "end"]}]}"""
 
 
 class EveryOrder:
@@ -62,12 +59,12 @@ class Exhaustive(unittest.TestCase):
         slow = EveryOrder(file, names, goal)
         with slow.session:
             slow.go(0, moves)
-        found = every_order(hunted(file, goal, moves, is_exhaustive=True))
+        status, _, errors = said(file, goal, "--exhaustive", "--moves", str(moves))
         if slow.least < 0:
-            self.assertEqual([], found.finds)
-            self.assertEqual(len(slow.states), found.depth.states)
+            self.assertEqual((0, f"not within {moves} moves"), (status, errors[1]))
+            self.assertEqual(len(slow.states), states(errors))
         else:
-            self.assertEqual(slow.least, found.finds[0].met)
+            self.assertEqual((1, [(0, slow.least)]), (status, found(errors)))
 
     def test_the_lost_item(self) -> None:
         names = ["task worker", "task producer", "task poller", "queue jobs"]
@@ -86,18 +83,10 @@ class Exhaustive(unittest.TestCase):
         slow = EveryOrder(file, names, "reg sender 7 = 1")
         with slow.session:
             slow.go(0, 30)
-        found = every_order(hunted(file, "stuck", 60, is_exhaustive=True), workers=2)
-        self.assertEqual((True, []), (found.depth.is_all, found.finds))
-        self.assertEqual(len(slow.states), found.depth.states)
+        status, _, errors = said(file, "stuck", "--exhaustive")
+        self.assertEqual((0, "never"), (status, errors[1]))
+        self.assertEqual(len(slow.states), states(errors))
         self.assertLess(max(slow.states.values()), 30)
-
-    def test_two_ends(self) -> None:
-        # (the first task has the item or not)
-        with tempfile.TemporaryDirectory() as folder:
-            file = written(folder, PAIR)
-            found = every_order(hunted(file, "differs", 9, is_exhaustive=True))
-        assert found.own is not None
-        self.assertNotEqual(found.own.end, found.finds[0].end)
 
 
 if __name__ == "__main__":

@@ -1,130 +1,145 @@
-"""The parts of a hunt together are the whole: each try once, and the same finds, whatever is found.
-
-Whatever searches is held to this: it is asked by `went` alone.
-"""
+"""One of several parts of a search, and the answers of all of them as one."""
+import contextlib
+import io
+import pathlib
+import subprocess
 import tempfile
 import unittest
 from typing import List, Tuple
 
-from tests.hunts import BySurprises, Went, path, went, written
-from tests.plain_search import small
+from rdbg.main import main
+from rdbg.reaching.asking import program
+from tests import searches
+from tests.hunts import path, said
 
-# More finds than there are.
-ALL = 1_000
-RING, BOTH = "notify a 0 1 inc", "send q 42; notify a 0 2 set"
+LOST = path("lost_item")
+COUNTS = "states 5 moves 9 deepest 4"
+# From boot core 1 sends, and goes on to the poller, which receives (docs/LOST_ITEM.md).
+QUICK = "\n".join(["step 1"] * 4)
+SLOW = "\n".join(["step 0", "step 1", "tick", "step 0", "step 1"])
 
 
-class InParts(unittest.TestCase):
-    """Hunts as a whole and in parts."""
+def joined(*words: str) -> Tuple[int, List[str], List[str]]:
+    """The status of `rdbg join` on these words, and the lines of its two outputs."""
+    output, errors = io.StringIO(), io.StringIO()
+    with contextlib.redirect_stdout(output), contextlib.redirect_stderr(errors):
+        status = main(["join", *words])
+    return status, output.getvalue().splitlines(), errors.getvalue().splitlines()
+
+
+def has_parts() -> bool:
+    """Whether the program that searches goes through parts."""
+    ran = subprocess.run([program(), "--help"], stdout=subprocess.PIPE, check=True, text=True)
+    return "--part" in ran.stdout
+
+
+class AnswersOf(unittest.TestCase):
+    """Answers in files of a folder."""
 
     def setUp(self) -> None:
         folder = tempfile.TemporaryDirectory()
         self.addCleanup(folder.cleanup)
-        self.folder = folder.name
+        self.folder = pathlib.Path(folder.name)
 
-    def made(self, seed: int) -> str:
-        """The file of a small application made at random."""
-        return written(self.folder, small(seed))
+    def written(self, *answers: str) -> List[str]:
+        """The paths of files with these answers."""
+        for at, answer in enumerate(answers):
+            (self.folder / str(at)).write_text(answer + "\n")
+        return [str(self.folder / str(at)) for at in range(len(answers))]
 
-    def parts(self, it: BySurprises, finds: int, parts: int, smallest: bool = False) -> List[Went]:
-        """What each part does."""
-        return [went(it, finds, (part, parts), smallest) for part in range(1, parts + 1)]
-
-    def check(
-        self, it: BySurprises, parts: int = 3, finds: int = ALL, smallest: bool = False
-    ) -> Went:
-        """Each try is made once, and the parts find together what the whole does."""
-        whole, each = went(it, finds, smallest=smallest), self.parts(it, finds, parts, smallest)
-        together = [lines for part in each for lines in part.tried]
-        self.assertEqual(sorted(whole.tried), sorted(together))
-        self.assertEqual(whole.ends, frozenset().union(*(part.ends for part in each)))
-        return whole
+    def join(self, *answers: str) -> Tuple[int, List[str], List[str]]:
+        """What these are as one."""
+        return joined(LOST, *self.written(*answers))
 
 
-class All(InParts):
-    """With `--all`, where nothing is cut off by how many finds are wanted."""
+class Joined(AnswersOf):
+    """`rdbg join`."""
 
-    def test_the_lost_item(self) -> None:
-        for parts in (2, 3):
-            it = BySurprises(path("lost_item"), "reg poller 0 = 1", 14, 2, 2)
-            self.assertEqual(193, len(self.check(it, parts).tried))
+    def test_found_is_the_least(self) -> None:
+        # (an order of `forward` has no surprise, and more moves; in the other one core 1 is ahead)
+        one = f"found, part 1 of 3\n{QUICK}\n{COUNTS}"
+        other = f"found, part 3 of 3\n{SLOW}\n{COUNTS}"
+        none = f"never, part 2 of 3\n{COUNTS}"
+        status, lines, errors = self.join(one, none, other)
+        wanted = ["found", *SLOW.splitlines(), "states 15 moves 27 deepest 4"]
+        self.assertEqual((1, wanted, []), (status, lines, errors))
+        # (where others are lacking, too)
+        status, lines, errors = self.join(one)
+        self.assertEqual((1, "found"), (status, lines[0]))
+        lacking = [f"rdbg join: part {part} is lacking" for part in (2, 3)]
+        self.assertEqual(lacking, errors)
 
-    def test_goals_of_each_sort(self) -> None:
-        for name, goal, moves, surprises in (
-            ("lost_item", "count jobs > 0", 14, 2),  # (which forward's own order meets)
-            ("lost_item", "pc worker = 0", 14, 2),  # (which holds at the start)
-            ("meeting", "stuck", 14, 2),
-            ("lost_item", "differs", 14, 2),
-            ("stale", "failed", 28, 1),
+    def test_never_and_not_within_are_said_of_all(self) -> None:
+        for heads, wanted in (
+            (["never", "never"], "never"),
+            (["not within 7 moves", "not within 7 moves"], "not within 7 moves"),
+            (["not within 2 surprises", "not within 2 surprises"], "not within 2 surprises"),
+            (["never", "not within 7 moves"], "not within 7 moves"),
+            (["not within 9 moves and 1 surprises"] * 2, "not within 9 moves and 1 surprises"),
         ):
-            with self.subTest(goal):
-                self.assertTrue(self.check(BySurprises(path(name), goal, moves, 3, surprises)).ends)
+            answers = [f"{head}, part {at} of 2\n{COUNTS}" for at, head in enumerate(heads, 1)]
+            status, lines, errors = self.join(*answers)
+            self.assertEqual((0, wanted, []), (status, lines[0], errors))
 
-    def test_small_applications(self) -> None:
-        for seed in range(12):
-            for goal in ("reg a 0 = 1", "pc a > 1"):
-                with self.subTest(f"{seed}: {goal}"):
-                    self.check(BySurprises(self.made(seed), goal, 7, 2, 2))
+    def test_full_else(self) -> None:
+        full = f"full: not within 5 moves, part 2 of 2\nas much memory as may be taken\n{COUNTS}"
+        status, lines, errors = self.join(f"never, part 1 of 2\n{COUNTS}", full)
+        self.assertEqual((2, "full: not within 5 moves", []), (status, lines[0], errors))
+        self.assertEqual("as much memory as may be taken", lines[1])
 
-    def test_interrupts(self) -> None:
-        for seed in (3, 4, 5):
-            for goal in ("note a 0 > 1", "count q > 0"):
-                with self.subTest(f"{seed}: {goal}"):
-                    self.check(BySurprises(self.made(seed), goal, 6, 1, 2, (RING, RING, BOTH)))
+    def test_a_part_that_is_lacking_is_told(self) -> None:
+        status, lines, errors = self.join(f"never, part 1 of 2\n{COUNTS}")
+        self.assertEqual((2, "full"), (status, lines[0]))
+        self.assertEqual("a part of the search is lacking", lines[1])
+        self.assertEqual(["rdbg join: part 2 is lacking"], errors)
 
-    def test_three_surprises(self) -> None:
-        for seed, goal in ((10, "note a 0 > 0"), (12, "reg a 0 = 1"), (13, "pc a > 1")):
-            with self.subTest(f"{seed}: {goal}"):
-                self.assertTrue(self.check(BySurprises(self.made(seed), goal, 7, 1, 3)).ends)
+    def test_instructions_that_no_part_came_to(self) -> None:
+        one = (
+            f"never, part 1 of 2\n{COUNTS}\nno order came to worker 0 1\nno order came to poller 1"
+        )
+        other = f"never, part 2 of 2\n{COUNTS}\nno order came to worker 1"
+        _, lines, _ = self.join(one, other)
+        self.assertEqual(["no order came to worker 1"], lines[2:])
 
-    def test_more_processes(self) -> None:
-        it = BySurprises(path("lost_item"), "reg poller 0 = 1", 12, 2, 2)
-        self.assertEqual(went(it, ALL, (2, 3)), went(it, ALL, (2, 3), workers=3))
+    def test_what_are_no_parts(self) -> None:
+        part = f"never, part 1 of 2\n{COUNTS}"
+        for answers, why in (
+            ([f"never\n{COUNTS}"], "its first line says no part of a search"),
+            (["nothing"], "'nothing' is no answer of rdreach"),
+            ([""], "is no answer"),
+            ([part, part], "part 1 is there twice"),
+            ([part, f"never, part 2 of 3\n{COUNTS}"], "in different numbers of parts"),
+            (["never, part 1 of 2"], "has no end"),
+        ):
+            status, lines, errors = self.join(*answers)
+            self.assertEqual((2, []), (status, lines))
+            self.assertIn(why, errors[0])
+        self.assertIn("cannot read", joined(LOST, "/none")[2][0])
 
 
-class CutOff(InParts):
-    """Where as many are found as are wanted, parts go on further: the whole is among them."""
+class Passed(AnswersOf):
+    """`--part` of a hunt goes to the program that searches."""
 
-    def test_the_first_finds(self) -> None:
-        it = BySurprises(path("lost_item"), "reg poller 0 = 1", 12, 2, 2)
-        for finds in (1, 2, 3):
-            whole, each = went(it, finds), self.parts(it, finds, 3)
-            together = [lines for part in each for lines in part.tried]
-            self.assertEqual(len(together), len(set(together)))
-            self.assertLessEqual(set(whole.tried), set(together))
-            self.assertEqual(finds, len(whole.ends))
-            self.assertLessEqual(whole.ends, frozenset().union(*(part.ends for part in each)))
+    def test_it_is_passed_on(self) -> None:
+        answer = f"ok\n\nnever, part 2 of 3\n{COUNTS}\n\n"
+        with searches.program(answer) as fake:
+            status, _, errors = said(LOST, "failed", "--part", "2/3", "--moves", "9")
+            self.assertIn("--part 2/3", fake.words())
+        self.assertEqual((0, "never, part 2 of 3"), (status, errors[1]))
 
-
-class Smallest(InParts):
-    """`--smallest`: of the parts' finds one with the fewest surprises, and with these with the
-    fewest moves, has as few as the one of the whole."""
-
-    def least(self, each: List[Went]) -> List[Tuple[int, int]]:
-        """The surprises and the moves of the least find, if there is one."""
-        return sorted((count, moves) for it in each for count, moves, _ in it.finds)[:1]
-
-    def check_least(self, it: BySurprises) -> None:
-        """The least of the parts is that of the whole."""
-        whole = self.least([went(it, smallest=True)])
-        for parts in (2, 3, 5):
-            self.assertEqual(whole, self.least(self.parts(it, 1, parts, smallest=True)))
-
-    def test_examples(self) -> None:
-        for goal in ("reg poller 0 = 1", "reg worker 0 = 1", "pc worker = 0", "reg poller 1 = 1"):
-            with self.subTest(goal):
-                self.check_least(BySurprises(path("lost_item"), goal, 14, 4, 2))
-        self.check_least(BySurprises(path("meeting"), "stuck", 20, 3, 2))
-
-    def test_small_applications(self) -> None:
-        for seed in range(8):
-            for goal in ("phase a ended", "reg a 0 = 1", "stuck"):
-                with self.subTest(f"{seed}: {goal}"):
-                    self.check_least(BySurprises(self.made(seed), goal, 8, 2, 2))
-
-    def test_none_found(self) -> None:
-        it = BySurprises(path("lost_item"), "reg poller 7 = 1", 12, 2, 2)
-        self.assertEqual([], self.check(it, finds=1, smallest=True).finds)
+    def test_the_parts_together_are_the_whole(self) -> None:
+        if not has_parts():
+            self.skipTest("the program that searches goes through no parts")
+        for goal in ("reg poller 0 = 1", "reg poller 7 = 1", "count jobs > 0", "failed"):
+            answers = []
+            for part in (1, 2, 3):
+                words = [program(), LOST, goal, "--part", f"{part}/3"]
+                ran = subprocess.run(words, stdout=subprocess.PIPE, text=True)
+                answers.append(ran.stdout.rstrip("\n"))
+            whole = subprocess.run([program(), LOST, goal], stdout=subprocess.PIPE, text=True)
+            status, lines, _ = self.join(*answers)
+            self.assertEqual(whole.returncode, status, goal)
+            self.assertEqual(whole.stdout.splitlines()[0], lines[0])
 
 
 if __name__ == "__main__":

@@ -1,17 +1,17 @@
-"""What `rdbg hunt` says where it finds none: whether orders go on past the limit of moves, and which
-instructions none of them came to. It is asked by its words, and what it prints is read."""
+"""What `rdbg hunt` says where it finds none: of which orders that is so, and which instructions none of
+them came to. It is asked by its words, and what it prints is read."""
 import json
 import re
 import tempfile
 import unittest
 from typing import FrozenSet, List, Sequence, Tuple
 
-from tests.hunts import path, said, written
+from tests.hunts import found, path, said, written
 from tests.plain_search import At, Plain, small
 
-NEVER = "reg a 7 = 1"
-PAST = "orders go on past 100 moves; --moves N tries more"
-# It counts, a move each tick and two each time: at 430 the count comes to 108.
+# (it speaks of the register in which tasks count here, so that this is seen)
+NEVER = "reg a 7 = 1 and reg a 1 > 0"
+# It counts, a move each tick and two each time: at 429 the count comes to 108.
 COUNTS = """{"profile": 1, "cores": 1,
 "tasks": [{"name": "a", "priority": 1, "code": ["add r1 1", "jump 0"]}]}"""
 # The first task counts for ever, once it finds the item; by `forward` it finds none, and ends.
@@ -31,6 +31,7 @@ ROUND = """{"profile": 1, "cores": 2, "tasks": [
 WAITS = """{"profile": 2, "cores": 1,
 "tasks": [{"name": "a", "priority": 1, "code": ["take 0 clear max", "add r1 1", "jump 1"]}]}"""
 ITEM = re.compile(r"(\w+) (\d+): ")
+FEW = ("--states", "1000")
 
 
 class Asked(unittest.TestCase):
@@ -43,82 +44,75 @@ class Asked(unittest.TestCase):
 
     def none(self, text: str, *words: str, goal: str = NEVER) -> Tuple[int, List[str]]:
         """The status and what is said of a hunt that finds none, which `--expect none` asks."""
-        asked = [goal, "--expect", "none", "--workers", "1", *words]
+        asked = [goal, "--expect", "none", *words]
         status, _, errors = said(written(self.folder, text), *asked)
         self.assertEqual(f"none found: {goal}", errors[0])
         return status, errors
 
 
-class Past(Asked):
-    """Orders that go on past the limit."""
+class OfWhichOrders(Asked):
+    """Of which orders it is said that none comes to the goal."""
 
-    def test_a_fault_that_lies_behind_it(self) -> None:
+    def test_no_fault_lies_behind_a_limit_that_nobody_gave(self) -> None:
         searches: List[List[str]] = [[], ["--surprises", "0"], ["--exhaustive"]]
         for words in searches:
             with self.subTest(words):
-                status, errors = self.none(COUNTS, *words, goal="reg a 1 = 108")
-                self.assertEqual(2, status)
-                self.assertIn(PAST, errors)
                 file = written(self.folder, COUNTS)
-                status, _, errors = said(file, "reg a 1 = 108", *words, "--workers", "1")
-                self.assertEqual(0, status)
-                self.assertIn(PAST, errors)
-        file = written(self.folder, COUNTS)
-        words = ["--surprises", "0", "--moves", "430", "--expect", "none", "--workers", "1"]
-        self.assertEqual(1, said(file, "reg a 1 = 108", *words)[0])
+                status, _, errors = said(file, "reg a 1 = 108", *words, "--expect", "none")
+                self.assertEqual(1, status)
+        self.assertEqual([(0, 429)], found(said(file, "reg a 1 = 108", "--surprises", "0")[2]))
 
-    def test_who_gives_the_limit_knows_it(self) -> None:
-        for words in (["--moves", "100"], ["--moves", "7", "--exhaustive"]):
+    def test_who_gives_a_limit_is_told_it(self) -> None:
+        for words, head in (
+            (["--moves", "100"], "not within 100 moves"),
+            (["--moves", "7", "--exhaustive"], "not within 7 moves"),
+            (["--moves", "7", "--surprises", "2"], "not within 7 moves and 2 surprises"),
+        ):
             status, errors = self.none(COUNTS, *words)
-            self.assertEqual(0, status)
-            self.assertFalse([line for line in errors if "orders go on" in line])
+            self.assertEqual((0, head), (status, errors[1]))
 
-    def test_one_that_goes_on_behind_a_surprise_alone(self) -> None:
-        status, errors = self.none(LATE, "--surprises", "0")
-        self.assertEqual((0, False), (status, PAST in errors))
-        for surprises in ("1", "2", "3"):
-            status, errors = self.none(LATE, "--surprises", surprises)
-            self.assertEqual((2, True), (status, PAST in errors), surprises)
+    def test_where_there_is_no_end_of_states_it_cant_be_told(self) -> None:
+        status, errors = self.none(COUNTS, *FEW)
+        self.assertEqual(2, status)
+        self.assertRegex(errors[1], r"full: not within \d+ moves")
+        self.assertEqual((0, "not within 0 surprises"), self.head(LATE, "--surprises", "0"))
+        # (the first task counts for ever behind one surprise)
+        self.assertEqual(2, self.none(LATE, "--surprises", "1", *FEW)[0])
+
+    def head(self, text: str, *words: str) -> Tuple[int, str]:
+        """The status, and of which orders it is said."""
+        status, errors = self.none(text, *words)
+        return status, errors[1]
 
     def test_orders_that_go_round(self) -> None:
         for surprises in ("0", "1", "2"):
-            status, errors = self.none(ROUND, "--surprises", surprises)
-            self.assertEqual((0, False), (status, PAST in errors), errors)
-        status, errors = self.none(ROUND, "--exhaustive")
-        self.assertEqual(0, status)
-        self.assertIn("every order there is", errors[1])
+            wanted = (0, f"not within {surprises} surprises")
+            self.assertEqual(wanted, self.head(ROUND, "--surprises", surprises))
+        self.assertEqual((0, "never"), self.head(ROUND))
+        self.assertEqual((0, "never"), self.head(ROUND, "--exhaustive"))
 
     def test_an_interrupt(self) -> None:
-        searches: List[List[str]] = [[], ["--exhaustive"]]
-        for words in searches:
-            with self.subTest(words):
-                isr = ["--isr", "notify a 0 1 inc"]
-                self.assertEqual(0, self.none(WAITS, *words)[0])
-                self.assertEqual(2, self.none(WAITS, *words, *isr)[0])
+        self.assertEqual((0, "never"), self.head(WAITS))
+        self.assertEqual(2, self.none(WAITS, *FEW, "--isr", "notify a 0 1 inc")[0])
 
     def test_each_goal(self) -> None:
-        self.assertEqual(2, self.none(COUNTS, goal="stuck")[0])
-        self.assertEqual(2, self.none(COUNTS, goal="differs")[0])
-        self.assertEqual(2, self.none(COUNTS, goal="tick = 400")[0])
-        self.assertEqual(0, self.none(ROUND, goal="failed")[0])
-
-    def test_parts_say_it_of_their_own_orders(self) -> None:
-        file = written(self.folder, COUNTS)
-        words = [NEVER, "--expect", "none", "--workers", "1", "--surprises", "1"]
-        ran = [said(file, *words, "--part", f"{part}/3") for part in (1, 2, 3)]
-        self.assertIn(2, [status for status, _, _ in ran])
+        # (nobody reads what it counts then)
+        status, errors = self.none(COUNTS, *FEW, goal="stuck")
+        self.assertEqual((0, "never"), (status, errors[1]))
+        status, errors = self.none(COUNTS, goal="differs")
+        self.assertEqual(2, status)
+        self.assertIn("nothing is at rest in forward's order of 100 moves", errors[-1])
+        self.assertEqual(1, said(written(self.folder, COUNTS), "tick = 400")[0])
+        self.assertEqual((0, "never"), self.head(ROUND))
 
     def test_none_is_hidden(self) -> None:
-        # (what is said to be gone through has no goal with three times as many moves either)
-        kept = 0
-        for seed in range(24):
+        # (what is said of orders with one surprise is so of those of so many moves)
+        for seed in range(12):
             file = written(self.folder, small(seed))
             for goal in ("reg a 1 > 1", "phase a ended", "count q > 0"):
-                words = [file, goal, "--workers", "1", "--surprises", "1", "--ahead", "2"]
-                if said(*words, "--expect", "none")[0] == 0:
-                    kept += 1
-                    self.assertEqual(0, said(*words, "--moves", "300")[0], f"{seed}: {goal}")
-        self.assertGreater(kept, 5)
+                words = [file, goal, "--surprises", "1", *FEW]
+                if said(*words)[0] == 0:
+                    self.assertEqual(0, said(*words, "--moves", "30")[0], f"{seed}: {goal}")
 
 
 class Instructions(Asked):
@@ -129,7 +123,8 @@ class Instructions(Asked):
         return frozenset((task, int(pc)) for task, pc in ITEM.findall("\n".join(errors)))
 
     def check(self, seed: int, surprises: int, moves: int, *handlers: str) -> int:
-        """Exactly those are named at which no task stands in any order. Answers how many."""
+        """Exactly those are named at which no task is on a core, or waits, in any order. Answers how
+        many."""
         text = small(seed)
         isr = [word for handler in handlers for word in ("--isr", handler)]
         tasks = json.loads(text)["tasks"]
@@ -141,8 +136,8 @@ class Instructions(Asked):
             named = self.named(self.none(text, "--exhaustive", *limits)[1])
             self.assertEqual(every - plain.stood, named, seed)
             plain.stood.clear()
-            plain.by_surprises(surprises, 2, moves)
-            levels = ["--surprises", str(surprises), "--ahead", "2"]
+            plain.by_surprises(surprises, moves)
+            levels = ["--surprises", str(surprises)]
             named = self.named(self.none(text, *levels, *limits)[1])
             self.assertEqual(every - plain.stood, named, seed)
         return len(named)
@@ -156,18 +151,15 @@ class Instructions(Asked):
             self.check(seed, 1, 5, "notify a 0 1 inc", "send q 41; notify a 0 2 set")
 
     def test_long_orders(self) -> None:
-        status, errors = self.none(COUNTS, "--surprises", "0", "--moves", "300000")
-        self.assertFalse([line for line in errors if "no order came to" in line])
-        # (a loop is five instructions and five ticks: behind 70,000 of them it counts one more, and
-        # jumps)
+        # (a loop is five instructions and five ticks: behind 700 of them it counts one more, and jumps)
         late = """{"profile": 1, "cores": 1, "tasks": [{"name": "a", "priority": 1,
-        "code": ["add r1 1", "move r2 r1", "add r2 4294897295", "jumpz r2 5", "jump 0", "end"]}]}"""
+        "code": ["add r1 1", "move r2 r1", "add r2 4294966595", "jumpz r2 5", "jump 0", "end"]}]}"""
         words = ["--surprises", "0", "--moves"]
-        self.assertIn(("a", 5), self.named(self.none(late, *words, "600000")[1]))
-        self.assertNotIn(("a", 5), self.named(self.none(late, *words, "700100")[1]))
+        self.assertIn(("a", 5), self.named(self.none(late, *words, "6000")[1]))
+        self.assertNotIn(("a", 5), self.named(self.none(late, *words, "7100")[1]))
 
     def test_behind_a_jump(self) -> None:
-        levels = ["--ahead", "2", "--moves", "20", "--surprises"]
+        levels = ["--moves", "20", "--surprises"]
         _, errors = self.none(JUMPS, *levels, "0")
         self.assertEqual(frozenset({("a", 4), ("a", 5)}), self.named(errors))
         _, errors = self.none(JUMPS, *levels, "1")
@@ -175,8 +167,8 @@ class Instructions(Asked):
 
     def test_how_they_are_told(self) -> None:
         status, errors = self.none(LATE, "--surprises", "0")
-        self.assertEqual("  no order came to 2 instructions:", errors[3])
-        self.assertEqual("    a 2: add r1 1; a 3: jump 2", errors[4])
+        self.assertEqual("no order came to 2 instructions:", errors[2])
+        self.assertEqual("  a 2: add r1 1; a 3: jump 2", errors[3])
         status, errors = self.none(LATE, "--surprises", "1", "--moves", "20")
         self.assertFalse([line for line in errors if "no order came to" in line])
         long = ["recv q 0", "jumpz r0 17", *(["set r1 1"] * 14), "jump 2", "end"]
@@ -191,14 +183,12 @@ class Instructions(Asked):
         )
 
     def test_nothing_is_named_where_one_is_found(self) -> None:
-        _, _, errors = said(path("lost_item"), "reg poller 0 = 1", "--workers", "1")
+        _, _, errors = said(path("lost_item"), "reg poller 0 = 1")
         self.assertFalse([line for line in errors if "no order came to" in line])
 
-    def test_more_processes_name_the_same(self) -> None:
-        words = [path("lost_wakeup"), "failed", "--surprises", "1", "--moves", "30"]
-        one, three = (said(*words, "--workers", count)[2] for count in ("1", "3"))
-        self.assertEqual(one, three)
-        self.assertIn("    gate 4: jump 0; uplink 1: jump 0", one)
+    def test_of_an_example(self) -> None:
+        words = [path("lost_wakeup"), "failed", "--surprises", "0", "--moves", "30"]
+        self.assertIn("  gate 2: recv in 0; gate 3: send out max; gate 4: jump 0", said(*words)[2])
 
 
 if __name__ == "__main__":

@@ -7,7 +7,9 @@ import tempfile
 import unittest
 from typing import List, Optional, Tuple
 
-from tests.hunts import found, replayed, said, written
+from tests.hunts import found, replayed, said
+from tests.hunts import states as gone_through
+from tests.hunts import written
 from tests.plain_search import FAILED, STUCK, Plain, small
 
 ONE = """{"profile": 1, "cores": 1,
@@ -19,7 +21,9 @@ GOALS = (
     *("phase a run", "phase a ended", "phase a wait", "note a 0 < 1", "reg a 1 > 2", STUCK, FAILED),
 )  # fmt: skip
 SEEDS = range(6)
-MOVES, AHEAD, SURPRISES = 6, 2, 2
+MOVES, SURPRISES = 6, 2
+# What stands in an order for the second call of `BOTH` alone.
+SECOND = "isr notify a 0 2 set"
 RING, SEND, BOTH = "notify a 0 1 inc", "send q 41", "send q 42; notify a 0 2 set"
 
 
@@ -33,7 +37,7 @@ class Held(unittest.TestCase):
 
     def fewest(self, file: str, goal: str, *words: str) -> Optional[Tuple[int, int]]:
         """The surprises and the moves of the first find, none where there is none."""
-        status, lines, errors = said(file, goal, "--workers", "1", *words)
+        status, lines, errors = said(file, goal, *words)
         finds = found(errors)
         self.assertEqual(bool(finds), status == 1, errors)
         if not finds:
@@ -43,7 +47,9 @@ class Held(unittest.TestCase):
         self.assertFalse([it for it in answers if it.startswith("no ")], lines)
         if goal not in (STUCK, FAILED):
             self.assertEqual("watches 0:holds", answers[-2])
-        return finds[0]
+        surprises, place = finds[0]
+        # (an interrupt is one move, whatever it calls)
+        return surprises, place - lines.count(SECOND)
 
 
 class Start(Held):
@@ -54,7 +60,7 @@ class Start(Held):
         searches: List[List[str]] = [[], ["--smallest"], ["--exhaustive"], ["--surprises", "0"]]
         for words in searches:
             with self.subTest(words):
-                goal = [file, "reg a 1 = 0", "--expect", "none", "--workers", "1"]
+                goal = [file, "reg a 1 = 0", "--expect", "none"]
                 status, lines, errors = said(*goal, *words)
                 self.assertEqual(1, status)
                 self.assertEqual([(0, 0)], found(errors))
@@ -68,17 +74,10 @@ class Start(Held):
         searches: List[List[str]] = [[], ["--exhaustive"]]
         for words in searches:
             with self.subTest(words):
-                goal = [file, "pc a < 2", "--all", "9", "--workers", "1", *words]
+                goal = [file, "pc a < 2", "--all", "9", *words]
                 _, lines, errors = said(*goal)
                 self.assertEqual([(0, 0), (0, 1)], found(errors)[:2])
                 self.assertFalse([it for it in replayed(file, lines) if it.startswith("no ")])
-
-    def test_parts_have_it_once(self) -> None:
-        file = written(self.folder, ONE)
-        finds: List[Tuple[int, int]] = []
-        for part in ("1/2", "2/2"):
-            finds += found(said(file, "reg a 1 = 0", "--part", part, "--workers", "1")[2])
-        self.assertEqual(1, finds.count((0, 0)))
 
 
 class Random(Held):
@@ -91,11 +90,11 @@ class Random(Held):
         isr = [word for handler in handlers for word in ("--isr", handler)]
         with Plain(file, text, GOALS, handlers) as plain:
             fewest, states = plain.fewest(MOVES)
-            surprised = plain.by_surprises(SURPRISES, AHEAD, MOVES)
+            surprised = plain.by_surprises(SURPRISES, MOVES)
         limits = ["--moves", str(MOVES), *isr]
-        levels = ["--surprises", str(SURPRISES), "--ahead", str(AHEAD)]
-        _, _, errors = said(file, NEVER, "--exhaustive", "--workers", "1", *limits)
-        self.assertIn(f"; {states:,} state", errors[1])
+        levels = ["--surprises", str(SURPRISES)]
+        _, _, errors = said(file, NEVER, "--exhaustive", *limits)
+        self.assertEqual(states, gone_through(errors))
         for goal in GOALS:
             with self.subTest(f"{seed}: {goal}"):
                 every = self.fewest(file, goal, "--exhaustive", *limits)
@@ -103,9 +102,7 @@ class Random(Held):
                 smallest = self.fewest(file, goal, "--smallest", *levels, *limits)
                 self.assertEqual(surprised.get(goal), smallest)
                 first = self.fewest(file, goal, *levels, *limits)
-                self.assertEqual(goal in surprised, first is not None)
-                if first is not None:
-                    self.assertEqual(surprised[goal][0], first[0])
+                self.assertEqual(surprised.get(goal), first)
 
     def test_small_applications(self) -> None:
         for seed in SEEDS:

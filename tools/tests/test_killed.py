@@ -58,10 +58,8 @@ class Killed(unittest.TestCase):
         self.check(started, 2)
 
     def test_a_hunt(self) -> None:
-        started = Started("hunt", LOST, "stuck", "--workers", "4", program=self.sleeper)
-        self.check(started, 6)  # (one of the four has a program, of which it asks the first look)
-        started = Started("hunt", LOST, "reg poller 7 = 1", "--moves", "1000", "--workers", "4")
-        self.check(started, 9)
+        self.check(Started("hunt", LOST, "stuck", reach=self.sleeper), 2)
+        self.check(Started("hunt", LOST, "differs", program=self.sleeper), 2)
 
     def test_processes_of_a_trace(self) -> None:
         started = Started("trace", TURNS, "--page", str(self.scratch / "page.html"))

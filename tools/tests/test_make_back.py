@@ -17,7 +17,7 @@ from rdbg.json_layout import MOST_BYTES, WIDTH, json_of
 from rdbg.firmware.writer import text_of
 from rdbg.instructions import FORM_OF, FORMS
 from rdbg.operands import NAMED
-from rdbg.source import source
+from rdbg.files.source import source
 from tests.broken import sources
 from tests.made import Maker
 from tests.paths import EXAMPLES

@@ -7,7 +7,7 @@ from rdbg.failure import Failure
 from rdbg.firmware.tokens import MOST_BYTES
 from rdbg.json_layout import json_of
 from rdbg.firmware.writer import text_of
-from rdbg.source import source
+from rdbg.files.source import source
 from tests.broken import sources
 
 HEAD = "cores 1\nqueue jobs length 4 item 1\ngroup flags\ntask t priority 1\n"
@@ -253,10 +253,10 @@ class Instructions(unittest.TestCase):
                 self.assertEqual([wanted], [it[: len(wanted)] for it in found])
 
     def test_an_unknown_word_counts_as_an_instruction(self) -> None:
-        text = f"{HEAD}recieve jobs\nif (r0 == 0)\nxQueueReceive(jobs, &x, 5);\njump 3\njump 4\n"
+        text = f"{HEAD}recieve jobs\nhalt\nxQueueReceive(jobs, &x, 5);\njump 3\njump 4\n"
         wanted = [
             "5:1: no line begins with recieve; recv is near",
-            "6:1: if is written jumpz R L",
+            "6:1: halt is written end",
             "7:1: xQueueReceive is written recv Q T",
         ]
         self.assertEqual(wanted, faults(text.encode()))

@@ -82,11 +82,11 @@ class Lines(unittest.TestCase):
         )
         self.only("gruop g", "no line begins with gruop; group is near", "gget g")
         self.only("event g", "event is written group NAME", "gget g")
+        said = "no line begins with sem: it is written semaphore NAME length N given, or mutex NAME"
+        self.only("sem lock", said, "take lock max")
         self.only(
-            "semaphore lock",
-            "no line begins with semaphore: a queue stands for it (docs/FROM_C.md):"
-            " queue NAME length 1 item 1",
-            "recv lock max",
+            "xSemaphoreCreateMutex()",
+            "xSemaphoreCreateMutex is written mutex NAME",
         )
 
     def test_an_object_of_freertos_is_there(self) -> None:
@@ -106,8 +106,16 @@ class Lines(unittest.TestCase):
             self.only(line, "a const is written const RX 5", "set r1 RX")
 
     def test_a_label_without_its_colon_is_there(self) -> None:
-        found = of_script("loop", "jump loop")
-        self.assertEqual(["no line begins with loop; a label has a colon: loop:"], found)
+        found = of_script("top", "jump top")
+        self.assertEqual(["no line begins with top; a label has a colon: top:"], found)
+
+    def test_a_word_of_a_block_can_be_a_label(self) -> None:
+        self.assertEqual([], of_script("loop: jump loop"))
+        found = of_script("loop", "jump loop", "end")
+        said = (
+            'task t, instruction 0: "jump loop": there is no label loop; a label has a colon: loop:'
+        )
+        self.assertEqual([said], found)
 
     def test_an_instruction_near_to_an_object_counts_as_one(self) -> None:
         self.assertEqual(1, len(of_script("tesk t clear 5", "jump 2")))
@@ -117,13 +125,16 @@ class Lines(unittest.TestCase):
             "sub r1 1": "sub r1 1 is written add r1 -1",
             "sub": "sub is written add R -N",
             "goto again": "goto again is written jump again",
-            "if (r0 == 0) goto again;": "if r0 == 0 goto again is written jumpz r0 again",
             "i = 5;": "no line begins with i: a script has no variables: r0 to r7 stand for them",
             "int i = 5;": "a script has no variables: r0 to r7 stand for them;"
             " a const is written const i 5",
             "char a[10];": "no line begins with char: a script has no variables:"
             " r0 to r7 stand for them",
-            "}": "a script has no braces: jump and jumpz stand for them",
+            "}": "there are no braces: loop, while and if end with end",
+            "for (r1 = 3; r1; r1--) {": "for is written set R N, and while R with add R -1 in it",
+            "do {": "do is written loop, with if TEST break in it",
+            "switch (r0) {": "switch is written if R = N goto L, a line for each N",
+            "endif": "endif is written end",
         }
         for line, expected in cases.items():
             self.assertEqual([expected], of_script(line))

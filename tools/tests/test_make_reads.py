@@ -3,7 +3,7 @@ import unittest
 from typing import Any, Dict, List, Tuple
 
 from rdbg.application import listed
-from rdbg.source import Source, source
+from rdbg.files.source import Source, source
 from rdbg.tree import Node, Object, objects
 from tests.values import plain
 

@@ -7,6 +7,7 @@ from typing import Set
 
 from rdbg import main, manual
 from rdbg.client import program
+from tests.paths import DOCS
 
 OPTION = re.compile(r"--[a-z]+")
 OF_THE_WRAPPER = {"--version", "--build", "--unproved"}
@@ -47,7 +48,12 @@ class Manual(unittest.TestCase):
             self.assertIn(f"  rdbg {command} ", self.help)
 
     def test_the_page_has_what_the_help_has(self) -> None:
-        self.assertEqual(words_of(self.help) - words_of(self.page) - {"Commands", "Options"}, set())
+        titles = {"Commands", "Options", "Pages"}
+        self.assertEqual(words_of(self.help) - words_of(self.page) - titles, set())
+
+    def test_the_pages_are_there(self) -> None:
+        named = {name for entry in manual.PAGES for name in re.findall(r"\w+\.md", entry.words)}
+        self.assertEqual({name for name in named if not (DOCS / name).is_file()}, set())
 
     @unittest.skipIf(shutil.which("man") is None, "man isn't there")
     def test_the_page_is_without_warnings(self) -> None:

@@ -60,7 +60,7 @@ def type_a_line(path: str) -> str:
 
 def hunt(path: str) -> str:
     """Hunts for something, and answers what the file of its lines has."""
-    words = ["hunt", LOST, "reg producer 0 = 7", "--moves", "2", "--workers", "1", "-o", path]
+    words = ["hunt", LOST, "reg producer 0 = 7", "--moves", "2", "-o", path]
     with mock.patch("sys.stdout"), mock.patch("sys.stderr") as said_there:
         main(words)
     return "".join(str(it.args[0]) for it in said_there.write.call_args_list).strip()

@@ -2,6 +2,7 @@
 import contextlib
 import os
 import pathlib
+import re
 import signal
 import subprocess
 import sys
@@ -18,6 +19,16 @@ from tests.started import Started
 
 LOST = str(EXAMPLES / "lost_item.json")
 ASKED = (LOST, "asleep")
+LINES = """
+cores 1
+const STOP 1 << 0
+group flags
+task logger priority 1
+again:
+    gwait flags STOP any clear 10
+    jumpz r0 again
+    end
+"""
 
 
 class InFolder(unittest.TestCase):
@@ -42,20 +53,54 @@ class Answers(InFolder):
 
     def test_it_has_all_words_but_those_of_its_starter(self) -> None:
         with program(FOUND, end="exit 1") as it:
-            said(*ASKED, "--within", "50", "--pace", "2..4", "-o", "out", "--", "and failed")
-            self.assertEqual(f"--progress {LOST} asleep --pace 2..4 -- and failed", it.words())
+            words = ("--within", "50", "--exact", "--pace", "2..4", "-o", "out")
+            said(*ASKED, *words, "--", "and failed")
+            wanted = f"--progress {LOST} asleep and failed --exact --pace 2..4 --"
+            self.assertEqual(wanted, it.words())
+
+    def test_a_text_in_lines(self) -> None:
+        pathlib.Path("logger.fw").write_text(LINES)
+        over = "(ended logger or failed logger)"
+        for goal, told in (
+            ("at logger again", "at logger 0"),
+            ("bits flags & STOP = STOP", "bits flags & 1 = 1"),
+            ("stuck", f"(asleep or {over})"),
+        ):
+            with self.subTest(goal), program(FOUND, end="exit 1") as it:
+                said("logger.fw", goal)
+                self.assertRegex(it.words(), f"^--progress .*json {re.escape(told)}$")
+
+    def test_what_is_no_goal(self) -> None:
+        pathlib.Path("logger.fw").write_text(LINES)
+        for file, goal, why in (
+            (LOST, "asleap", "word 1, 'asleap': a claim, .* `asleep` would be right"),
+            (LOST, "sleeps worker", "the search through orders has no word for `sleeps`"),
+            ("logger.fw", "at logger agian", "word 3, 'agian': the number of an instruction"),
+        ):
+            with self.subTest(goal), program(FOUND) as it:
+                status, output, errors = said(file, goal)
+                self.assertEqual((2, "", 1, ""), (status, output, len(errors), it.words()))
+                self.assertRegex(errors[0], f"^rdbg reach: goal: {why}")
 
     def test_a_refusal(self) -> None:
         for errors in ("none.json: cannot read the file\n", "one\ntwo\n", "no line end"):
             with self.subTest(errors), program("", errors, "exit 2"):
                 self.assertEqual((2, "", errors.splitlines()), said(*ASKED))
 
+    def test_what_goes_with_a_goal(self) -> None:
+        for words in (("-o", "out"), ("--within", "5")):
+            with self.subTest(words), program("ok\n\n") as it:
+                wanted = (2, "", ["rdbg reach: -o and --within go with a goal"])
+                self.assertEqual(wanted, said(LOST, *words))
+                self.assertEqual("", it.words())
+
     def test_its_help(self) -> None:
         with program("", end="exit 2") as it:
             for word in ("--help", "-h"):
                 status, output, errors = said(word)
                 self.assertEqual((0, []), (status, errors))
-                self.assertIn("--within <SECONDS>", output)
+                for option in ("--within <SECONDS>", "--moves <N>", "--exact"):
+                    self.assertIn(option, output)
             self.assertEqual("", it.words())
 
 

@@ -5,9 +5,10 @@ import re
 import subprocess
 import tempfile
 import unittest
-from typing import List
+from typing import List, Tuple
 
 from rdbg.program_help import OF
+from rdbg.reaching.words import VALUED
 from tests import searches
 from tests.paths import EXAMPLES, WRAPPER
 from tests.searches import FAR, FOUND, FURTHER, KILLED, SLEEPS
@@ -16,6 +17,8 @@ from tests.test_wrapper import at_terminal, run
 
 LOST = str(EXAMPLES / "lost_item.json")
 OPTION = re.compile(r"--[a-z]+")
+# The same, where a value stands behind it.
+VALUE = re.compile(r"(--[a-z]+) <(.+?)>")
 # Seconds of a processor that a small search may take from its start to its end.
 QUICK = 0.05
 FAR_SHOWN = "within 12 moves, deepest 24: 345 states, "
@@ -40,12 +43,18 @@ class Starts(unittest.TestCase):
                     self.assertEqual(f"--progress {LOST} asleep", it.words())
             self.assertEqual("step 0\ntick\n", file.read_text())
 
+    def test_an_engine(self) -> None:
+        with searches.program("ok\n\n") as it:
+            ran = run(WRAPPER, "reach", LOST, "--moves", "5")
+            self.assertEqual((0, "ok\n\n", ""), (ran.returncode, ran.stdout, ran.stderr))
+            self.assertEqual(f"{LOST} --moves 5", it.words())
+
     def test_help(self) -> None:
         with searches.program(FOUND) as it:
             for words in (["help", "reach"], ["reach", "--help"], ["reach", LOST, "-h"]):
                 ran = run(WRAPPER, *words)
                 self.assertEqual((0, ""), (ran.returncode, ran.stderr))
-                self.assertIn("Usage: rdbg reach [OPTIONS] <FILE> <GOAL>...", ran.stdout)
+                self.assertIn("Usage: rdbg reach [OPTIONS] <FILE> [GOAL]...", ran.stdout)
             self.assertEqual("", it.words())
 
     def test_installed(self) -> None:
@@ -67,6 +76,12 @@ class Terminal(unittest.TestCase):
         with searches.program(FOUND, FAR, "sleep 2; exit 1"):
             seen = at_terminal("reach", LOST, "asleep")
         self.assertRegex(seen, rf"\A\r{FAR_SHOWN}\d+,?\d* moves a second, 1 MiB\r +\r{FOUND}\Z")
+
+    def test_an_engine(self) -> None:
+        with searches.program("ok\n\n", "progress within 1\n", "exit 3") as it:
+            seen = at_terminal("reach", LOST, "--isr", "send rx 41")
+            self.assertEqual("progress within 1\nok\n\n", seen)
+            self.assertEqual(f"{LOST} --isr send rx 41", it.words())
 
     def test_its_end_by_time(self) -> None:
         with searches.program("", FURTHER, SLEEPS):
@@ -99,6 +114,18 @@ class Real(unittest.TestCase):
         replies = run(WRAPPER, "run", "--app", LOST, given=given).stdout
         self.assertTrue(replies.endswith("watches 0:holds\n"), replies)
 
+    def test_orders_of_any_length(self) -> None:
+        rows: List[Tuple[List[str], int, str]] = [
+            ([], 0, "never\n"),
+            (["--moves", "9"], 0, "not within 9 moves\n"),
+            (["--exact", "--states", "50"], 2, "full: not within "),
+        ]
+        for words, status, answer in rows:
+            with self.subTest(words):
+                ran = run(WRAPPER, "reach", LOST, "asleep", *words)
+                self.assertEqual((status, ""), (ran.returncode, ran.stderr))
+                self.assertTrue(ran.stdout.startswith(answer), ran.stdout)
+
     def test_a_small_search_is_answered_at_once(self) -> None:
         command = [str(WRAPPER), "reach", str(EXAMPLES / "meeting.json"), "asleep"]
         self.assertLess(seconds_of(command, 1), QUICK)
@@ -107,6 +134,8 @@ class Real(unittest.TestCase):
         own = subprocess.run([str(searches.real()), "--help"], stdout=subprocess.PIPE, check=True)
         options = {*OPTION.findall(own.stdout.decode())} - {"--progress"}
         self.assertLessEqual(options, {*OPTION.findall(OF["reach"])})
+        valued = {option for option, _ in VALUE.findall(own.stdout.decode())}
+        self.assertEqual(VALUED, valued)
 
     def test_it_says_how_far_it_is(self) -> None:
         long = [str(EXAMPLES / "soak.json"), "tick = 4294967295", "--moves", "100000"]

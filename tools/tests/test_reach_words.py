@@ -9,9 +9,9 @@ class Own(unittest.TestCase):
     """`-o OUT` and `--within SECONDS`, wherever they stand."""
 
     def test_none_of_them(self) -> None:
-        words = ["a.json", "count", "q", "=", "2", "--moves", "5", "--pace=2..4"]
+        words = ["a.json", "count", "q", "=", "2", "--moves", "5", "--exact", "--pace=2..4"]
         for given in (words, [*words, PROGRESS], [PROGRESS, *words]):
-            self.assertEqual(([PROGRESS, *words], None, None), tuple(read(given)))
+            self.assertEqual(([PROGRESS, *words], None, None, ()), tuple(read(given)))
 
     def test_each_way_to_write_them(self) -> None:
         for line in (
@@ -27,7 +27,7 @@ class Own(unittest.TestCase):
 
     def test_behind_two_dashes_there_are_none(self) -> None:
         words = "a.json --moves 5 -- asleep -o --within".split()
-        self.assertEqual(([PROGRESS, *words], None, None), tuple(read(words)))
+        self.assertEqual(([PROGRESS, *words], None, None, ()), tuple(read(words)))
 
     def test_what_is_wrong(self) -> None:
         for line, why in (
@@ -59,12 +59,29 @@ class Programs(unittest.TestCase):
             ("--surprises=03 a.json asleep", "3"),
             ("a.json -- --surprises 2", None),
             ("a.json asleep --surprises", ""),
+            ("a.json asleep --exact --surprises 4", "4"),
         ):
             with self.subTest(line):
                 self.assertEqual(asked, read(line.split()).surprises())
 
+    def test_a_goal(self) -> None:
+        for line, has_goal in (
+            ("a.json asleep", True),
+            ("--moves 5 a.json --pace=1..2 asleep", True),
+            ("a.json -- asleep", True),
+            ("-- a.json asleep", True),
+            ("", False),
+            ("a.json", False),
+            ("-- a.json", False),
+            ("a.json --", False),
+            ("a.json --isr tick --times any --after 0 --apart 1 --from x --surprises 1", False),
+            ("--progress --states 5 --memory 6 a.json --moves", False),
+        ):
+            with self.subTest(line):
+                self.assertEqual(has_goal, read(line.split()).has_goal())
+
     def test_files(self) -> None:
-        files = read("a.json asleep --from one --from=two -o out".split()).files()
+        files = read("a.json asleep --exact --from one --from=two -o out".split()).files()
         self.assertLessEqual({"a.json", "one", "two"}, {*files})
         self.assertNotIn("out", files)
 

@@ -14,8 +14,8 @@ from rdbg.rooms.journal import Journal
 from rdbg.rooms.room import Ended, Member, Refusal, Room
 from rdbg.rooms.talk import field
 from rdbg.rooms.turns import Turns
-from rdbg.shell.target import Limits
-from rdbg.source import load
+from rdbg.driving.target import Limits
+from rdbg.files.source import load
 from tests.paths import EXAMPLES
 from tests.rooms import LOST
 

@@ -15,8 +15,8 @@ from rdbg.client import LOCAL
 from rdbg.failure import Failure
 from rdbg.rooms import apart
 from rdbg.rooms.host import Hindered, Host
-from rdbg.shell.target import Limits
-from rdbg.source import load
+from rdbg.driving.target import Limits
+from rdbg.files.source import load
 from tests.dap_schema import DEBIAN
 from tests.rooms import LOST
 from tests.strangers import IS_ROOT, become

@@ -4,7 +4,7 @@ import unittest
 from typing import Dict, List
 
 from rdbg.rooms.room import Member, Room
-from rdbg.source import load
+from rdbg.files.source import load
 from tests.paths import DOCS
 from tests.rooms import LOST
 

@@ -11,9 +11,9 @@ from rdbg.looks import Look
 from rdbg.page.recorder import CORES, TASK, cores_of, object_of, task_of
 from rdbg.rooms import web_follower, web_known, web_mirror, web_past
 from rdbg.rooms.web_follower import Follower, Values
-from rdbg.shell.opening import begin
-from rdbg.shell.target import Limits
-from rdbg.source import load
+from rdbg.driving.opening import begin
+from rdbg.driving.target import Limits
+from rdbg.files.source import load
 from tests.paths import EXAMPLES
 from tests.web_rooms import slow
 

@@ -11,7 +11,7 @@ from unittest import mock
 from rdbg.rooms import client
 from rdbg.rooms.port import MOST, Port, listening
 from rdbg.rooms.room import Member, Room
-from rdbg.source import load
+from rdbg.files.source import load
 from tests.rooms import LOST, Caller, free_port, until
 
 # So many bytes unread are too many, in these tests.

@@ -12,8 +12,8 @@ from rdbg.companions.room import open_room
 from rdbg.rooms import apart, host, program
 from rdbg.rooms.host import Hindered, Host
 from rdbg.rooms.room import Member, Room
-from rdbg.shell.target import Limits
-from rdbg.source import load
+from rdbg.driving.target import Limits
+from rdbg.files.source import load
 from tests import strangers
 from tests.rooms import LOST
 

@@ -16,7 +16,7 @@ from rdbg.failure import Failure
 from rdbg.rooms import web, web_guard, web_pages
 from rdbg.rooms.room import Room
 from rdbg.rooms.web import Served
-from rdbg.source import load
+from rdbg.files.source import load
 from tests.paths import COMPANION
 from tests.rooms import LOST, free_port
 

@@ -29,6 +29,9 @@ class Sessions(unittest.TestCase):
     def test_reaching(self) -> None:
         self.check(DOCS / "REACHING.md")
 
+    def test_no_return(self) -> None:
+        self.check(DOCS / "NO_RETURN.md")
+
     def test_lost_wakeup(self) -> None:
         self.check(DOCS / "LOST_WAKEUP.md")
 

@@ -7,7 +7,7 @@ from rdbg.by_hand import ByHand, could_be, edit_of, interrupt_of
 from rdbg.effects import Effect, move_between
 from rdbg.looks import Look, Names
 from rdbg.replies import read
-from rdbg.shell import trail
+from rdbg.driving import trail
 from tests.shell_talk import example, said
 
 

@@ -13,8 +13,8 @@ from unittest import mock
 from rdbg.client import Session, program
 from rdbg.firmware.writer import text_of
 from rdbg.main import main
-from rdbg.shell.target import Limits
-from rdbg.source import load
+from rdbg.driving.target import Limits
+from rdbg.files.source import load
 from tests import fake
 from tests.paths import COMPANION, EXAMPLES
 from tests.shell_talk import both, example, opened, said

@@ -4,12 +4,15 @@ import unittest
 from typing import Any, Callable, Dict, List, Tuple
 
 from rdbg.looks import Look, content_of
-from rdbg.shell.conditions import read
-from rdbg.shell.changes import Changes
-from rdbg.shell.goals import Becomes, Goal, Lasting, Sleeps, wakes
-from rdbg.shell.interrupt import Interrupt
-from rdbg.shell.target import Target
-from rdbg.shell.walk import Walk
+from rdbg.goals.conditions import read
+from rdbg.goals import reading
+from rdbg.goals.changes import Changes
+from rdbg.goals.claims import Holds, SomeFailed, Stuck, Waits
+from rdbg.goals.scope import Scope
+from rdbg.goals.ways import To, Wakes, Way
+from rdbg.driving.interrupt import Interrupt
+from rdbg.driving.target import Target
+from rdbg.driving.walk import Walk
 from tests.shell_apps import started, wander
 
 SEEDS = (0, 3, 5)
@@ -18,6 +21,13 @@ CONDITIONS = (
     "count q0 = 1", "count q1 > 0", "bytes b0 < 2", "bits g0 = 1", "tick = 3", "phase t0 wait",
     "phase t0 run", "phase t0 again", "reg t0 0 = 1", "pc t0 = 1", "count q0 = 0", "msgs m0 > 0",
     "note t0 0 > 0", "phase t0 ended", "bytes b0 > 1",
+)  # fmt: skip
+# Goals that are no conditions; what they say of a place is tested elsewhere.
+FORMULAS = (
+    "asleep", "finished", "waits t0", "not waits t0 and count q0 = 0", "at t0 1 or bits g0 & 1 = 1",
+    "runs t0", "not runs t0", "reg t0 0 = reg t0 1", "failed t0 or ended t0", "waits t0 recv q0",
+    "not (stuck or count q0 > 0)", "note t0 0 & 1 = 0 and phase t0 run", "not at t0 2",
+    "sleeps t0 or tick > 4", "not not failed",
 )  # fmt: skip
 # Whether a goal is met at the second look, the one before it being the first.
 Met = Callable[[Look, Look], bool]
@@ -79,28 +89,38 @@ def came(so: Callable[[Look], bool]) -> Met:
     return lambda a, b: so(b) and not so(a)
 
 
+def here(so: Callable[[Look], bool]) -> Met:
+    """Whether something is so, whatever was before."""
+    return lambda a, b: so(b)
+
+
 def holding(words: List[str]) -> Callable[[Look], bool]:
     """Whether a condition holds."""
     return lambda look: amount(look, words)
 
 
-def goals(target: Target) -> Dict[str, Tuple[Goal, Met]]:
+def goals(target: Target) -> Dict[str, Tuple[Way, Met]]:
     """Goals, each with what it means."""
-    found: Dict[str, Tuple[Goal, Met]] = {
-        "stuck": (Lasting("stuck", False), lambda a, b: stuck(b)),
-        "failed": (Lasting("failed", False), lambda a, b: failed(b)),
-        "stuck!": (Lasting("stuck", True), came(stuck)),
-        "failed!": (Lasting("failed", True), came(failed)),
+    found: Dict[str, Tuple[Way, Met]] = {
+        "stuck": (To(Stuck(), False), lambda a, b: stuck(b)),
+        "failed": (To(SomeFailed(), False), lambda a, b: failed(b)),
+        "stuck!": (To(Stuck(), True), came(stuck)),
+        "failed!": (To(SomeFailed(), True), came(failed)),
     }
+    scope = Scope(target.names, target.application)
+    for text in FORMULAS:
+        goal = reading.plain(text.split(), scope)
+        found[text] = To(goal, False), here(goal.is_so)
+        found[f"{text} !"] = To(goal, True), came(goal.is_so)
     for name in target.names.tasks:
-        found[f"wakes {name}"] = wakes(target, name), wakes_up(name)
-        found[f"sleeps {name}"] = Sleeps(name), sleeps(name)
+        found[f"wakes {name}"] = Wakes(name), wakes_up(name)
+        found[f"sleeps {name}"] = To(Waits(name, is_endless=True), True), sleeps(name)
     for kind, name in target.names.objects:
         found[f"changes {name}"] = Changes(target, kind, name), changed(kind, name)
     for text in CONDITIONS:
         condition = read(text.split())
         assert condition is not None
-        found[text] = Becomes(condition), came(holding(text.split()))
+        found[text] = To(Holds(condition), True), came(holding(text.split()))
     return found
 
 

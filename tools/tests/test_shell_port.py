@@ -14,10 +14,10 @@ from unittest import mock
 from rdbg.client import Session, program
 from rdbg.failure import Failure
 from rdbg.main import main
-from rdbg.shell.interrupt import Interrupt
-from rdbg.shell.opening import attach
+from rdbg.driving.interrupt import Interrupt
+from rdbg.driving.opening import attach
 from rdbg.shell.shell import Shell
-from rdbg.source import load
+from rdbg.files.source import load
 from tests.paths import EXAMPLES
 from tests.shell_talk import both, example, said
 
@@ -230,7 +230,7 @@ class Ports(unittest.TestCase):
             self.assertEqual(errors.getvalue(), why)
 
     def test_a_server_that_does_not_answer(self) -> None:
-        with socket.socket() as listening, mock.patch("rdbg.shell.opening.PATIENCE", 0.01):
+        with socket.socket() as listening, mock.patch("rdbg.driving.opening.PATIENCE", 0.01):
             listening.bind(("127.0.0.1", 0))
             listening.listen()
             errors = Waiting(listening)
@@ -246,7 +246,7 @@ class Ports(unittest.TestCase):
             port = listening.getsockname()[1]
             session = mock.Mock()
             session.tell.return_value = "no Full"
-            with mock.patch("rdbg.shell.opening.Session.attach", return_value=session):
+            with mock.patch("rdbg.driving.opening.Session.attach", return_value=session):
                 with self.assertRaisesRegex(Failure, "lets nobody else in: no Full"):
                     attach(port, None)
 

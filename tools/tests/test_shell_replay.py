@@ -7,8 +7,8 @@ from typing import List
 from unittest import mock
 
 from rdbg.client import Session
-from rdbg.shell.interrupt import Interrupted
-from rdbg.shell.target import Limits
+from rdbg.driving.interrupt import Interrupted
+from rdbg.driving.target import Limits
 from tests.paths import EXAMPLES
 from tests.shell_apps import application, wander
 from tests.shell_talk import both, example, file, opened, said

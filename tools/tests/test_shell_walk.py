@@ -4,11 +4,11 @@ import unittest
 from typing import List
 from unittest import mock
 
-from rdbg.shell.interrupt import HardInterrupt, Interrupt, Interrupted
-from rdbg.shell.opening import begin
+from rdbg.driving.interrupt import HardInterrupt, Interrupt, Interrupted
+from rdbg.driving.opening import begin
 from rdbg.shell.shell import Shell
-from rdbg.shell.target import Limits, Target
-from rdbg.shell.walk import Pace, Walk
+from rdbg.driving.target import Limits, Target
+from rdbg.driving.walk import Pace, Walk
 from tests.shell_apps import application, random_line
 from tests.shell_talk import both, example, said
 
@@ -46,7 +46,7 @@ def line(chance: random.Random, target: Target) -> str:
 def in_pieces(seed: int, limits: Limits, lines: List[str]) -> List[str]:
     """What a shell at a terminal answers, in small pieces."""
     source = application(seed)
-    with mock.patch("rdbg.shell.walk.Pace", SmallPace):
+    with mock.patch("rdbg.driving.walk.Pace", SmallPace):
         shell = Shell(begin(source, limits), source, Interrupt())
         shell.is_terminal = True
     with shell.target.session:
@@ -91,7 +91,7 @@ class Pieces(unittest.TestCase):
                 self.check(seed, Limits(moves=30))
 
     def test_what_is_refused_can_be_made_again(self) -> None:
-        with mock.patch("rdbg.shell.walk.Pace", SmallPace), example("turns", Limits(10)) as shell:
+        with mock.patch("rdbg.driving.walk.Pace", SmallPace), example("turns", Limits(10)) as shell:
             shell.is_terminal = True
             answers = said(shell, "step 0", "until tick = 99 20", "show moves", "until tick = 9 99")
             self.assertEqual(answers[:2], ["ok at 1", "no MovesFull"])
@@ -103,7 +103,7 @@ class Interrupts(unittest.TestCase):
     """Ctrl-C."""
 
     def test_between_two_pieces(self) -> None:
-        with mock.patch("rdbg.shell.walk.Pace", SmallPace), example("turns") as shell:
+        with mock.patch("rdbg.driving.walk.Pace", SmallPace), example("turns") as shell:
             shell.is_terminal = True
             tell, asked = shell.target.tell, []
 
@@ -130,7 +130,7 @@ class Interrupts(unittest.TestCase):
 
     def test_one_line_that_takes_long(self) -> None:
         interrupt = Interrupt()
-        with mock.patch("rdbg.shell.interrupt.os.write") as written:
+        with mock.patch("rdbg.driving.interrupt.os.write") as written:
             interrupt._came(2, None)
             written.assert_not_called()
             interrupt._came(2, None)

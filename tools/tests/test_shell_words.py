@@ -9,8 +9,8 @@ from rdbg.shell import glossary
 from rdbg.shell.completion import candidates
 from rdbg.shell.gdb import HINTS
 from rdbg.shell.words import BY_NAME, WORDS
-from rdbg.shell.target import Limits
-from rdbg.source import source
+from rdbg.driving.target import Limits
+from rdbg.files.source import source
 from tests.shell_talk import both, example, opened, said
 
 
@@ -231,16 +231,27 @@ class Moves(unittest.TestCase):
             self.assertRegex(answers[5], r"^# at 10 met: sleeps flash")
             self.assertRegex(answers[6], "flash 1 .* left core 1 .waits without end.")
 
-    def test_a_target_that_is_stuck(self) -> None:
+    def test_a_target_that_is_asleep(self) -> None:
         with example("waiting_order") as shell:
-            answers = said(shell, "until stuck", "until! stuck", "c", "tick 3", "rc! stuck")
-            self.assertRegex(answers[0], r"^# at 22 met: stuck \(\d+ lines asked\)$")
+            answers = said(shell, "until asleep", "until! asleep", "c", "tick 3", "rc! asleep")
+            self.assertRegex(answers[0], r"^# at 22 met: asleep \(\d+ lines asked\)$")
             self.assertRegex(
                 answers[2], "^# display ended; motor waits at recv:orders without end; "
             )
-            self.assertRegex(answers[3], "^# stuck already; ")
+            self.assertRegex(answers[3], "^# asleep already; ")
             self.assertEqual(answers[4], answers[3])
-            self.assertRegex(answers[6], "^# at 22 met: stuck")
+            self.assertRegex(answers[6], "^# at 22 met: asleep")
+            answers = said(shell, "goto 0", "c", "until finished", "rc! stuck")
+            self.assertRegex(answers[1], r"^# at 22 met: asleep \(\d+ lines asked\)$")
+            self.assertRegex(answers[4], "^# asleep already; ")
+            self.assertRegex(answers[5], "^# at 22 still: 'stuck' became so here")
+
+    def test_a_target_that_has_finished(self) -> None:
+        with example("builtin") as shell:
+            answers = said(shell, "c", "until asleep", "rc! finished")
+            self.assertRegex(answers[0], r"^# at \d+ met: finished \(\d+ lines asked\)$")
+            self.assertRegex(answers[2], "ended")
+            self.assertRegex(answers[3], "^# finished already; ")
 
     def test_many_ticks(self) -> None:
         with example("delay", Limits(moves=400)) as shell:
@@ -256,7 +267,7 @@ class Moves(unittest.TestCase):
 
     def test_words_that_are_wrong(self) -> None:
         wrong = [
-            "until stuck x", "until wakes", "until wakes jobs", "until changes worker",
+            "until stuck x", "until wakes", "until wakes jobs", "until changes worker", "until changes task worker",
             "rc! nothing", "until! count jobs 5", "rc stuck 5", "c x", "break", "break worker",
             "delete", "goto x", "moves x", "save", "info", "info nothing", "list nothing", "print",
             "print r0 nothing", "set moves maybe", "help nothing", "tick x", "step worker x",
@@ -274,8 +285,8 @@ class Moves(unittest.TestCase):
         with example("lost_item") as shell:
             for line in ("until! count job > 0", "rc! reg worker 9 = 1"):
                 output, hints = both(shell, line)
-                self.assertEqual(output, ["# rdbg says: no NoSuch"])
-                self.assertRegex(hints[0], "near it is `jobs`|registers are 0 to 7")
+                self.assertEqual((len(output), hints), (1, []))
+                self.assertRegex(output[0], "`count jobs > 0` would be right|a register is wanted")
 
 
 class Help(unittest.TestCase):
@@ -304,7 +315,7 @@ class Help(unittest.TestCase):
             ("show queue", ""): ["jobs"],
             ("until count", "j"): ["jobs"],
             ("until count jobs", ""): ["<", "=", ">"],
-            ("until", "w"): ["wakes"],
+            ("until", "w"): ["waits", "wakes"],
             ("until wakes", "p"): ["poller", "producer"],
             ("until! changes", ""): ["jobs"],
             ("rc phase worker", "a"): ["again"],

@@ -77,14 +77,14 @@ class Running(unittest.TestCase):
                 started.wait_for(2)
                 self.check(started, "room", number)
 
-    def test_a_hunt_without_processes(self) -> None:
-        started = Started("hunt", LOST, "stuck", "--workers", "1", program=self.sleeper)
+    def test_a_hunt(self) -> None:
+        started = Started("hunt", LOST, "stuck", reach=self.sleeper)
         started.wait_for(2)
         self.check(started, "hunt", signal.SIGTERM)
 
-    def test_processes_of_a_hunt(self) -> None:
-        started = Started("hunt", LOST, "stuck", "--workers", "2", program=self.sleeper)
-        started.wait_for(4)  # (one of the two has a program, of which it asks the first look)
+    def test_a_hunt_that_makes_its_find_again(self) -> None:
+        started = Started("hunt", LOST, "tick = 0", program=self.sleeper)
+        started.wait_for(2)
         self.check(started, "hunt", signal.SIGTERM)
 
     def test_processes_of_a_trace(self) -> None:
@@ -123,9 +123,9 @@ class Running(unittest.TestCase):
         self.assertEqual(["", 0], started.end(0))
 
     def test_a_group_that_is_ended(self) -> None:
-        # (as `timeout` and a shell do: the processes of a hunt have the signal, too)
-        started = Started("hunt", LOST, "reg poller 7 = 1", "--moves", "1000", "--workers", "2")
-        started.wait_for(5)
+        # (as `timeout` and a shell do: the program that searches has the signal, too)
+        started = Started("hunt", str(EXAMPLES / "soak.json"), "reg sensor 7 = 1")
+        started.wait_for(2)
         self.check(started, "hunt", signal.SIGTERM)
 
 

@@ -13,8 +13,8 @@ from typing import Any, Dict, List, Optional, Tuple
 from rdbg.client import Session
 from rdbg.commands import ACTIONS
 from rdbg.effects import LOCAL
-from rdbg.shell.target import Limits
-from rdbg.source import load
+from rdbg.driving.target import Limits
+from rdbg.files.source import load
 from rdbg.tracing.run import Line, Run, parts, plan
 from rdbg.tracing.table import row_of
 from tests.made import Maker

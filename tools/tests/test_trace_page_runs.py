@@ -14,7 +14,7 @@ from rdbg.main import main
 from rdbg.tracing import command
 from rdbg.tracing.page import document
 from rdbg.tracing.page.ways import settled
-from rdbg.tracing.run import Told
+from rdbg.driving.parts import Told
 from tests import trace_format
 from tests.chromium import Browser, Missing
 from tests.page_shown import LOST, RUN, Shown

@@ -3,10 +3,11 @@ import unittest
 from typing import List, Tuple
 from unittest import mock
 
-from rdbg.shell.target import Limits, Target
-from rdbg.source import Source, load
+from rdbg.driving.target import Limits, Target
+from rdbg.files.source import Source, load
 from rdbg.tracing import run as runs
-from rdbg.tracing.run import Line, Part, Run, parts, plan
+from rdbg.driving.parts import Part
+from rdbg.tracing.run import Line, Run, parts, plan
 from tests.paths import EXAMPLES
 
 TURNS, LOST = (load(str(EXAMPLES / f"{name}.json")) for name in ("turns", "lost_item"))

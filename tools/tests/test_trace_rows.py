@@ -97,6 +97,16 @@ class Rows(unittest.TestCase):
         self.assertEqual([HEAD, ROWS[2]], self.traced(RUN, "--only", "tick")[1])
         self.assertEqual([HEAD, ROWS[0], ROWS[3], ROWS[8]], self.traced(RUN, "--only", "0")[1])
 
+    def test_goals(self) -> None:
+        goal = "at poller 1 or waits worker and count jobs = 0 and not runs poller"
+        rows = self.traced(RUN, "--when", goal)[1]
+        self.assertEqual([HEAD], [row for row in rows if row not in ROWS])
+        self.assertTrue(1 < len(rows) < len(ROWS) + 1, rows)
+        self.assertEqual([HEAD, *ROWS], self.traced(RUN, "--when", "failed or not failed")[1])
+        status, rows, errors = self.traced(RUN, "--when", "runs wrker")
+        why = "word 2, 'wrker': the name of a task is wanted there; `runs worker` would be right"
+        self.assertEqual((2, [], [f"rdbg trace: --when: {why}"]), (status, rows, errors))
+
     def test_edits_are_rows(self) -> None:
         lines = ["poke reg worker 0 7", "poke reg worker 0 7", "step 0"]
         expected = [

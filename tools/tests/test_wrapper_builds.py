@@ -11,6 +11,7 @@ import unittest
 from typing import List
 
 from rdbg.client import program
+from rdbg.reaching.asking import program as reach
 from tests.paths import EXAMPLES, TOP
 
 LOST = str(EXAMPLES / "lost_item.json")
@@ -360,10 +361,11 @@ class Ended(Checkout):
 class Said(Checkout):
     """That nothing is proved is said once a start."""
 
-    def test_not_by_each_worker(self) -> None:
+    def test_not_by_each_program(self) -> None:
         self.keep("unproved")
-        words = ["hunt", LOST, "stuck", "--workers", "3", "--surprises", "1", "--moves", "10"]
-        ran = self.run_it("--unproved", *words)
+        write_script(self.keep("unproved", "rdreach"), f'#!/bin/sh\nexec {reach()} "$@"\n')
+        ran = self.run_it("--unproved", "hunt", LOST, "reg poller 0 = 1")
+        self.assertEqual(ran.returncode, 1, ran.stderr)
         self.assertEqual(len(re.findall("nothing is proved", ran.stderr)), 1, ran.stderr)
 
 

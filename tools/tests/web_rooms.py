@@ -11,9 +11,9 @@ from unittest import mock
 from rdbg.client import Session
 from rdbg.rooms import web, web_mirror
 from rdbg.rooms.room import Room
-from rdbg.shell.opening import begin
-from rdbg.shell.target import Target
-from rdbg.source import load
+from rdbg.driving.opening import begin
+from rdbg.driving.target import Target
+from rdbg.files.source import load
 from tests.browsing import Browsing
 from tests.chromium import Browser
 from tests.pages import Asked, Reader

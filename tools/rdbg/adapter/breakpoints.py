@@ -6,20 +6,24 @@ from typing import Callable, Dict, List, Optional, Sequence, Tuple
 from rdbg import commands, instructions
 from rdbg.adapter.messages import Arguments, Values, Wrong
 from rdbg.adapter.sources import Spot, Text
-from rdbg.adapter.stops import Amount, Becomes, Begins, Content, Counted, Phases, Stop, Where
+from rdbg.adapter.stops import Amount, Becomes, Content, Counted, Stop, Where, becoming
 from rdbg.replies import Refused
 from rdbg.shell import seek
-from rdbg.shell.conditions import Condition
-from rdbg.shell.goals import Sleeps, wakes
+from rdbg.goals.conditions import Condition
+from rdbg.goals import reading, sought
+from rdbg.goals import words as goal_words
+from rdbg.goals.changes import Changes
+from rdbg.goals.claims import Goal
+from rdbg.goals.reading import NoGoal
+from rdbg.goals.ways import To
 from rdbg.shell.hints import refusal
 from rdbg.shell.shell import Shell
-from rdbg.shell.target import Unable
-from rdbg.shell.views import check_name
+from rdbg.driving.target import Unable
 
 # The failures at which one can be stopped: what the editor shows, and whether it is so by itself.
 FAILURES: Dict[str, Tuple[str, bool]] = {
     "failed": ("A task fails", True),
-    "stuck": ("All wait, and no task has a deadline", True),
+    "asleep": ("All that is left waits, and no task has a deadline", True),
 }
 # How a number of hits can be compared.
 HITS: Dict[str, Callable[[int, int], bool]] = {
@@ -40,28 +44,26 @@ MOST = 256
 @dataclasses.dataclass(frozen=True)
 class Breakpoint:
     """A breakpoint: its number, what kind a stop at it is, its stops, and what an editor is told
-    of it. It has no stops where it can't be met."""
+    of it, and at an instruction the task of each stop. It has no stops where it can't be met."""
 
     number: int
     reason: str
     stops: Tuple[Stop, ...]
     value: Values
-    task: Optional[str] = None
+    tasks: Tuple[str, ...] = ()
 
 
-def condition_of(shell: Shell, text: str) -> Condition:
-    """The condition that a text is. Raises `Wrong` where it is none, or names what isn't there."""
+def goal_in(shell: Shell, text: str) -> Goal:
+    """The goal that a text is. Raises `Wrong` where it is none, or names what isn't there."""
     try:
-        goal, rest = seek.condition_goal(shell, text.split(), "watch")
-    except Unable as unable:
-        raise Wrong(str(unable)) from None
+        goal = goal_words.read(text.split(), shell.scope())
+        seek.check_goal(shell, goal)
+        return goal
+    except (NoGoal, Unable) as wrong:
+        raise Wrong(str(wrong)) from None
     except Refused as refused:
         why = refusal(shell, shell.asked, refused)
         raise Wrong(f"rdbg says no {refused}" + (f": {why}" if why else "")) from None
-    if rest or not hasattr(goal, "condition"):
-        raise Wrong(f"'{' '.join(rest)}' is too much behind a condition")
-    condition: Condition = goal.condition
-    return condition
 
 
 def hits_of(text: str) -> Callable[[int], bool]:
@@ -77,7 +79,7 @@ def limited(shell: Shell, stop: Stop, given: Arguments) -> Stop:
     """A stop with the condition and the hits that are given."""
     condition, hits = given.text("condition", "").strip(), given.text("hitCondition", "").strip()
     if condition:
-        stop = Where(stop, condition_of(shell, condition))
+        stop = Where(stop, goal_in(shell, condition))
     return Counted(stop, hits, hits_of(hits)) if hits else stop
 
 
@@ -88,13 +90,13 @@ def arrival(spot: Spot) -> Stop:
 
 
 def named(shell: Shell, text: Text, name: str) -> List[Stop]:
-    """What a name stands for: a condition, a goal, a place of a task, an instruction, or what
-    FreeRTOS calls one."""
+    """What a name stands for: a goal, a place of a task, an instruction, or what FreeRTOS calls
+    one."""
     words = name.replace(":", " ").split()
     if not words:
         raise Wrong("a condition, as count jobs > 0, or send, xQueueSend, worker 2")
-    if words[0] in seek.GOALS:
-        return [goal_of(shell, words)]
+    if words[0] in reading.OF_MOVES:
+        return [of_move(shell, words)]
     if words[0] in shell.target.names.tasks and len(words) <= 2:
         number = words[1] if words[1:] else "0"
         spot = text.of(words[0], int(number)) if commands.is_number(number) else None
@@ -102,7 +104,7 @@ def named(shell: Shell, text: Text, name: str) -> List[Stop]:
             raise Wrong(f"{words[0]} has no instruction {number}")
         return [arrival(spot)]
     calls = [spot for spot in text.spots if is_call(spot, words)]
-    return [arrival(spot) for spot in calls] or [Becomes(condition_of(shell, " ".join(words)))]
+    return [arrival(spot) for spot in calls] or [becoming(goal_in(shell, name))]
 
 
 def is_call(spot: Spot, words: Sequence[str]) -> bool:
@@ -113,25 +115,18 @@ def is_call(spot: Spot, words: Sequence[str]) -> bool:
     return there[: len(words)] == list(words) or (words[0] in called and len(words) == 1)
 
 
-def goal_of(shell: Shell, words: Sequence[str]) -> Stop:
-    """The goal that these words are, as something that is met by a move."""
-    word = words[0]
-    if word in FAILURES:
-        return Begins(word)
+def of_move(shell: Shell, words: Sequence[str]) -> Stop:
+    """What these words say of a move. Raises `Wrong`."""
     try:
-        if len(words) < 2:
-            raise Unable(f"{word} what? A name stands behind it")
-        if word == "changes":
-            kind = words[1] if words[2:] else check_name(shell, words[1])
-            check_name(shell, words[-1], kind)
-            if kind == "task":
-                raise Unable(f"{words[1]} is a task; changes is of queues and other objects")
-            return Content(shell.target, (kind, words[-1]))
-        check_name(shell, words[1], "task")
-    except Unable as unable:
-        raise Wrong(str(unable)) from None
-    goal = Sleeps(words[1]) if word == "sleeps" else wakes(shell.target, words[1])
-    return Phases(f"{word} {words[1]}", words[1], goal)
+        way, at = sought.of_move(words, shell.target, shell.scope())
+    except NoGoal as wrong:
+        raise Wrong(str(wrong)) from None
+    if at < len(words):
+        raise Wrong(f"'{' '.join(words[at:])}' is too much behind {' '.join(words[:at])}")
+    if isinstance(way, Changes):
+        return Content(shell.target, (way.kind, way.name))
+    assert isinstance(way, To)
+    return becoming(way.goal, way.text)
 
 
 class Breakpoints:
@@ -194,12 +189,14 @@ def at_line(shell: Shell, text: Text, given: Arguments, number: int) -> Breakpoi
     if given.text("logMessage", ""):
         raise Wrong("log messages aren't done: a line of output comes with each stop")
     spot = text.found(text.line_in(given), text.column_in(given))
-    stop = limited(shell, arrival(spot), given)
-    value: Values = {"id": number, "verified": True, "message": str(spot), **text.place(spot)}
+    spots = text.same(spot)
+    stops = tuple(limited(shell, arrival(it), given) for it in spots)
+    said = "; ".join(map(str, spots))[:1_000]
+    value: Values = {"id": number, "verified": True, "message": said, **text.place(spot)}
     source = text.value()
     if source is not None:
         value["source"] = source
-    return Breakpoint(number, LINE, (stop,), value, spot.task)
+    return Breakpoint(number, LINE, stops, value, tuple(it.task for it in spots))
 
 
 def by_name(shell: Shell, text: Text, given: Arguments, number: int) -> Breakpoint:
@@ -217,10 +214,10 @@ def on_data(shell: Shell, text: Text, given: Arguments, number: int) -> Breakpoi
     watched = given.text("dataId")
     words = watched.split()
     if words[:1] == ["changes"] and len(words) == 3:
-        stop: Stop = goal_of(shell, words)
+        stop: Stop = of_move(shell, words)
     else:
         condition = f"{watched} run" if words[:1] == ["phase"] else f"{watched} = 0"
-        condition_of(shell, condition)  # (what it names is there)
+        goal_in(shell, condition)  # (what it names is there)
         stop = Amount(watched)
     stop = limited(shell, stop, given)
     value: Values = {"id": number, "verified": True, "message": stop.text}

@@ -3,12 +3,13 @@ moved, and what the editor is told of it."""
 import contextlib
 from typing import Any, Callable, Dict, Iterator, List, Optional, Sequence, Tuple
 
-from rdbg import replies
+from rdbg import record, replies
 from rdbg.adapter.breakpoints import Breakpoint, Breakpoints
 from rdbg.adapter.hearing import MOVED, Hearing
 from rdbg.adapter.known import Facts
 from rdbg.adapter.messages import Arguments, Values, Wrong, event
 from rdbg.adapter.pausing import Pause
+from rdbg.adapter.paced import PacedRunner
 from rdbg.adapter.running import Outcome, Runner
 from rdbg.adapter.sources import Spot, Text
 from rdbg.adapter.stops import Becomes, Begins, Stop
@@ -17,7 +18,9 @@ from rdbg.adapter.variables import References, Shown
 from rdbg.effects import Move
 from rdbg.looks import Look
 from rdbg.replies import Refused
-from rdbg.shell import conditions, trail
+from rdbg.goals import conditions
+from rdbg.goals.claims import ASLEEP, Finished, SomeFailed
+from rdbg.driving import trail
 from rdbg.shell.hints import refusal
 from rdbg.shell.shell import Shell
 from rdbg.shell.views import phase_text
@@ -38,7 +41,7 @@ class Debugger:
         self.given = Arguments({}, "launch")
         self.text, self.threads = Text(None), Threads()
         self.references, self.breakpoints = References(), Breakpoints()
-        self.begins: Dict[str, Stop] = {name: Begins(name) for name in ("failed", "stuck")}
+        self.begins = {goal.text: Begins(goal) for goal in (SomeFailed(), ASLEEP)}
         self._shell: Optional[Shell] = None
         self.hearing: Optional[Hearing] = None
         # Whether a run has the wheel, and what is told once it is given back.
@@ -176,7 +179,8 @@ class Debugger:
 
     def runner(self, stops: Callable[[], List[Stop]]) -> Runner:
         """What runs to some stops."""
-        return Runner(self.shell.walk, stops, self.between)
+        kind = PacedRunner if self.shell.pace is not None else Runner
+        return kind(self.shell.walk, stops, self.between)
 
     def between(self) -> None:
         """Serves what the editor asks, and looks whether it asks for a pause."""
@@ -190,12 +194,12 @@ class Debugger:
         before = target.look()
         try:
             if target.places().undone:
-                target.ask("redo 1", replies.Moved)
+                target.ask(record.again(), replies.Moved)
                 after = target.look()
                 move = trail.between(target, before, after)
                 if move.line == line:
                     return self._made(move, after)
-                target.ask("back 1", replies.Moved)
+                target.ask(record.back(1), replies.Moved)
             target.ask(line, replies.Moved)
         except Refused as refused:
             raise self.wrong(line, refused) from None
@@ -304,9 +308,10 @@ class Debugger:
             self.stopped("pause", f"still at {self.shell.target.place}", self.focus)
 
     def failed_here(self, before: Optional[Look], after: Look) -> str:
-        """What has failed by a move: `failed`, `stuck`, or nothing that the editor asks for."""
+        """What has failed by a move: `failed`, `asleep`, or nothing that the editor asks for."""
         for name in self.breakpoints.failures:
-            if IS_SO[name](after) and not (before and IS_SO[name](before)):
+            goal = self.begins[name].goal
+            if goal.is_so(after) and not (before and goal.is_so(before)):
                 return name
         return ""
 
@@ -341,12 +346,21 @@ class Debugger:
         texts = {
             "limit": f"{here - start} moves, and nothing was met",
             "wall": f"there is no further move: {outcome.wall}",
-            "stuck": "nothing goes on: all wait, and no task has a deadline",
+            "stuck": self._ending(),
             "start": "the start: nothing was met before",
             "paused": "paused",
         }
         reason = "entry" if outcome.how == "start" else "pause"
         self.stopped(reason, f"at {here}: {texts[outcome.how]}", self.mover(self.focus))
+
+    def _ending(self) -> str:
+        """Why nothing goes on, where that is so."""
+        look = self.look()
+        if Finished().is_so(look):
+            return "finished: all tasks have ended"
+        waits = ASLEEP.is_so(look)
+        why = "all that is left waits, and no task has a deadline" if waits else "no task waits"
+        return f"nothing goes on: {why}"
 
     def _tell_met(self, met: Sequence[Stop]) -> None:
         """Stops at what was met."""
@@ -356,7 +370,8 @@ class Debugger:
             self.tell_failure(failures[0], self.mover())
             return
         text = "; ".join(stop.text for stop in met)
-        tasks = [it.task for it in hit if it.task]
+        pairs = [pair for it in hit for pair in zip(it.stops, it.tasks)]
+        tasks = [task for stop, task in pairs if stop in met]
         thread = self.threads.number(tasks[0]) if tasks else self.mover()
         reason = hit[0].reason if hit else "breakpoint"
         self.stopped(reason, f"at {self.shell.target.place}: {text}", thread, hit)
@@ -367,17 +382,3 @@ class Debugger:
         if self.hearing is not None:
             self.hearing.end()
         return shell.target.session.close() if shell else None
-
-
-def has_failed(look: Look) -> bool:
-    """Whether a task has failed."""
-    return any(it.phase.word == "failed" for it in look.tasks.values())
-
-
-def is_stuck(look: Look) -> bool:
-    """Whether no core is busy and no task has a deadline."""
-    idle = not any(look.cores.running)
-    return idle and all(it.phase.deadline is None for it in look.tasks.values())
-
-
-IS_SO: Dict[str, Callable[[Look], bool]] = {"failed": has_failed, "stuck": is_stuck}

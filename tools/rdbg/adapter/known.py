@@ -4,8 +4,8 @@ import bisect
 import weakref
 from typing import Dict, Hashable, List, Sequence, Tuple
 
-from rdbg.shell.target import SINGLE, Target
-from rdbg.shell.walk import Walk
+from rdbg.driving.target import SINGLE, Target
+from rdbg.driving.walk import Walk
 
 # Words by which a run makes moves.
 RUNS = ("forward", "until")

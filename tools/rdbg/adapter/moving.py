@@ -3,7 +3,7 @@ import contextlib
 import dataclasses
 from typing import Callable, Dict, List, Optional
 
-from rdbg import replies
+from rdbg import record, replies
 from rdbg.adapter.debugger import Debugger
 from rdbg.adapter.messages import Arguments, Values, Wrong
 from rdbg.adapter.running import Outcome, Runner
@@ -13,9 +13,9 @@ from rdbg.adapter.breakpoints import arrival
 from rdbg.adapter.threads import TIME
 from rdbg.effects import Move
 from rdbg.replies import Refused
-from rdbg.shell import trail
+from rdbg.driving import trail
 from rdbg.shell.steps import why_on_none
-from rdbg.shell.target import Unable
+from rdbg.driving.target import Unable
 
 Request = Callable[[Debugger, Arguments], Optional[Values]]
 
@@ -146,14 +146,14 @@ def step_back(it: Debugger, given: Arguments) -> Optional[Values]:
         with it.wheel():
             places = target.places()
             if not places.kept:
-                start = "the start" if not places.done else "`trim` gave up what was before"
+                start = "the start" if not places.done else record.given_up("what was before")
                 it.later.append(lambda: it.stopped("entry", f"at {places.done}: {start}", it.focus))
                 return None
             after = target.look()
-            target.ask("back 1", replies.Moved)
+            target.ask(record.back(1), replies.Moved)
             before = target.look()
     except Refused as refused:
-        raise it.wrong("back 1", refused) from None
+        raise it.wrong(record.back(1), refused) from None
     move = trail.between(target, before, after)
     it.changed()
     it.say(f"back at {target.place}, before: {move.row()}", move)

@@ -7,7 +7,9 @@ from rdbg.adapter import variables
 from rdbg.adapter.messages import Values, Wrong
 from rdbg.adapter.threads import state
 from rdbg.adapter.variables import Shown, Variable
-from rdbg.shell import conditions
+from rdbg.goals import reading
+from rdbg.goals import words as goal_words
+from rdbg.goals.ways import is_so
 from rdbg.shell.completion import candidates
 from rdbg.shell.shell import Shell
 
@@ -36,15 +38,16 @@ def found(shown: Shown, task: Optional[str], text: str) -> Optional[Variable]:
 
 
 def holds(shell: Shell, text: str) -> Optional[str]:
-    """Whether a condition holds; none where the text is no condition."""
-    condition = conditions.read(text.split())
-    if condition is None:
+    """Whether a goal holds; none where the text isn't meant to be one."""
+    words = reading.words_of(text)
+    if not words or words[0] not in (*reading.CLAIMS, reading.NOT, reading.OPEN):
         return None
     try:
-        is_so = condition.holds(replies.read(shell.target.tell(condition.view)))
+        return "holds" if is_so(shell.target, goal_words.read(words, shell.scope())) else "fails"
+    except reading.NoGoal as wrong:
+        raise Wrong(str(wrong)) from None
     except (replies.Refused, IndexError):
         raise Wrong(f"'{text}' names what isn't there") from None
-    return "holds" if is_so else "fails"
 
 
 def view(shell: Shell, text: str) -> Optional[str]:

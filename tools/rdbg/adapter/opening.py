@@ -1,4 +1,5 @@
 """What `launch` and `attach` begin: a program of one's own, or one more session at a port."""
+import argparse
 import os
 import signal
 import subprocess
@@ -6,7 +7,8 @@ import threading
 from typing import IO, Callable, List, Optional
 
 from rdbg import children, client, commands
-from rdbg import source as sources
+from rdbg.files import source as sources
+from rdbg.files.definitions import definition
 from rdbg.adapter.messages import Arguments, Wrong
 from rdbg.adapter.pausing import Pause
 from rdbg.client import Session
@@ -14,10 +16,12 @@ from rdbg.ending import STARTED
 from rdbg.failure import Failure
 from rdbg.firmware.writer import text_of
 from rdbg.replies import Refused
-from rdbg.shell.opening import as_read, builtin, compare, greet
+from rdbg.driving.opening import as_read, builtin, compare, greet
 from rdbg.shell.shell import Shell
-from rdbg.shell.target import Limits, Target
-from rdbg.source import Source
+from rdbg.driving.pacing import IS, TickPace, pace
+from rdbg.driving.target import Limits, Target, Unable
+from rdbg.shell import paces
+from rdbg.files.source import Source
 
 BUILTIN = "built-in.fw"
 # So many moves may be done at a time, unless `launch` says another number.
@@ -55,11 +59,12 @@ def file_of(given: Arguments) -> Optional[str]:
     return os.path.abspath(os.path.join(given.text("cwd", ""), path)) if path else None
 
 
-def read(path: str) -> Source:
+def read(path: str, given: Arguments) -> Source:
     """The application of a file. Raises `Wrong` where it is refused, with its faults."""
     try:
-        source = sources.load(path)
-    except (Failure, ValueError) as failure:
+        consts = dict(map(definition, given.texts("consts")))
+        source = sources.load(path, consts)
+    except (Failure, ValueError, argparse.ArgumentTypeError) as failure:
         raise Wrong(str(failure)) from None
     if source.application is None:
         faults = [f"{path}:{fault}" for fault in source.faults[:MOST_FAULTS]]
@@ -116,11 +121,30 @@ def launch(given: Arguments, pause: Pause, tell: Tell) -> Shell:
     given.not_null("program", str)
     given.flag("stopOnEntry", True)  # (which is asked for later)
     path = file_of(given)
-    source = built_in() if path is None else read(path)
+    source = built_in() if path is None else read(path, given)
     limits = Limits(count(given, "moves", MOVES), count(given, "history", Limits.history, 2))
     words = [program(given.flag("unproved"), tell), "run"]
     target = begin(words, None if path is None else source, source, limits)
-    return EditorShell(target, source, pause)
+    shell = EditorShell(target, source, pause)
+    set_pace(shell, given)
+    return shell
+
+
+def set_pace(shell: Shell, given: Arguments) -> None:
+    """Takes the pace of Continue, and the interrupts that come by themselves, where these are given.
+    Raises `Wrong` where they are none."""
+    text, names = given.text("pace", ""), given.texts("interrupts")
+    found = pace(text)
+    if text and found is None:
+        raise Wrong(f"pace: '{text}' is none: {IS}")
+    application = shell.target.application
+    there = {it.name: it for it in application.interrupts} if application else {}
+    try:
+        coming = paces.chosen(names, there)
+    except Unable as unable:
+        raise Wrong(f"interrupts: {unable}") from None
+    if found or coming:
+        paces.take(shell, found or TickPace(1), coming)
 
 
 def begin(words: List[str], file: Optional[Source], source: Source, limits: Limits) -> Target:
@@ -145,7 +169,7 @@ def attach(given: Arguments, pause: Pause, hear: Tell) -> Shell:
     if not 0 < port < 65_536:
         raise Wrong(f"port is a number from 1 to 65535, and not {port}")
     path = file_of(given)
-    source = None if path is None else read(path)
+    source = None if path is None else read(path, given)
     try:
         session = connect(port, given.text("as", ""))
         greet(session)

@@ -1,7 +1,7 @@
 """A pause that an editor asks for, while something long goes on."""
 import threading
 
-from rdbg.shell.interrupt import Interrupt, Interrupted
+from rdbg.driving.interrupt import Interrupt, Interrupted
 
 
 class Pause(Interrupt):

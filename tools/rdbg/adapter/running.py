@@ -7,14 +7,14 @@ a few of them; beyond these a run makes them anew, where it makes the same.
 import dataclasses
 from typing import Any, Callable, List, Optional, Sequence
 
-from rdbg import replies
+from rdbg import record, replies
 from rdbg.adapter.known import Facts
 from rdbg.adapter.messages import Wrong
 from rdbg.adapter.stops import Begins, Stop, met_here
-from rdbg.shell.goals import is_stuck
-from rdbg.shell.interrupt import Interrupted
-from rdbg.shell.target import Target, Unable, read
-from rdbg.shell.walk import MOST_PIECE, Walk
+from rdbg.goals.ways import is_stuck
+from rdbg.driving.interrupt import Interrupted
+from rdbg.driving.target import Target, Unable, read
+from rdbg.driving.walk import MOST_PIECE, Walk
 
 # Stops are looked for within so many moves, then within so many times more, up to this.
 FIRST_WINDOW, WIDER, MOST_WINDOW = 64, 8, 65_536
@@ -272,7 +272,7 @@ def look_each(walk: Walk, stops: Sequence[Stop], views: Sequence[str], high: int
     by a look behind each. Ends there."""
     low, target = walk.place, walk.target
     of = [stop.views(target) for stop in stops]
-    answers = iter(target.tell_all([*views, *(["redo 1", *views] * (high - low))]))
+    answers = iter(target.tell_all([*views, *([record.again(), *views] * (high - low))]))
     before: List[Any] = []
     places: List[List[int]] = [[] for _ in stops]
     for place in range(low, high + 1):

@@ -16,8 +16,8 @@ from rdbg.adapter.setting import SETTING
 from rdbg.adapter.setup import SETUP
 from rdbg.failure import Failure
 from rdbg.replies import Refused
-from rdbg.shell.interrupt import Interrupted
-from rdbg.shell.target import Unable
+from rdbg.driving.interrupt import Interrupted
+from rdbg.driving.target import Unable
 
 REQUESTS: Dict[str, Request] = {
     **SETUP,

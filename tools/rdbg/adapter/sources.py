@@ -7,7 +7,7 @@ from typing import Any, Dict, Iterator, List, Optional, Sequence
 from rdbg.adapter.messages import Arguments, Values, Wrong
 from rdbg.adapter.opening import BUILTIN
 from rdbg.application import Instruction
-from rdbg.source import Source
+from rdbg.files.source import Source
 
 # The text of the built-in application is in no file; the editor asks for it by this number.
 REFERENCE = 1
@@ -29,7 +29,7 @@ class Spot:
         return self.column + len(self.instruction.written)
 
     def __str__(self) -> str:
-        return f"{self.task} {self.pc} {self.instruction.written}"
+        return f"{self.task} {self.pc} {self.instruction.told}"
 
 
 def spot(lines: Sequence[str], task: str, pc: int, code: Instruction) -> Spot:
@@ -114,8 +114,8 @@ class Text:
         return given.number("column") + 1 - self.first_column if given.has("column") else None
 
     def at(self, line: int) -> List[Spot]:
-        """The instructions at a line."""
-        return [spot for spot in self.spots if spot.line == line]
+        """The instructions at a line, of one that is several the first."""
+        return [it for it in self.spots if it.line == line and it.instruction.begins]
 
     def found(self, line: int, column: Optional[int]) -> Spot:
         """The instruction at a line and a column, the nearest one before it; the first at the next
@@ -129,6 +129,11 @@ class Text:
         before = [spot for spot in there if column is not None and spot.column <= column]
         return before[-1] if before else there[0]
 
+    def same(self, spot: Spot) -> List[Spot]:
+        """An instruction of a script, for each task whose script that is."""
+        place = spot.instruction.place
+        return [it for it in self.at(spot.line) if it.instruction.place == place]
+
     def between(self, first: int, last: int) -> Iterator[Spot]:
         """The instructions at some lines."""
-        return (spot for spot in self.spots if first <= spot.line <= last)
+        return (it for it in self.spots if first <= it.line <= last and it.instruction.begins)

@@ -6,18 +6,18 @@ where they began came through, or behind it.
 import dataclasses
 from typing import Any, Callable, Hashable, List, Optional, Sequence, Tuple
 
-from rdbg import replies
+from rdbg import kinds, replies
 from rdbg.adapter.known import Facts
 from rdbg.adapter.messages import Wrong
 from rdbg.adapter.sweeps import Backwards, Onwards
 from rdbg.application import Application
-from rdbg.looks import Key, content_of
-from rdbg.shell import goals
-from rdbg.shell.changes import AMOUNT_OF, HIDING, Changes
-from rdbg.shell.conditions import AMOUNTS, Condition
-from rdbg.shell.goals import IS_SO, Lasting, latest, nearest
-from rdbg.shell.target import Target, read
-from rdbg.shell.walk import Walk
+from rdbg.looks import Key, Look, content_of
+from rdbg.goals.changes import HIDING, Changes
+from rdbg.goals.conditions import AMOUNTS, Condition
+from rdbg.goals.claims import Goal, Holds
+from rdbg.goals.ways import Search, To, is_so, latest, nearest
+from rdbg.driving.target import Target, read
+from rdbg.driving.walk import Walk
 
 # So many places are looked at one by one before one asks rdbg for the last where it was otherwise.
 NEAR = 4
@@ -133,7 +133,7 @@ class Becomes(Stop):
 
     def __init__(self, condition: Condition, text: str = "", is_at_start: bool = False) -> None:
         self.condition, self.text = condition, text or condition.text
-        self._goal, self.is_at_start = goals.Becomes(condition), is_at_start
+        self._way, self.is_at_start = To(Holds(condition), True), is_at_start
 
     @property
     def key(self) -> Hashable:
@@ -152,7 +152,7 @@ class Becomes(Stop):
         return self.is_at_start and walk.place == 0 and self.look(walk.target)
 
     def next(self, walk: Walk, limit: int) -> Optional[int]:
-        return self._goal.next(walk, limit)
+        return self._way.next(walk, limit)
 
     def last(self, walk: Walk) -> Optional[int]:
         if walk.place <= walk.target.base or walk.back_until(self.condition.text) is None:
@@ -294,38 +294,45 @@ def parts_of(application: Application, kind: str, name: str) -> List[Stop]:
         for task in application.tasks
         for at, code in enumerate(task.code)
     ]
-    amount = [Amount(f"{AMOUNT_OF[kind]} {name}")] if kind in AMOUNT_OF else []
+    word = kinds.OF_WORD[kind].amount
+    amount = [Amount(f"{word} {name}")] if word else []
     done: List[Tuple[str, str]] = [(word, name) for word in HIDING.get(kind, ("select",))]
-    if kind == "set":
+    if kind == kinds.QUEUE_SET.word:
         members = [member for it in application.sets if it.name == name for member in it.members]
         members += [words[1] for _, words in codes if words[0] == "setadd" and words[2] == name]
         done += [(word, member) for word in PUTTING for member in members]
     return [*amount, *(Becomes(behind) for behind, words in codes if tuple(words[:2]) in done)]
 
 
-class Begins(Stop):
-    """Something that stays once it is so, and has become so: `failed` or `stuck`."""
+class Reaches(Stop):
+    """A goal becomes so: it didn't hold before a move, and does after it."""
 
-    def __init__(self, text: str) -> None:
-        self.text, self._goal = text, Lasting(text, True)
+    def __init__(self, goal: Goal, text: str = "") -> None:
+        self.goal, self.text = goal, text or goal.text
+        self._way = To(goal, True)
+
+    @property
+    def key(self) -> Hashable:
+        return "reaches", self.goal
 
     def views(self, target: Target) -> List[str]:
-        return ["show cores", *(f"show task {name}" for name in target.names.tasks)]
+        return self.goal.names(target.names).lines()
 
     def seen(self, answers: Sequence[Any]) -> bool:
-        cores, *tasks = answers
-        if self.text == "failed":
-            return any(it.phase.word == "failed" for it in tasks)
-        return not any(cores.running) and all(it.phase.deadline is None for it in tasks)
-
-    def look(self, target: Target) -> bool:
-        return IS_SO[self.text](target)
+        return self.goal.is_so(Look.of(0, answers))
 
     def is_met_by(self, before: bool, after: bool) -> bool:
         return after and not before
 
     def next(self, walk: Walk, limit: int) -> Optional[int]:
-        return self._goal.next(walk, limit)
+        return self._way.next(walk, limit)
+
+    def last(self, walk: Walk) -> Optional[int]:
+        return self._way.last(walk)
+
+
+class Begins(Reaches):
+    """Something that stays once it is so has become so: a task has failed, or all is asleep."""
 
     def last(self, walk: Walk) -> Optional[int]:
         base = walk.target.base
@@ -350,47 +357,39 @@ class Begins(Stop):
         return high
 
 
-class Phases(Stop):
-    """A task's phase becomes one of some kind: it falls asleep without a deadline, or is woken."""
-
-    def __init__(self, text: str, task: str, goal: goals.Goal) -> None:
-        self.text, self._task, self._goal = text, task, goal
-
-    def views(self, target: Target) -> List[str]:
-        return [f"show task {self._task}"]
-
-    def seen(self, answers: Sequence[Any]) -> replies.Phase:
-        phase: replies.Phase = answers[0].phase
-        return phase
-
-    def is_met_by(self, before: replies.Phase, after: replies.Phase) -> bool:
-        if self.text.startswith("sleeps"):
-            return before.word != "wait" and after.word == "wait" and after.deadline is None
-        return before.word == "wait" and after.word in ("again", "given")
-
-    def next(self, walk: Walk, limit: int) -> Optional[int]:
-        return self._goal.next(walk, limit)
-
-    def last(self, walk: Walk) -> Optional[int]:
-        return self._goal.last(walk)
+def becoming(goal: Goal, text: str = "") -> Stop:
+    """The stop where a goal becomes so."""
+    return Becomes(goal.condition, text) if isinstance(goal, Holds) else Reaches(goal, text)
 
 
 class Where(Stop):
-    """A stop that counts only where a condition holds behind its move."""
+    """A stop that counts only where a goal holds behind its move."""
 
-    def __init__(self, stop: Stop, condition: Condition) -> None:
-        self._stop, self._condition = stop, condition
-        self.text = f"{stop.text}, {condition.text}"
+    def __init__(self, stop: Stop, goal: Goal) -> None:
+        self._stop, self._goal = stop, goal
+        # (what is one condition can be looked for by many lines at a time)
+        self._condition = goal.condition if isinstance(goal, Holds) else None
+        self._width = 0
+        self.text = f"{stop.text}, {goal.text}"
 
     @property
     def key(self) -> Hashable:
-        return self._stop.key, self._condition
+        return self._stop.key, self._goal
 
     def views(self, target: Target) -> List[str]:
-        return [*self._stop.views(target), self._condition.view]
+        views = self._stop.views(target)
+        self._width = len(views)
+        if self._condition is not None:
+            return [*views, self._condition.view]
+        return [*views, *self._goal.names(target.names).lines()]
 
     def seen(self, answers: Sequence[Any]) -> Tuple[Any, bool]:
-        return self._stop.seen(answers[:-1]), self._condition.holds(answers[-1])
+        behind = answers[self._width :]
+        if self._condition is not None:
+            holds = self._condition.holds(behind[0])
+        else:
+            holds = self._goal.is_so(Look.of(0, behind))
+        return self._stop.seen(answers[: self._width]), holds
 
     def is_met_by(self, before: Tuple[Any, bool], after: Tuple[Any, bool]) -> bool:
         return after[1] and self._stop.is_met_by(before[0], after[0])
@@ -399,13 +398,13 @@ class Where(Stop):
         return self._stop.is_met_at_start(walk) and self._holds(walk)
 
     def _holds(self, walk: Walk) -> bool:
-        return self._condition.holds(read(walk.target.tell(self._condition.view)))
+        return is_so(walk.target, self._goal)
 
     def next(self, walk: Walk, limit: int) -> Optional[int]:
         end, turns = walk.place + limit, 0
         while walk.place < end:
             walk.interrupt.check()
-            if turns == TURNS and isinstance(self._stop, Becomes):
+            if turns == TURNS and isinstance(self._stop, Becomes) and self._condition:
                 return self._next_of_all(walk, self._stop.condition, end - walk.place)
             place, turns = self._stop.next(walk, end - walk.place), turns + 1
             if place is None:
@@ -414,10 +413,12 @@ class Where(Stop):
             if self._holds(walk):
                 return place
             # (it isn't met before the condition holds again)
-            if walk.until(self._condition.text, end - place) is None:
+            place = Search(walk, self._goal).first(end - place)
+            if place is None:
                 return None
+            walk.reach(place)
             if self._stop.is_met(walk):
-                return walk.place
+                return place
         return None
 
     def _next_of_all(self, walk: Walk, condition: Condition, limit: int) -> Optional[int]:
@@ -442,7 +443,7 @@ class Where(Stop):
         turns = 0
         while True:
             walk.interrupt.check()
-            if turns == TURNS and isinstance(self._stop, Becomes):
+            if turns == TURNS and isinstance(self._stop, Becomes) and self._condition:
                 return self._last_of_all(walk, self._stop)
             turns += 1
             place = self._stop.last(walk)
@@ -451,10 +452,12 @@ class Where(Stop):
             walk.goto(place)
             if self._holds(walk):
                 return place
-            if walk.back_until(self._condition.text) is None:
+            place = Search(walk, self._goal).last()
+            if place is None:
                 return None
+            walk.goto(place)
             if self._stop.is_met(walk):
-                return walk.place
+                return place
 
 
 class Counted(Stop):

@@ -3,10 +3,10 @@ from typing import List, Optional
 
 from rdbg import replies
 from rdbg.replies import Refused
-from rdbg.shell.conditions import Condition
-from rdbg.shell.goals import latest, nearest
-from rdbg.shell.target import read
-from rdbg.shell.walk import WALLS, Walk
+from rdbg.goals.conditions import Condition
+from rdbg.goals.ways import latest, nearest
+from rdbg.driving.target import read
+from rdbg.driving.walk import WALLS, Walk
 
 # So many lines are asked at once at first; fewer where a condition holds on, more where it doesn't.
 LEAST, FIRST, MOST = 4, 8, 512

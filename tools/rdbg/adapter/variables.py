@@ -2,7 +2,7 @@
 import dataclasses
 from typing import Callable, Dict, List, Optional, Tuple
 
-from rdbg import replies
+from rdbg import kinds, replies
 from rdbg.adapter import values
 from rdbg.adapter.messages import Values, Wrong
 from rdbg.looks import Key, Look, Object, holding
@@ -124,7 +124,7 @@ def of_object(key: Key, it: Object) -> Variable:
     """An object as one variable."""
     kind, name = key
     waiting = waiters(it)
-    holds = "" if kind == "group" else f"{holding(it)} "
+    holds = "" if kind == kinds.GROUP.word else f"{holding(it)} "
     value = f"{holds}{contents(it)}" + ("" if waiting == "nobody" else f", waits: {waiting}")
     return Variable(f"{kind} {name}", value, within=("object", kind, name), expression=name)
 
@@ -232,11 +232,11 @@ def within_group(it: replies.Group) -> List[Variable]:
 
 
 WITHIN: Dict[str, Callable[..., List[Variable]]] = {
-    "queue": within_queue,
-    "set": within_set,
-    "stream": within_stream,
-    "message": within_messages,
-    "group": within_group,
+    kinds.QUEUE.word: within_queue,
+    kinds.QUEUE_SET.word: within_set,
+    kinds.STREAM.word: within_stream,
+    kinds.MESSAGE.word: within_messages,
+    kinds.GROUP.word: within_group,
 }
 LISTS: Dict[str, Callable[..., List[Variable]]] = {
     "registers": registers,

@@ -4,36 +4,24 @@ rdbg says the kind of the first one. Those that only stem from an earlier one ar
 instruction that names a queue whose name was refused, or an operand that a refused number bounds.
 """
 import contextlib
-import dataclasses
 import re
 from typing import Dict, List, Optional, Set, Tuple
 
 from rdbg.digits import is_digits
+from rdbg.fault import Fault
 from rdbg.instructions import form_of, is_final
 from rdbg.near import nearest
 from rdbg.operands import NAMED, Scope, is_name, to_text
 from rdbg.checking.reading import NAME_RULE, read
 from rdbg.shapes import FILE, NOT_THERE, OTHER_NAMES, Key, Shape
 from rdbg.tree import Node, Number, Object, Place, Value, kind_of, objects
-from rdbg.checking.wording import quoted, shown
+from rdbg.wording import quoted, shown
 
 SHAPE, LIMIT, NAME, INSTR = "L2 Shape", "L3 Limit", "L4 Name", "L5 Instr"
 OVERWRITE = "L6 OverwriteLength"
 MOST_ENTRIES = 4
 # So many are found at the most.
 MOST_FAULTS = 1000
-
-
-@dataclasses.dataclass(frozen=True)
-class Fault:
-    """A fault: where it is, its kind as rdbg says it (`L3 Limit`), and what would be right."""
-
-    place: Place
-    kind: str
-    message: str
-
-    def __str__(self) -> str:
-        return f"{self.place}: {self.message}"
 
 
 class Enough(Exception):

@@ -73,8 +73,33 @@ WORDS: Dict[str, str] = {
     "give": "send Q 0 of a queue that stands for a semaphore, or notify K I 0 inc",
     "wait": "gwait G V WISH CLR T, nwait I V V T or take I clear T",
 }
-# Those that are written in another way in lines.
-IN_LINES: Dict[str, str] = {"dec": "add R -1", "sub": "add R -N"}
+# Those that are written in another way in lines, and calls that are.
+CALLS_IN_LINES: Dict[str, str] = {
+    "vtaskdelay": "wait T",
+    "xsemaphoretake": "take NAME T",
+    "xsemaphoregive": "give NAME",
+    "uxsemaphoregetcount": "count NAME",
+}
+IN_LINES: Dict[str, str] = {
+    "dec": "add R -1",
+    "sub": "add R -N",
+    "for": "set R N, and while R with add R -1 in it",
+    "do": "loop, with if TEST break in it",
+    "switch": "if R = N goto L, a line for each N",
+    "cmp": "if R = N goto L",
+    "bne": "if R goto L",
+    "jnz": "if R goto L",
+    "until": "loop, with if TEST break in it",
+    "elif": "else, and an if below it, with an end of its own",
+    "elseif": "else, and an if below it, with an end of its own",
+    "endif": "end",
+    "endloop": "end",
+    "endwhile": "end",
+    "done": "end",
+    "delay": "wait T",
+    "sleep": "wait T",
+    "fi": "end",
+}
 BY_NAME: Dict[str, str] = {
     **{name.lower(): it.text for it in FORMS for name in it.freertos},
     **{name.lower(): text for name, text in WRITTEN.items()},
@@ -106,8 +131,9 @@ def sentence(word: str, in_lines: bool = False) -> Optional[str]:
     end = "" if plain == name else INTERRUPT
     if end and plain.lower() in FROM_ISR:
         return f"{name} is the command {FROM_ISR[plain.lower()]}, in profile 2 (docs/FROM_C.md)"
-    if plain.lower() in BY_NAME:
-        return f"{name} is written {BY_NAME[plain.lower()]}{end}"
+    by_name = {**BY_NAME, **(CALLS_IN_LINES if in_lines else {})}
+    if plain.lower() in by_name:
+        return f"{name} is written {by_name[plain.lower()]}{end}"
     words = {**WORDS, **(IN_LINES if in_lines else {})}
     if name.lower() in words:
         return f"{name} is written {words[name.lower()]}"

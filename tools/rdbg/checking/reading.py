@@ -11,7 +11,7 @@ from rdbg.operands import KIND_OF, NAMED, PATTERN_OF, Scope
 from rdbg.checking.slips import slip
 from rdbg.checking.statements import statement
 from rdbg.tree import Node, Place
-from rdbg.checking.wording import shown, with_article
+from rdbg.wording import shown, with_article
 
 Word = Tuple[str, Place]
 INSTR, NAME = "L5 Instr", "L4 Name"

@@ -1,11 +1,11 @@
 """What rdbg accepts in a file, and who wrote it most likely didn't mean."""
 from typing import Dict, Iterator, List
 
-from rdbg.checking.faults import Fault
+from rdbg.fault import Fault
 from rdbg.checking.slips import as_bytes, is_binary
 from rdbg.operands import PATTERN_OF
 from rdbg.tree import Node, Object, Place
-from rdbg.checking.wording import quoted, shown
+from rdbg.wording import quoted, shown
 
 
 def binary(node: Node) -> Iterator[Fault]:

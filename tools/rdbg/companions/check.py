@@ -5,13 +5,15 @@ import re
 import sys
 from typing import List, Sequence
 
+from rdbg import kinds
 from rdbg.application import Application
 from rdbg.checking.faults import MOST_FAULTS
 from rdbg.checking.remarks import remarks_of
-from rdbg.checking.wording import shown
+from rdbg.wording import shown
 from rdbg.digits import number
 from rdbg.failure import Failure
-from rdbg.source import Source, load, source
+from rdbg.files.definitions import take_definitions
+from rdbg.files.source import Given, Source, load, source
 
 SUMMARY = "says of application files where they are wrong, and what would be right"
 STANDARD_INPUT = "-"
@@ -56,6 +58,7 @@ def parser() -> argparse.ArgumentParser:
     made.add_argument(
         "--name", metavar="FILE", help="what standard input is called, and so how it is read"
     )
+    take_definitions(made)
     return made
 
 
@@ -67,12 +70,12 @@ def main(words: Sequence[str]) -> int:
     return max(check(path, given) for path in given.files)
 
 
-def read(path: str, name: str) -> Source:
+def read(path: str, name: str, consts: Given) -> Source:
     """The file of a path, or standard input under a name."""
     if path != STANDARD_INPUT:
-        return load(path)
+        return load(path, consts)
     try:
-        return source(name or path, sys.stdin.buffer.read())
+        return source(name or path, sys.stdin.buffer.read(), consts)
     except (AttributeError, OSError):
         raise Failure("cannot read standard input", 2) from None
 
@@ -80,7 +83,7 @@ def read(path: str, name: str) -> Source:
 def check(path: str, given: argparse.Namespace) -> int:
     """Prints what there is to say of one file, and answers its status."""
     try:
-        found = read(path, given.name)
+        found = read(path, given.name, given.consts)
     except Failure as failure:
         sys.stdout.flush()
         where = "" if path in str(failure) else f"{path}: "
@@ -90,7 +93,7 @@ def check(path: str, given: argparse.Namespace) -> int:
     if given.first:
         lines = lines[:1]
     else:
-        remarks = [] if found.root is None else remarks_of(found.root)
+        remarks = [] if found.root is None else [*found.remarks, *remarks_of(found.root)]
         lines = lines[: given.most] + [f"{found.path}:{remark}" for remark in remarks[: given.most]]
         lines.append(f"{found.path}: {said(found, given.most)}")
     for line in lines:
@@ -115,13 +118,6 @@ def said(found: Source, most: int) -> str:
 
 def counts(application: Application) -> List[str]:
     """How much there is of each kind, where there is any."""
-    kinds = (
-        ("task", len(application.tasks)),
-        ("queue", len(application.queues)),
-        ("queue set", len(application.sets)),
-        ("stream buffer", len(application.streams)),
-        ("message buffer", len(application.messages)),
-        ("event group", len(application.groups)),
-        ("core", application.cores),
-    )
-    return [f"{count} {kind}" + "s" * (count > 1) for kind, count in kinds if count]
+    things = [(it.noun, len(application.of(it))) for it in (kinds.TASK, *kinds.OBJECTS)]
+    found = [*things, ("core", application.cores)]
+    return [f"{count} {noun}" + "s" * (count > 1) for noun, count in found if count]

@@ -6,7 +6,7 @@ from typing import Optional, Sequence
 
 from rdbg.adapter.listening import listen
 from rdbg.adapter.server import Server
-from rdbg.companions.sh import port
+from rdbg.options import port
 from rdbg.door import Door
 
 SUMMARY = "the debugger of an editor, with its buttons: breakpoints, steps, and both ways"

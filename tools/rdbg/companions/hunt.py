@@ -5,48 +5,61 @@ import io
 import os
 import sys
 import time
-from typing import IO, Callable, Iterator, List, Optional, Sequence, Tuple, Union
+from typing import IO, Iterator, List, NamedTuple, Optional, Sequence, Tuple
 
-from rdbg import commands, digits, links
-from rdbg.companions.sh import bounded, read
+from rdbg import commands, digits, links, whole_file
+from rdbg.driving.target import Unable
 from rdbg.failure import Failure
-from rdbg.hunting import goals, report, wrong
-from rdbg.hunting.crew import Crew, TimeUp
-from rdbg.hunting.exhaustive import Exhaustive
-from rdbg.hunting.finds import Found
-from rdbg.hunting.interrupts import interrupts
-from rdbg.hunting.search import Full, Limits, Search
-from rdbg.hunting.surprises import kinds
-from rdbg.hunting.worker import Hunted
+from rdbg.files.definitions import take_definitions
+from rdbg.files.source import Source, accepted
+from rdbg.hunting import goals, report
+from rdbg.hunting.differs import Difference, Differs
+from rdbg.hunting.goals import Goal
+from rdbg.hunting.interrupts import OPTION, handlers
+from rdbg.hunting.search import Search
+from rdbg.hunting.stage import Find, Stage
+from rdbg.options import bounded
+from rdbg.reaching.asking import CTRL_C, LOST, QUESTIONS, REACH, Asker, NoQuestion
+from rdbg.reaching.said import Answer, Bound, Kind
 from rdbg.replies import Refused
-from rdbg.shell.target import Unable
 
 SUMMARY = "looks for an order of moves that comes to a goal, with the fewest surprises"
 EPILOG = (
-    "GOAL is a condition (docs/COMMANDS.md), stuck, failed, or differs: two orders end otherwise."
+    "GOAL is a goal of reach (docs/REACHING.md), or differs: two orders end otherwise."
     " The lines of what is found, which rdbg replays by itself, go to standard output, and what is"
     " said of them to standard error; with -o to OUT, and to standard output. The status is 0 where"
-    " none is found, 1 where one is, 2 where it can't be told, 130 after Ctrl-C. With --expect none"
-    " it is 2, too, where not all was tried, or orders go on past the limit of moves and nobody gave"
-    " --moves; with --expect found 0 where one is found, 1 where not."
+    " none is found (never, or not within what was asked for), 1 where one is, 2 where it can't be"
+    " told, 130 after Ctrl-C; with --expect found 0 where one is found, 1 where not."
 )
-MOVES, AHEAD, SURPRISES, STATES = 100, 4, 2, 1_000_000
-MOST_AHEAD = 1_000
-# So many processes may there be for each processor.
-MOST_WORKERS = 4
 NONE_FOUND, FOUND, CANT, STOPPED = 0, 1, 2, 130
-# How far it is is said after so many seconds, and then as often: at a terminal, and elsewhere.
-PATIENCE, ELSEWHERE = 2.0, 60.0
 STANDARD = "-"
-Hunt = Union[Search, Exhaustive]
 
 
-def part(text: str) -> Tuple[int, int]:
+class Passed(NamedTuple):
+    """An option of the program that searches, which is passed on to it."""
+
+    name: str
+    value: str
+    help: str
+
+
+# Each is one row.
+PASSED = (
+    Passed("--pace", "M..N", "each busy core makes M to N moves from one tick to the next"),
+    Passed("--states", "N", "how many states are kept"),
+    Passed("--memory", "MIB", "for how many mebibytes states are kept"),
+    Passed("--part", "K/N", "one of N parts of the search"),
+)
+# Those of them that are of a search through the orders of one goal.
+OF_ONE_GOAL = ("--pace", "--part")
+
+
+def part(text: str) -> str:
     """Reads K/N, the part K of N."""
     first, slash, second = text.partition("/")
     if slash and commands.is_count(first) and commands.is_count(second):
         if int(first) <= int(second):
-            return int(first), int(second)
+            return text
     raise argparse.ArgumentTypeError(f"K/N with K of 1 to N, not '{text}'")
 
 
@@ -56,6 +69,10 @@ def seconds(text: str) -> float:
     if value is None:
         raise argparse.ArgumentTypeError(f"a number of seconds, not '{text}'")
     return value
+
+
+# What is seen of the values of options before the program sees them.
+READ = {"--part": part}
 
 
 class OneGoal(argparse.HelpFormatter):
@@ -75,56 +92,61 @@ def parser() -> argparse.ArgumentParser:
     made.add_argument("file", metavar="FILE", help="the application, JSON or in lines (.fw)")
     made.add_argument("goal", metavar="GOAL", nargs="+", help="one goal; its words may be apart")
     made.add_argument("-o", dest="output", metavar="OUT", help="where the lines of a find go")
+    made.add_argument(
+        "--page", metavar="OUT.html", help="writes the first find as one page of HTML"
+    )
     count = bounded(1)
     made.add_argument(
-        "--surprises", type=bounded(0), metavar="N", help=f"up to so many ({SURPRISES})"
+        "--surprises", type=bounded(0), metavar="N", help="orders of so many surprises at the most"
     )
-    made.add_argument(
-        "--ahead", type=count, metavar="K", help=f"a core up to so many moves ahead ({AHEAD})"
-    )
-    made.add_argument("--moves", type=count, metavar="N", help=f"moves of an order ({MOVES})")
+    made.add_argument("--moves", type=count, metavar="N", help="orders of at most so many moves")
     made.add_argument(
         "--isr",
         action="append",
         default=[],
         metavar="CALLS",
         help="an interrupt that may come once, at any place: send Q HEX, notify K I N ACTION, or"
-        " several calls with ; between them; said twice, it may come twice",
+        " several calls with ; between them; said twice, it may come twice; or one that the text"
+        " names, which comes as that says",
     )
-    made.add_argument("--exhaustive", action="store_true", help="every order, by moves")
-    made.add_argument("--smallest", action="store_true", help="the find with the fewest moves")
     made.add_argument(
-        "--all", type=count, metavar="N", help="the first N finds that end in different states"
+        "--exhaustive", action="store_true", help="surprises aren't counted: the fewest moves"
     )
-    made.add_argument("--part", type=part, metavar="K/N", help="one of N parts of the tries")
+    made.add_argument(
+        "--smallest", action="store_true", help="shows that none has fewer surprises, or moves"
+    )
+    made.add_argument("--all", type=count, metavar="N", help="the first N finds that end otherwise")
     made.add_argument("--expect", choices=["none", "found"], help="what the status is 0 for")
     made.add_argument("--within", type=seconds, metavar="SECONDS", help="a limit of time")
-    made.add_argument("--workers", type=count, metavar="N", help="processes (one a processor)")
-    made.add_argument(
-        "--states", type=count, default=STATES, metavar="N", help=f"states kept ({STATES:,})"
-    )
+    for it in PASSED:
+        made.add_argument(it.name, type=READ.get(it.name, str), metavar=it.value, help=it.help)
+    take_definitions(made)
     return made
 
 
-def check_words(given: argparse.Namespace) -> None:
+def passed(given: argparse.Namespace) -> List[Tuple[str, str]]:
+    """The options that are passed on, with their values."""
+    found = ((it.name, getattr(given, it.name.strip("-"))) for it in PASSED)
+    return [(name, value) for name, value in found if value is not None]
+
+
+def check_words(given: argparse.Namespace, goal: Goal) -> None:
     """Raises `Failure` where words can't stand together."""
     if given.exhaustive:
-        others = [given.part, given.surprises, given.ahead, given.smallest or None]
-        for name, value in zip(("--part", "--surprises", "--ahead", "--smallest"), others):
+        for name, value in (
+            ("--surprises", given.surprises),
+            ("--smallest", given.smallest or None),
+        ):
             if value is not None:
                 raise Failure(f"--exhaustive goes through every order; it takes no {name}", CANT)
     if given.smallest and given.all is not None:
         raise Failure("--smallest is of one find; it takes no --all", CANT)
-    if given.ahead is not None and given.ahead > MOST_AHEAD:
-        raise Failure(f"--ahead takes 1 to {MOST_AHEAD}, and not {given.ahead}", CANT)
-    most = MOST_WORKERS * processors()
-    if given.workers is not None and given.workers > most:
-        raise Failure(f"--workers takes 1 to {most} here, and not {given.workers}", CANT)
-
-
-def processors() -> int:
-    """How many processors there are for it."""
-    return len(os.sched_getaffinity(0))
+    if goal.compares:
+        if given.smallest:
+            raise Failure("--smallest is of goals that are met, and none of differs", CANT)
+        for name, _ in passed(given):
+            if name in OF_ONE_GOAL:
+                raise Failure(f"{name} is of goals that are met, and none of differs", CANT)
 
 
 def empty(path: Optional[str], source: str) -> None:
@@ -145,65 +167,6 @@ def empty(path: Optional[str], source: str) -> None:
         os.unlink(file)
 
 
-def hunted(given: argparse.Namespace) -> Hunted:
-    """What is hunted through."""
-    source = read(given.file)
-    assert source is not None and source.application is not None
-    try:
-        goal = goals.read(given.goal, source.application)
-    except goals.NoGoal as none:
-        raise Failure(wrong.why(none.words, source), CANT) from None
-    may_come = tuple(interrupts(given.isr, source.application))
-    surprises = (*kinds(given.ahead or AHEAD), *may_come)
-    moves, is_given = given.moves or MOVES, given.moves is not None
-    return Hunted(source, goal, surprises, moves, given.exhaustive, may_come, is_given)
-
-
-def limits_of(given: argparse.Namespace) -> Limits:
-    """How far a search goes."""
-    number, parts = given.part or (1, 1)
-    surprises = SURPRISES if given.surprises is None else given.surprises
-    return Limits(surprises, given.states, given.all or 1, number, parts, given.smallest)
-
-
-def begin(given: argparse.Namespace, it: Hunted, crew: Crew) -> Hunt:
-    """The search that is asked for."""
-    if given.exhaustive:
-        return Exhaustive(it, given.all or 1, given.states, crew)
-    return Search(it, limits_of(given), crew)
-
-
-def progress(hunt: Hunt) -> Callable[[], None]:
-    """What says how far a search is, now and then."""
-    patience = PATIENCE if sys.stderr.isatty() else ELSEWHERE
-    said = [time.monotonic()]
-
-    def say() -> None:
-        if time.monotonic() - said[0] > patience:
-            said[0] = time.monotonic()
-            print(f"rdbg hunt: {report.so_far(hunt)}", file=sys.stderr, flush=True)
-
-    return say
-
-
-def run(given: argparse.Namespace, it: Hunted) -> Tuple[Hunt, str]:
-    """The search when it has ended, and why, if not by itself."""
-    end = None if given.within is None else time.monotonic() + given.within
-    workers = given.workers or processors()
-    with Crew(it, workers, end) as crew:
-        hunt = begin(given, it, crew)
-        crew.on_answer = progress(hunt)
-        try:
-            hunt.run()
-            return hunt, ""
-        except TimeUp:
-            return hunt, report.TIME
-        except Full:
-            return hunt, report.ROOM
-        except KeyboardInterrupt:
-            return hunt, report.CTRL_C
-
-
 @contextlib.contextmanager
 def outputs(path: Optional[str]) -> Iterator[Tuple[IO[str], IO[str]]]:
     """Where the lines go, and where what is said of them."""
@@ -214,60 +177,149 @@ def outputs(path: Optional[str]) -> Iterator[Tuple[IO[str], IO[str]]]:
         yield file, sys.stdout
 
 
-def say_found(given: argparse.Namespace, it: Hunted, hunt: Hunt) -> None:
-    """Prints what was found."""
-    found = Found(it, tuple(hunt.finds), hunt.own)
-    told = list(report.found(found))
-    with outputs(given.output) as (lines, said):
-        print(*found.lines(), sep="\n", file=lines, flush=True)
-        print(*told, sep="\n", file=said, flush=True)
+class Hunt:
+    """A hunt by its words, for a goal that an application can have."""
+
+    def __init__(
+        self, given: argparse.Namespace, source: Source, goal: Goal, search: Search
+    ) -> None:
+        self.given, self.source, self.goal, self.search = given, source, goal, search
+        self.stage = search.stage
+        self.finds: List[Find] = []
+        self.differs: Optional[Differs] = None
+        self.differences: List[Difference] = []
+
+    def run(self) -> None:
+        """Searches."""
+        given, search = self.given, self.search
+        if self.goal.compares:
+            self.differs = Differs(search)
+            self.differences = self.differs.find(given.all or 1)
+        elif given.all is not None:
+            self.finds = search.all(given.all)
+        elif given.smallest:
+            self.finds = search.smallest()
+        elif given.exhaustive:
+            found = search.shortest(self.goal.asked)
+            self.finds = [] if found is None else [found]
+        else:
+            self.finds = search.first()
+
+    @property
+    def is_found(self) -> bool:
+        """Whether something is."""
+        return bool(self.finds or self.differences)
+
+    def say(self) -> None:
+        """Prints what was found, or that nothing was."""
+        said = self._said()
+        path = self.given.output
+        if not self.is_found:
+            is_mixed = path in (None, STANDARD)
+            print(*said, sep="\n", file=sys.stderr if is_mixed else sys.stdout, flush=True)
+            return
+        lines = report.lines_of(self.goal, self.stage, self._orders())
+        with outputs(path) as (file, out):
+            print(*lines, sep="\n", file=file, flush=True)
+            print(*said, sep="\n", file=out, flush=True)
+        self._write_page()
+
+    def _orders(self) -> List[Find]:
+        """All orders that are shown."""
+        if self.differs is None:
+            return self.finds
+        return [self.differs.own.find, *(it.find for it in self.differences)]
+
+    def _said(self) -> List[str]:
+        """What is said."""
+        if not self.is_found:
+            return [*report.none(self.goal, self.search.left(), self.stage.application)]
+        if self.differs is not None:
+            own = self.differs.own
+            said = [*report.differing(self.goal, self.stage, own, self.differences)]
+        else:
+            said = [*report.found(self.goal, self.stage, self.finds, self.given.exhaustive)]
+        said.append(report.gone_through(self.search.counts))
+        if self.given.smallest:
+            said += report.smaller(self.search.none)
+        elif self.search.is_all or self.search.untold():
+            said += report.others(self.search.left())
+        return said
+
+    def _write_page(self) -> None:
+        """Writes the first find as a page, where that was asked."""
+        if self.given.page is None:
+            return
+        from rdbg.tracing.command import page_of  # (which takes its time)
+
+        first = (self.finds or [it.find for it in self.differences])[0]
+        page_of(self.source, first.order.lines, self.given.page)
+
+    def status(self) -> int:
+        """The exit status."""
+        expected, left = self.given.expect, self.search.left()
+        if self.is_found:
+            return NONE_FOUND if expected == "found" else FOUND
+        if left.why == CTRL_C:
+            return STOPPED
+        if left.kind is Kind.UNTOLD:
+            return CANT
+        return FOUND if expected == "found" else NONE_FOUND
 
 
-def say_tried(given: argparse.Namespace, it: Hunted, hunt: Hunt, ended: str) -> None:
-    """Prints what was tried."""
-    said = sys.stderr if given.output in (None, STANDARD) else sys.stdout
-    lines: List[str] = []
-    if not hunt.finds:
-        lines.append(f"none found: {it.goal.text}")
-    if isinstance(hunt, Exhaustive):
-        lines += report.depth(hunt, ended)
-    else:
-        lines += report.tried(hunt, limits_of(given), it, ended)
-    print(*lines, sep="\n", file=said, flush=True)
+# (where a run lost a goal is no order that is hunted for)
+HUNTED = {word: it for word, it in QUESTIONS.items() if it is not LOST}
 
 
-def status_of(expected: Optional[str], hunt: Hunt, ended: str) -> int:
-    """The exit status."""
-    if hunt.finds:
-        return NONE_FOUND if expected == "found" else FOUND
-    if ended == report.CTRL_C:
-        return STOPPED
-    if expected == "found":
-        return FOUND
-    is_cut = bool(ended) or hunt.goes_on
-    return CANT if is_cut and expected == "none" else NONE_FOUND
+def hunt(given: argparse.Namespace, source: Source, path: str) -> int:
+    """Hunts through an application whose JSON is at a path."""
+    assert source.application is not None
+    words = " ".join(given.goal).split()
+    question = HUNTED.get(words[0] if words else "", REACH)
+    goal = goals.read(words[words[:1] == [question.word] :], source, question)
+    check_words(given, goal)
+    may_come = handlers(given.isr, source.application)
+    if goal.compares and any(it.when for it in may_come):
+        why = "differs begins where interrupts have come, and counts anew: give their calls"
+        raise Failure(f"{OPTION} NAME after or apart: {why}", CANT)
+    empty(given.output, given.file)
+    if given.page not in (None, STANDARD):
+        whole_file.check(given.page)
+    end = None if given.within is None else time.monotonic() + given.within
+    options = tuple(word for pair in passed(given) for word in pair)
+    stage = Stage(source, may_come)
+    bound = Bound(given.moves, given.surprises)
+    search = Search(Asker(path, options, end), stage, goal, bound, question, given.exhaustive)
+    it = Hunt(given, source, goal, search)
+    try:
+        it.run()
+    except KeyboardInterrupt:
+        search.none.append(Answer(Kind.UNTOLD, why=CTRL_C))
+    try:
+        it.say()
+        return it.status()
+    finally:
+        stage.close()
 
 
 def main(words: Sequence[str]) -> int:
-    """Hunts, and says what was found and tried."""
+    """Hunts, and says what was found, or that nothing was."""
     given = parser().parse_args(words)
     for stream in (sys.stdout, sys.stderr):
         if isinstance(stream, io.TextIOWrapper):
             stream.reconfigure(errors="backslashreplace")
     try:
-        check_words(given)
-        it = hunted(given)
-        if given.smallest and it.goal.compares:
-            raise Failure("--smallest is of goals that are met, and none of differs", CANT)
-        empty(given.output, given.file)
-        hunt, ended = run(given, it)
-        if hunt.finds:
-            say_found(given, it, hunt)
-        say_tried(given, it, hunt, ended)
+        source = accepted(given.file, given.consts)
+        assert source is not None
+        with source.as_json() as path:
+            return hunt(given, source, path)
+    except NoQuestion as refused:
+        if str(refused):
+            raise Failure(f"rdreach refuses it: {refused}", CANT) from None
+        return CANT  # (it has said why)
     except Unable as unable:
         raise Failure(str(unable), CANT) from None
     except Refused as refused:
         raise Failure(f"rdbg refused it: no {refused}", CANT) from None
     except Failure as failure:
         raise Failure(str(failure), CANT) from None
-    return status_of(given.expect, hunt, ended)

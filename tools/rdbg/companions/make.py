@@ -2,21 +2,23 @@
 import argparse
 import os
 import sys
-from typing import Optional, Sequence
+from typing import Optional, Sequence, Tuple
 
 from rdbg.application import Application
 from rdbg.failure import Failure
 from rdbg.json_layout import MOST_BYTES, json_of
-from rdbg.firmware.writer import text_of
+from rdbg.firmware.expansion import expansions
+from rdbg.firmware.writer import jumps_of, text_of
 from rdbg.shapes import FILE
-from rdbg.source import load
+from rdbg.files.definitions import take_definitions
+from rdbg.files.source import Given, Source, load, source
 from rdbg.whole_file import STANDARD_OUTPUT, written
 
 SUMMARY = "makes an application's JSON from a text in lines (.fw), or the text from the JSON"
 EPILOG = (
     "FILE.fw becomes FILE.json beside it, in place of the one that was there. Where the text has"
     " faults they are printed on standard error, each as FILE:LINE:COLUMN: and what would be right,"
-    " and nothing is written. The status is 0, 1 for faults, or 2 for a file that can't be had."
+    " and nothing is written. Lines that become several instructions are printed with these. The status is 0, 1 for faults, or 2 for a file that can't be had."
 )
 TEXT, JSON = ".fw", ".json"
 MOST_FAULTS = 100
@@ -34,17 +36,22 @@ def parser() -> argparse.ArgumentParser:
     made.add_argument(
         "-o", dest="output", metavar="OUT", help="writes to OUT; - is standard output"
     )
+    take_definitions(made)
     return made
 
 
 def main(words: Sequence[str]) -> int:
     """Makes one from the other."""
     given = parser().parse_args(words)
-    return back(given.file, given.output) if given.back else make(given.file, given.output)
+    if given.back and given.consts:
+        raise Failure("a JSON has no consts: -D goes with a text in lines (.fw)", 2)
+    if given.back:
+        return back(given.file, given.output)
+    return make(given.file, given.output, given.consts)
 
 
-def make(path: str, output: Optional[str]) -> int:
-    """Makes the JSON of a text."""
+def make(path: str, output: Optional[str], consts: Given) -> int:
+    """Makes the JSON of a text, of which consts of these names are these numbers."""
     if path.endswith(JSON):
         raise Failure(
             f"{path} is JSON already; its text in lines is made by: rdbg make --back {path}", 2
@@ -56,14 +63,17 @@ def make(path: str, output: Optional[str]) -> int:
         raise Failure(f"{chosen} doesn't end in {JSON}; it isn't written", 2)
     if same_file(path, chosen):
         raise Failure(f"{chosen} is {path} itself; it isn't written", 2)
-    application = accepted(path, MOST_FAULTS)
+    found, application = accepted(path, MOST_FAULTS, consts)
     text = json_of(application)
     if len(text) > MOST_BYTES:
         raise Failure(f"the JSON of {path} has {len(text):,} bytes; rdbg reads {MOST_BYTES:,}")
     with written(chosen) as file:
         file.write(text)
+    told = sys.stderr if chosen == STANDARD_OUTPUT else sys.stdout
     if chosen != STANDARD_OUTPUT:
         print(f"{chosen}: {counts(application)}")
+    for line in expansions(application, found.made):
+        print(f"{path}:{line}", file=told)
     return 0
 
 
@@ -76,9 +86,18 @@ def back(path: str, output: Optional[str]) -> int:
         raise Failure(f"{chosen} doesn't end in {TEXT}; it isn't written", 2)
     if os.path.lexists(chosen) and chosen != STANDARD_OUTPUT:
         raise Failure(f"{chosen} is there already, and its comments would be lost", 2)
-    text = text_of(accepted(path, 1))
+    application = accepted(path, 1)[1]
+    text = text_of(application)
+    again = source("again.fw", text.encode()).application
+    if again is None or json_of(again) != json_of(application):
+        # (what was found of an `if` would become other instructions than there are)
+        text = text_of(application, is_plain=True)
     with written(chosen) as file:
         file.write(text)
+    jumps = jumps_of(application)
+    if jumps:
+        said = "jumps with labels, where the text may have had loop, while or an if of lines"
+        print(f"rdbg make: {said}: {'; '.join(jumps)}", file=sys.stderr)
     return 0
 
 
@@ -90,11 +109,11 @@ def same_file(path: str, other: str) -> bool:
         return False
 
 
-def accepted(path: str, most: int) -> Application:
-    """The application of a file without faults; else at most so many are printed."""
-    found = load(path)
+def accepted(path: str, most: int, consts: Optional[Given] = None) -> Tuple[Source, Application]:
+    """A file without faults, and its application; else at most so many are printed."""
+    found = load(path, consts)
     if found.application is not None:
-        return found.application
+        return found, found.application
     for fault in found.faults[:most]:
         print(f"{path}:{fault}", file=sys.stderr)
     count = len(found.faults)

@@ -1,14 +1,23 @@
 """Starts the search through orders, listens to it, and ends it in time."""
+import argparse
+import contextlib
 import io
 import os
+import signal
 import sys
-from typing import Sequence
+from typing import Iterator, List, NoReturn, Sequence
 
 from rdbg import output, program_help, whole_file
 from rdbg.ending import ENDING
 from rdbg.failure import Failure
+from rdbg.files.definitions import definition
+from rdbg.files.source import LINES, Source, load
+from rdbg.goals.reading import NoGoal
+from rdbg.goals.words import for_search
+from rdbg.goals.scope import Scope
 from rdbg.reaching import answer, running
-from rdbg.reaching.words import Words, read
+from rdbg.reaching.handlers import handlers
+from rdbg.reaching.words import DEFINE, OUTPUT, PROGRESS, WITHIN, Words, read
 
 SUMMARY = "answers whether some order of moves comes to a goal; that none does is a theorem"
 # What names the program.
@@ -59,6 +68,74 @@ def say(asked: Words, outcome: running.Outcome) -> int:
     return outcome.status
 
 
+def source_of(asked: Words, file: str) -> Source:
+    """The application's file, of which the consts that are asked for are these numbers. Raises
+    `Failure` where it can't be read, or has no such const."""
+    try:
+        return load(file, dict(map(definition, asked.consts)))
+    except argparse.ArgumentTypeError as error:
+        raise Failure(f"{DEFINE}: {error}", answer.UNTOLD) from None
+
+
+def is_in_lines(file: str) -> bool:
+    """Whether an application is a text in lines."""
+    return file.endswith(LINES)
+
+
+@contextlib.contextmanager
+def in_its_words(asked: Words) -> Iterator[List[str]]:
+    """The program's words: a text in lines as JSON, the interrupts that it names, and the goal as the
+    program has it. Raises `Failure` where there is no goal in them. A file that can't be read is the
+    program's to refuse."""
+    file, *goal = (asked.program[at] for at in asked.plain())
+    try:
+        source = source_of(asked, file)
+    except Failure as failure:
+        if asked.consts:
+            raise Failure(str(failure), answer.UNTOLD) from None
+        yield asked.program
+        return
+    if source.application is None:
+        if is_in_lines(file):
+            raise Failure(f"{file}:{source.faults[0]}", answer.UNTOLD)
+        yield asked.program
+        return
+    try:
+        told = for_search(goal, Scope.of(source))[1] if goal else ""
+    except NoGoal as wrong:
+        raise Failure(f"goal: {wrong}", answer.UNTOLD) from None
+    application = source.application
+    named = asked.with_interrupts(lambda texts: handlers(texts, application))
+    with source.as_json() as path:
+        yield named.put(path, told) if goal else named.put_file(path)
+
+
+def become_engine(asked: Words, words: Sequence[str]) -> NoReturn:
+    """Becomes the program, which answers lines where it is asked for no goal: nothing stands between.
+    Raises `Failure` where it can't be started, and where something is asked that goes with a goal.
+    """
+    if asked.output is not None or asked.seconds is not None:
+        raise Failure(f"{OUTPUT} and {WITHIN} go with a goal", 2)
+    found = program()
+    sys.stdout.flush()
+    signal.signal(signal.SIGPIPE, signal.SIG_DFL)
+    try:
+        os.execv(found, [found, *words])
+    except OSError as error:
+        raise Failure(f"cannot start {found}: {error.strerror}", 2) from None
+
+
+def unlinked(asked: Words) -> List[str]:
+    """The words of the program as an engine, whose JSON is in no folder once it has begun."""
+    with in_its_words(asked) as told:
+        made = os.memfd_create("application.json", 0)
+        at = asked.with_program(told).plain()[0]
+        with open(told[at], "rb") as file:
+            os.write(made, file.read())
+        told[at] = f"/proc/self/fd/{made}"
+    return [it for it in told if it != PROGRESS]
+
+
 def main(words: Sequence[str]) -> int:
     """Searches, and says what came of it."""
     if {"-h", "--help"} & {*words}:
@@ -68,9 +145,14 @@ def main(words: Sequence[str]) -> int:
         if isinstance(stream, io.TextIOWrapper):
             stream.reconfigure(errors="backslashreplace")
     asked = read(words)
+    if not asked.has_goal():
+        files = [asked.program[at] for at in asked.plain()]
+        is_made = any(map(is_in_lines, files)) or bool(files and asked.consts)
+        become_engine(asked, unlinked(asked) if is_made else words)
     check_output(asked)
     try:
-        status = say(asked, running.run([program(), *asked.program], asked.seconds))
+        with in_its_words(asked) as told:
+            status = say(asked, running.run([program(), *told], asked.seconds))
         sys.stdout.flush()
         return status
     except OSError as error:

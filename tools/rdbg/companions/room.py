@@ -6,7 +6,9 @@ import sys
 from types import FrameType
 from typing import Optional, Sequence, Tuple
 
-from rdbg.companions.sh import bounded, port, read
+from rdbg.files.definitions import take_definitions
+from rdbg.files.source import accepted
+from rdbg.options import bounded, port
 from rdbg.door import TOKEN, Door
 from rdbg.ending import Terminated
 from rdbg.failure import Failure
@@ -17,8 +19,8 @@ from rdbg.rooms.port import Port, listening
 from rdbg.rooms.room import Room
 from rdbg.rooms.talk import Talk, opened
 from rdbg.rooms.web import Served
-from rdbg.shell.target import Limits
-from rdbg.source import Source
+from rdbg.driving.target import Limits
+from rdbg.files.source import Source
 
 SUMMARY = "a room for several at one target, by names: what anyone does, all are told"
 EPILOG = (
@@ -83,6 +85,7 @@ def parser() -> argparse.ArgumentParser:
     made.add_argument(
         "--history", type=bounded(2), metavar="N", help=f"entries of a history, else {HISTORY}"
     )
+    take_definitions(made)
     return made
 
 
@@ -166,7 +169,7 @@ def main(words: Sequence[str]) -> int:
 
 def open_and_serve(given: argparse.Namespace, ends: contextlib.ExitStack) -> int:
     """Opens a room, and serves it; what is to be done behind it is told to `ends`."""
-    source = read(given.file)
+    source = accepted(given.file, given.consts)
     assert source is not None
     limits = Limits(given.moves or Limits.moves, given.history or HISTORY)
     if limits.history < 4 * given.sessions:

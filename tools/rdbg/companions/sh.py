@@ -6,12 +6,14 @@ import sys
 from typing import Sequence
 
 from rdbg.failure import Failure
-from rdbg.options import bounded as bounded, port as port, read as read
+from rdbg.files.definitions import take_definitions
+from rdbg.files.source import accepted
+from rdbg.options import bounded, port
 from rdbg.shell import prompt
-from rdbg.shell.interrupt import HardInterrupt, Interrupt
-from rdbg.shell.opening import attach, begin, close
+from rdbg.driving.interrupt import HardInterrupt, Interrupt
+from rdbg.driving.opening import attach, begin, close
 from rdbg.shell.shell import Shell
-from rdbg.shell.target import Limits
+from rdbg.driving.target import Limits
 
 SUMMARY = "a prompt: rdbg's lines with history, Tab and help, and what each move did"
 EPILOG = (
@@ -34,6 +36,7 @@ def parser() -> argparse.ArgumentParser:
     made.add_argument("--name", metavar="NAME", help="who one is at `rdbg room`")
     made.add_argument("--moves", type=bounded(1), metavar="N", help="how many moves may be done")
     made.add_argument("--history", type=bounded(2), metavar="N", help="entries of the history")
+    take_definitions(made)
     return made
 
 
@@ -50,7 +53,7 @@ def main(words: Sequence[str]) -> int:
         if isinstance(stream, io.TextIOWrapper):
             stream.reconfigure(errors="backslashreplace")
     limits = Limits(given.moves or Limits.moves, given.history or Limits.history)
-    source = read(given.file or given.app)
+    source = accepted(given.file or given.app, given.consts)
     if given.port is None:
         target = begin(source, limits)
     else:

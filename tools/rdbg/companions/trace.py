@@ -5,7 +5,8 @@ import sys
 from typing import Sequence
 
 from rdbg.failure import Failure
-from rdbg.options import bounded, port, read
+from rdbg.files.definitions import take_definitions
+from rdbg.options import bounded, port
 
 SUMMARY = "says who did what in a run: a row a move, events for a viewer of traces, or a page"
 EPILOG = (
@@ -29,6 +30,11 @@ def parser() -> argparse.ArgumentParser:
         metavar="NAMES",
         help="rows of these tasks, objects and cores: jobs,worker,0; of rows alone",
     )
+    made.add_argument(
+        "--when",
+        metavar="GOAL",
+        help="rows of moves behind which it holds: 'count jobs > 0 and not runs worker'; as above",
+    )
     place = bounded(0)
     made.add_argument("--from", dest="first", type=place, metavar="N", help="from place N on")
     made.add_argument("--to", dest="last", type=place, metavar="N", help="up to place N")
@@ -39,6 +45,7 @@ def parser() -> argparse.ArgumentParser:
         "--page", metavar="OUT.html", help="writes the run as one page of HTML; - as above"
     )
     made.add_argument("--moves", type=bounded(1), metavar="N", help="how many moves may be done")
+    take_definitions(made)
     return made
 
 
@@ -48,9 +55,10 @@ def check_words(given: argparse.Namespace) -> None:
         raise Failure("--port is for the moves that are done there; it takes no COMMANDS", 2)
     if given.port is not None and given.moves is not None:
         raise Failure("--moves is the server's own, where --port attaches to one", 2)
-    if given.only is not None and (given.events or given.page):
-        word = "--events" if given.events else "--page"
-        raise Failure(f"--only is for rows; {word} writes all", 2)
+    for option, value in (("--only", given.only), ("--when", given.when)):
+        if value is not None and (given.events or given.page):
+            word = "--events" if given.events else "--page"
+            raise Failure(f"{option} is for rows; {word} writes all", 2)
     if given.events and given.page:
         raise Failure("--events or --page, one at a time", 2)
     if given.first is not None and given.last is not None and given.first > given.last:
@@ -61,10 +69,12 @@ def main(words: Sequence[str]) -> int:
     """Traces a run, or what is done at a port."""
     given = parser().parse_args(words)
     check_words(given)
-    from rdbg.tracing.command import trace  # (which takes its time; what is said above needs none)
+    # (these take their time; what is said above needs none)
+    from rdbg.files.source import accepted
+    from rdbg.tracing.command import trace
 
     for stream in (sys.stdout, sys.stderr):
         if isinstance(stream, io.TextIOWrapper):
             stream.reconfigure(errors="backslashreplace")
-    trace(given, read(given.file))
+    trace(given, accepted(given.file, given.consts))
     return 0

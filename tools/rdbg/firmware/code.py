@@ -1,14 +1,20 @@
 """The scripts of a text in lines: each instruction as rdbg reads it, with numbers for labels."""
 import dataclasses
 import re
-from typing import Container, Dict, List, Optional, Sequence, Tuple
+from typing import Container, Dict, Iterator, List, Mapping, Optional, Sequence, Tuple, Union
 
+from rdbg.fault import Fault
+from rdbg.firmware import waits
+from rdbg.firmware.blocks import WORDS, Blocks, Mark
+from rdbg.firmware.branches import Test
 from rdbg.firmware.numbers import NAME, Constants, near_to
 from rdbg.firmware.operands import Operand, Operands, as_written, made
+from rdbg.firmware.semaphores import Semaphore, why_not
+from rdbg.firmware.spare import Spare, Uses
 from rdbg.firmware.tokens import Refusal, Stop, Token, shown, written
 from rdbg.instructions import FORM_OF
-from rdbg.tree import Node, Place, Places
-from rdbg.checking.wording import quoted
+from rdbg.tree import Node, Part, Place, Places
+from rdbg.wording import quoted
 
 # So many instructions of a script are read; fewer are too many already.
 MOST_READ = 1000
@@ -34,6 +40,11 @@ class Draft:
 
     parts: Tuple[Operand, ...]
     tokens: Tuple[Token, ...]
+    length = 1
+
+    def uses(self, uses: Uses) -> None:
+        """Takes note of what it uses."""
+        uses.add([part.text for part in self.parts])
 
     def needs_label(self, labels: Container[str]) -> bool:
         """Whether the instruction jumps, and where its label should be there is none: then another
@@ -59,12 +70,85 @@ def label_out_of_place(part: Operand, line: int) -> Optional[Token]:
     return Token(part.text, Place(line, part.columns[0])) if is_name else None
 
 
+@dataclasses.dataclass(frozen=True)
+class Several:
+    """A line that becomes instructions, which are written as in `rdbg.firmware.branches`. They jump
+    to `target`, if anywhere; `note` is said behind the line, and `cost` of it."""
+
+    tokens: Tuple[Token, ...]
+    texts: Tuple[str, ...]
+    target: Union[None, Token, Mark] = None
+    note: str = ""
+    cost: str = ""
+
+    @property
+    def length(self) -> int:
+        """How many instructions it becomes."""
+        return len(self.texts)
+
+    def uses(self, uses: Uses) -> None:
+        """Takes note of what it uses, beside what the task doesn't."""
+        for text in self.texts:
+            uses.add(text.split(" "))
+
+    @property
+    def needs_entry(self) -> bool:
+        """Whether it needs a notification entry."""
+        return any("{entry}" in text for text in self.texts)
+
+    @property
+    def needs_ending(self) -> bool:
+        """Whether it needs one at which an interrupt ends a wait."""
+        return any("{ending}" in text for text in self.texts)
+
+    def lacks(self, spare: Spare) -> str:
+        """What there is none of that it needs; empty where there is all."""
+        texts = " ".join(self.texts)
+        if "{spare}" in texts and spare.register is None:
+            return "a register that its task doesn't use, and all of r1 to r7 are used"
+        if (self.needs_entry and spare.entry is None) or (
+            self.needs_ending and spare.ending is None
+        ):
+            return (
+                "a notification entry that its task doesn't use: notes N gives each task N of them"
+            )
+        return ""
+
+    def nodes(self, own: str, spare: Spare, at: int, target: int) -> List[Node]:
+        """The instructions, the first of which has this number, of a task of this name."""
+        here = range(at, at + self.length + 1)
+        found: List[Node] = []
+        for index, text in enumerate(self.texts):
+            made = text.format(
+                own=own,
+                spare=spare.register,
+                entry=spare.entry,
+                ending=spare.ending,
+                target=target,
+                here=here,
+            )
+            place = self.tokens[0].place
+            places = Places(place.line, [place.column] * len(made))
+            part = Part(index, self.length, self.note, self.cost)
+            found.append(Node(made, place, places, written(self.tokens), (), part))
+        return found
+
+
+Line = Union[Draft, Several]
+
+
 class Script:
     """The script of a task, read line by line; what it refuses is kept in `refusals`."""
 
     def __init__(self, task: str, constants: Constants, refusals: List[Refusal]) -> None:
-        self.task, self._constants, self._refusals = task, constants, refusals
-        self._drafts: List[Draft] = []
+        self.task, self.constants, self.refusals = task, constants, refusals
+        self.length = 0
+        self.blocks = Blocks(self)
+        self.semaphores: Mapping[str, Semaphore] = {}
+        # (each line with the number of its first instruction)
+        self._lines: List[Tuple[int, Line]] = []
+        self._numbered: List[List[Operand]] = []
+        self._targets: List[int] = []
         self._labels: Dict[str, Tuple[Token, int]] = {}
 
     def label(self, token: Token) -> None:
@@ -76,37 +160,84 @@ class Script:
             line = self._labels[token.text][0].place.line
             message = f"{self.task}: label {shown(token.text)} stands in line {line} already"
             raise Refusal(token.place, message)
-        self._labels[token.text] = token, len(self._drafts)
+        self._labels[token.text] = token, self.length
+
+    def refuse(self, token: Token, message: str) -> None:
+        """Keeps what is refused of a line."""
+        self.refusals.append(Refusal(token.place, f"{self.task}: {message}"))
+
+    def _add(self, line: Line) -> None:
+        """Keeps a line. Raises `Stop` where there are far too many instructions."""
+        if self.length >= MOST_READ:
+            message = f"{self.task} has {MOST_READ} instructions up to here; the rest isn't read"
+            raise Stop(line.tokens[0].place, message, "L3 Limit")
+        self._lines.append((self.length, line))
+        self.length += line.length
+
+    def jump(self, tokens: Sequence[Token], test: Test, target: Union[Token, Mark]) -> None:
+        """A line that jumps where a test is met."""
+        made = test.jump()
+        self._jump(Several(tuple(tokens), made.texts, target, "", made.cost()))
+
+    def made(self, tokens: Sequence[Token], text: str) -> None:
+        """A line that is one instruction, which is written otherwise."""
+        self._add(Several(tuple(tokens), (text,), cost="1 move"))
+
+    def wait(self, tokens: Sequence[Token]) -> None:
+        """A line that waits. Raises `Refusal` where it is wrong."""
+        texts, cost = waits.texts_of(tokens, self.constants, self.refusals)
+        self._add(Several(tuple(tokens), texts, cost=cost))
+
+    @property
+    def has_waits(self) -> bool:
+        """Whether some line waits at an entry that an interrupt may end."""
+        return any(isinstance(it, Several) and it.needs_ending for _, it in self._lines)
+
+    def fillers(self, queue: str) -> Iterator[Token]:
+        """The lines that put something into a queue."""
+        for _, line in self._lines:
+            if isinstance(line, Draft) and [it.text for it in line.parts[1:2]] == [queue]:
+                yield from [line.tokens[0]] if line.tokens[0].text in waits.FILLS else []
+
+    def plain_jump(self, tokens: Sequence[Token], target: Mark, note: str = "") -> None:
+        """A line that jumps."""
+        self._jump(Several(tuple(tokens), ("jump {target}",), target, note, "1 move"))
+
+    def _jump(self, line: Several) -> None:
+        if isinstance(line.target, Mark):
+            line.target.is_used = True
+        self._add(line)
 
     def instruction(self, tokens: Sequence[Token]) -> None:
         """Reads an instruction. Of one that is refused its word is kept, so that it counts. Raises
         `Stop` where there are far too many."""
-        if len(self._drafts) == MOST_READ:
-            message = f"{self.task} has {MOST_READ} instructions up to here; the rest isn't read"
-            raise Stop(tokens[0].place, message, "L3 Limit")
         parts = [as_written(tokens[0])]
         found: List[Refusal] = []
         try:
             parts += self._operands(tokens, found)
         except Refusal as refusal:
             found.append(refusal)
-        self._drafts.append(Draft(tuple(parts), tuple(tokens)))
-        self._refusals += [self._told(refusal, len(self._drafts) - 1) for refusal in found]
+        index = self.length
+        why = why_not(tokens[0].text, parts[1].text, self.semaphores) if parts[1:] else ""
+        if why:
+            found.append(Refusal(tokens[0].place, why))
+        self._add(Draft(tuple(parts), tuple(tokens)))
+        self.refusals += [self._told(refusal, index, tokens) for refusal in found]
 
     def placeholder(self, tokens: Sequence[Token]) -> None:
         """Keeps the place of an instruction that is refused."""
-        self._drafts.append(Draft((as_written(tokens[0]),), tuple(tokens)))
+        self._add(Draft((as_written(tokens[0]),), tuple(tokens)))
 
-    def _told(self, refusal: Refusal, index: int) -> Refusal:
+    def _told(self, refusal: Refusal, index: int, tokens: Sequence[Token]) -> Refusal:
         """What is refused of an instruction, with the words that say of which one."""
-        text = quoted(written(self._drafts[index].tokens))
+        text = quoted(written(tokens))
         message = f"{self.task}, instruction {index}: {text}: {refusal.message}"
         return Refusal(refusal.place, message, refusal.kind)
 
     def _operands(self, tokens: Sequence[Token], found: List[Refusal]) -> List[Operand]:
         """The operands of an instruction; what is too much as it is written."""
         symbols = FORM_OF[tokens[0].text].symbols
-        reader = Operands(without_parentheses(tokens[1:]), self._constants, found)
+        reader = Operands(without_parentheses(tokens[1:]), self.constants, found)
         operands: List[Operand] = []
         while reader.next() is not None:
             at, count = reader.at, len(operands)
@@ -115,26 +246,91 @@ class Script:
             operands.append(dataclasses.replace(read, spelled=spelled))
         return operands
 
-    def nodes(self) -> Tuple[Node, ...]:
-        """The instructions, when all are read."""
-        for token, at in self._labels.values():
-            if at == len(self._drafts):
-                message = f"{self.task}: no instruction stands behind label {shown(token.text)}"
-                self._refusals.append(Refusal(token.place, message))
-        return tuple(
-            draft.node(self._numbered(draft, index)) for index, draft in enumerate(self._drafts)
-        )
+    def lines(self) -> List[int]:
+        """The numbers of its lines."""
+        return [line.tokens[0].place.line for _, line in self._lines]
 
-    def _numbered(self, draft: Draft, index: int) -> List[Operand]:
+    def labels(self) -> Dict[str, int]:
+        """The number of the instruction behind each label."""
+        return {name: number for name, (_, number) in self._labels.items()}
+
+    def uses(self) -> Uses:
+        """What its lines use."""
+        found = Uses()
+        for _, line in self._lines:
+            line.uses(found)
+        return found
+
+    def close(self) -> None:
+        """Refuses what is wrong of it, once all its lines are read."""
+        self.blocks.close_all()
+        for token, at in self._labels.values():
+            if at == self.length:
+                message = f"{self.task}: no instruction stands behind label {shown(token.text)}"
+                self.refusals.append(Refusal(token.place, message))
+        # (each instruction with numbers for labels)
+        self._numbered = [
+            self._with_numbers(line, at) if isinstance(line, Draft) else []
+            for at, line in self._lines
+        ]
+        self._targets = [
+            self._target_of(line, at) if isinstance(line, Several) else 0
+            for at, line in self._lines
+        ]
+
+    def check_spare(self, spare: Spare) -> None:
+        """Refuses lines that need what their task has none of."""
+        for at, line in self._lines:
+            lacks = line.lacks(spare) if isinstance(line, Several) else ""
+            if lacks:
+                refusal = Refusal(line.tokens[0].place, f"it needs {lacks}")
+                self.refusals.append(self._told(refusal, at, line.tokens))
+
+    def remarks(self, spare: Spare, names: Sequence[str]) -> Iterator[Fault]:
+        """What there is to say of lines that look at bits, and of waits whose end is chosen, of tasks
+        of these names."""
+        for _, line in self._lines:
+            if isinstance(line, Several) and line.needs_ending:
+                ends = [f"{name}{waits.NAME_END}" for name in names]
+                yield Fault(line.tokens[0].place, "", waits.remark(line.cost, ends))
+            if isinstance(line, Several) and line.needs_entry:
+                by = f"entry {spare.entry} and {spare.register}"
+                text = f"note: {line.cost}, by {by}; r0 is another in between, and then as before"
+                yield Fault(line.tokens[0].place, "", text)
+
+    def nodes(self, own: str, spare: Spare) -> Tuple[Node, ...]:
+        """The instructions of a task of this name, when the script is closed."""
+        found: List[Node] = []
+        for (at, line), parts, target in zip(self._lines, self._numbered, self._targets):
+            if isinstance(line, Draft):
+                found.append(line.node(parts))
+            else:
+                found += line.nodes(own, spare, at, target)
+        return tuple(found)
+
+    def _target_of(self, line: Several, index: int) -> int:
+        """The number of the instruction that a line jumps to."""
+        if line.target is None:
+            return 0
+        if isinstance(line.target, Mark):
+            # (what is refused of its block is told there)
+            return min(line.target.at or 0, self.length - 1)
+        part = self._target(as_written(line.target), line.target, index, line.tokens)
+        return int(part.text) if part.text.isdigit() else 0
+
+    def _with_numbers(self, draft: Draft, index: int) -> List[Operand]:
         """The parts of an instruction, with the number of an instruction in place of a label."""
         first, *operands = draft.parts
-        if draft.tokens[0].text not in FORM_OF or not draft.needs_label(self._labels):
-            return [first, *(self._target(part, part.label, index) for part in operands)]
-        line = draft.tokens[0].place.line
-        labels = [label_out_of_place(part, line) for part in operands]
-        return [first, *(self._target(*pair, index) for pair in zip(operands, labels))]
+        labels = [part.label for part in operands]
+        if draft.tokens[0].text in FORM_OF and draft.needs_label(self._labels):
+            line = draft.tokens[0].place.line
+            labels = [label_out_of_place(part, line) for part in operands]
+        pairs = zip(operands, labels)
+        return [first, *(self._target(part, it, index, draft.tokens) for part, it in pairs)]
 
-    def _target(self, part: Operand, label: Optional[Token], index: int) -> Operand:
+    def _target(
+        self, part: Operand, label: Optional[Token], index: int, tokens: Sequence[Token]
+    ) -> Operand:
         """A part of an instruction, where it is a label as the number of its instruction."""
         if label is None:
             return part
@@ -142,6 +338,8 @@ class Script:
         if name in self._labels:
             number = made(str(self._labels[name][1]), label.place)
             return dataclasses.replace(number, spelled=name)
-        message = f"there is no label {shown(name)}{near_to(name, self._labels)}"
-        self._refusals.append(self._told(Refusal(label.place, message, "L5 Instr"), index))
+        near = near_to(name, self._labels)
+        hint = f"; a label has a colon: {name}:" if name in WORDS else near
+        message = f"there is no label {shown(name)}{hint}"
+        self.refusals.append(self._told(Refusal(label.place, message, "L5 Instr"), index, tokens))
         return part

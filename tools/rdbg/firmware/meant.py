@@ -4,23 +4,38 @@ Such a line is refused. The names that it gives are kept all the same, so that t
 them aren't refused as well.
 """
 import re
-from typing import Dict, Optional, Sequence, Set, Tuple
+from typing import Container, Dict, Iterator, Optional, Sequence, Set, Tuple
 
+from rdbg.firmware import blocks
 from rdbg.firmware.numbers import LONGEST, NAME, near_to
 from rdbg.firmware.objects import OBJECTS, SETTINGS, form_of
+from rdbg.firmware.semaphores import FORMS, GIVE, MUTEX, Semaphore
 from rdbg.firmware.tokens import Token, shown
 from rdbg.checking.freertos import called, sentence
 from rdbg.instructions import FORM_OF
 from rdbg.near import nearest
-from rdbg.checking.reading import NO_BRACES
 from rdbg.checking.statements import statement
 
-FIRST_WORDS = (*FORM_OF, *OBJECTS, *SETTINGS, "const")
-SEMAPHORE = "a queue stands for it (docs/FROM_C.md): queue NAME length 1 item 1"
+FIRST_WORDS = (
+    *FORM_OF,
+    *OBJECTS,
+    *SETTINGS,
+    *blocks.WORDS,
+    *FORMS,
+    GIVE,
+    "interrupt",
+    "wait",
+    "const",
+)
+BLOCKS_ARE = "loop, while and if end with end"
+SEMAPHORE = "it is written semaphore NAME length N given, or mutex NAME"
 # How that is written which FreeRTOS calls otherwise.
 CALLS = {
     **{shape.freertos: form_of(word) for word, shape in OBJECTS.items()},
     **{key.freertos: form_of(word) for word, key in SETTINGS.items()},
+    "xSemaphoreCreateBinary": "semaphore NAME",
+    "xSemaphoreCreateCounting": "semaphore NAME length N, with given where it is full at the start",
+    "xSemaphoreCreateMutex": "mutex NAME",
 }
 CREATED = {shape.freertos: word for word, shape in OBJECTS.items()}
 # What things are called elsewhere, in small letters, and the word of their line.
@@ -44,7 +59,7 @@ OTHER_WORDS: Dict[str, str] = {
     "eventgrouphandle_t": "group",
     "taskhandle_t": "task",
 }
-SEMAPHORES = ("semaphore", "sem", "mutex", "lock", "semaphorehandle_t")
+SEMAPHORES = ("semaphores", "sem", "mutexes", "lock", "semaphorehandle_t")
 CONSTANTS = ("constant", "constexpr", "define", "static", "enum", "let", "cosnt", "conts", "cnst")
 TYPES = re.compile(r"const|static|constexpr|unsigned|long|short|int|char|size_t|u?int[0-9]+_t")
 STORAGE = re.compile("static|const|extern|volatile")
@@ -87,11 +102,23 @@ def object_of(tokens: Sequence[Token]) -> Tuple[str, Optional[Token]]:
                 name = next((token for token in tokens[at + 1 :] if token.is_word()), None)
             return (CREATED[word], name) if name else ("", None)
     small = words[0].lower()
-    meant = "queue" if small in SEMAPHORES else OTHER_WORDS.get(small)
+    meant = MUTEX if small in SEMAPHORES else OTHER_WORDS.get(small)
     meant = meant or near_object(small, words[2:])
     name = tokens[1] if len(tokens) > 1 and tokens[1].is_word() else None
     is_set = meant == "set" and not any(token.text == "length" for token in tokens)
-    return (meant, name) if name and meant in OBJECTS and not is_set else ("", None)
+    is_object = meant in OBJECTS or meant == MUTEX
+    return (meant or "", name) if name and is_object and not is_set else ("", None)
+
+
+def semaphores_of(
+    lines: Sequence[Sequence[Token]], known: Container[str]
+) -> Iterator[Tuple[str, Semaphore]]:
+    """Those that lines were meant to give, by their names, beside those that are known."""
+    for tokens in lines:
+        small = tokens[0].text.lower()
+        word, name = object_of(tokens) if small in SEMAPHORES else ("", None)
+        if name is not None and word == MUTEX and name.text not in known:
+            yield name.text, Semaphore(tokens[0], name.text, 1, True)
 
 
 def near_object(word: str, others: Sequence[str]) -> str:
@@ -133,7 +160,7 @@ def message_of(tokens: Sequence[Token], targets: Set[str]) -> str:
     if said:
         return said
     if BRACES.fullmatch(word):
-        return NO_BRACES
+        return f"there are no braces: {BLOCKS_ARE}"
     if len(tokens) > 1 and VARIABLES.fullmatch(word) and word.lower() not in OTHER_WORDS:
         return f"no line begins with {shown(word)}: {NO_VARIABLES}"
     if len(tokens) > 1 and NAME.fullmatch(word) and ASSIGNS.fullmatch(tokens[1].text):

@@ -1,6 +1,6 @@
 """Numbers of a text in lines: decimal or hexadecimal, by name, shifted by `<<`, joined by `|`."""
 import re
-from typing import Dict, Iterable, List, Optional, Sequence, Set
+from typing import Dict, Iterable, List, Mapping, Optional, Sequence, Set
 
 from rdbg.firmware.tokens import Refusal, Token, shown
 from rdbg.near import nearest
@@ -56,10 +56,14 @@ def value_of(place: Place, text: str) -> Optional[int]:
 
 class Constants:
     """The numbers that have a name. Where a number is refused, what is wrong with it as its name
-    stands for it in other lines (`doubtful`) only stems from that."""
+    stands for it in other lines (`doubtful`) only stems from that. Those that are `given` stand for
+    consts of the text with the same names, or for ones that it doesn't have."""
 
-    def __init__(self) -> None:
-        self.values: Dict[str, int] = {FOREVER: LARGEST}
+    def __init__(self, given: Optional[Mapping[str, int]] = None) -> None:
+        self.given = dict(given or {})
+        self.values: Dict[str, int] = {FOREVER: LARGEST, **self.given}
+        # (those that were given of which no line has anything)
+        self.idle: Set[str] = {*self.given}
         self.named: Dict[str, Token] = {}
         self.doubtful: Set[int] = set()
         self._refused: Set[str] = set()
@@ -76,14 +80,18 @@ class Constants:
         if name.text in self.named:
             line = self.named[name.text].place.line
             raise Refusal(name.place, f"const {shown(name.text)} stands in line {line} already")
-        if name.text in self.values or RESERVED.fullmatch(name.text):
+        is_given = name.text in self.given
+        if (name.text in self.values and not is_given) or RESERVED.fullmatch(name.text):
             raise Refusal(name.place, f"{name.text} has a meaning already")
-        self.values[name.text], self.named[name.text] = value, name
+        self.idle.discard(name.text)
+        self.values[name.text] = self.given.get(name.text, value)
+        self.named[name.text] = name
 
     def value(self, token: Token) -> Optional[int]:
         """The number that a word stands for; none where it names none."""
         if token.text in self._refused:
             self.doubtful.add(token.place.line)
+        self.idle.discard(token.text)
         return self.values.get(token.text)
 
     def near(self, word: str) -> str:
@@ -115,12 +123,13 @@ class Numbers:
 
     def number(self, depth: int = 0) -> int:
         """The next number."""
-        value = self._shifted(depth)
+        value = self.shifted(depth)
         while self.is_next("|"):
-            value |= self._shifted(depth)
+            value |= self.shifted(depth)
         return value
 
-    def _shifted(self, depth: int) -> int:
+    def shifted(self, depth: int = 0) -> int:
+        """The next number up to a `|`."""
         first = self.next()
         value = self._single(depth)
         while self.is_next("<<"):

@@ -1,5 +1,7 @@
 """The lines of a text in lines that aren't instructions: what each says of the application."""
-from typing import Dict, List, Sequence
+import dataclasses
+import re
+from typing import Dict, List, Optional, Sequence
 
 from rdbg.digits import is_digits
 from rdbg.firmware.numbers import NAME, Constants, Numbers
@@ -10,6 +12,9 @@ from rdbg.tree import Member, Node, Number, Places
 # By the first word of a line: the keys of a file that are numbers, and those that are lists.
 SETTINGS: Dict[str, Key] = {key.name: key for key in FILE.keys if key.of is None}
 OBJECTS: Dict[str, Shape] = {key.name[:-1]: key.of for key in FILE.keys if key.of is not None}
+# Several tasks with one script, and how many there may be.
+SEVERAL = re.compile(r"([^\[\]]+)\[([^\[\]]+)\]")
+MOST_TASKS = 32
 # How a line says what a key holds.
 WRITTEN = {"name": "NAME", "number": "{} N", "members": "{} Q .."}
 
@@ -62,6 +67,8 @@ class ObjectLine:
         self._reader.at = 1
         self._refusals = refusals
         self.members: List[Member] = []
+        # How many tasks have the script, where they are several.
+        self.count: Optional[int] = None
 
     def read(self) -> None:
         """Reads all of it, as far as it can be read."""
@@ -82,7 +89,26 @@ class ObjectLine:
             self._refusals.append(Refusal(token.place, lacks))
             return
         self._reader.at += 1
+        if self._word.text == "task":
+            token = self._without_count(token)
         self.members.append(Member("name", token.place, name_node(token)))
+
+    def _without_count(self, token: Token) -> Token:
+        """The name of a task; that of several, `worker[3]`, without how many they are."""
+        found = SEVERAL.fullmatch(token.text)
+        if not found:
+            return token
+        at = token.place_of(found.start(2))
+        behind = Numbers([Token(found[2], at)], self._reader.constants, self._refusals)
+        known = len(self._refusals)
+        self.count = behind.number()
+        if len(self._refusals) > known:
+            self.count = 1
+        elif not 1 <= self.count <= MOST_TASKS:
+            message = f"{self.count} tasks can't have one script: 1 to {MOST_TASKS} can"
+            self._refusals.append(Refusal(at, message))
+            self.count = 1
+        return dataclasses.replace(token, text=found[1])
 
     def _key(self) -> None:
         token = self._reader.next()

@@ -14,6 +14,7 @@ ODD = re.compile(r"(?:0[xX])?[0-9a-fA-F]+")
 CHARACTER = re.compile(r"\\x([0-9a-fA-F]{2})|\\([nrt0\\\"])|[^\\]", re.DOTALL)
 BYTES_ARE = "they are written as hexadecimal digits, two a byte, or as a text in double quotes"
 ESCAPES = {"n": "\n", "r": "\r", "t": "\t", "0": "\0", "\\": "\\", '"': '"'}
+ONE_OF_SEVERAL = re.compile(r"([a-z][a-z0-9_]*)\[([A-Za-z0-9_]+)\]")
 # The kinds of operands that are numbers, or can be.
 NUMBERS = ("N", "V", "T", "I", "ROOM")
 JOINING = ("|", "<<")
@@ -88,6 +89,17 @@ class Operands(Numbers):
             return True
         is_meant = word != word.lower() or self.constants.near(word) != ""
         return not is_meant or slip(symbol, word, NOTHING_NAMED) != ""
+
+    def task(self) -> Operand:
+        """The next name of a task; that of one of several is `worker[1]`."""
+        token = self.tokens[self.at]
+        found = ONE_OF_SEVERAL.fullmatch(token.text)
+        if not found:
+            return self.whatever() if token.text in self.constants.values else self.word()
+        at = token.place_of(found.start(2))
+        number = Numbers([Token(found[2], at)], self.constants, self.refusals).number()
+        self.at += 1
+        return made(f"{found[1]}{number}", token.place)
 
     def word(self) -> Operand:
         """The next word, as it is written."""
@@ -172,4 +184,5 @@ READERS: Dict[str, Callable[[Operands], Operand]] = {
     "ROOM": Operands.value,
     "L": Operands.target,
     "HEX": Operands.data,
+    "K": Operands.task,
 }

@@ -5,14 +5,19 @@ found in the tree, as in that of a JSON (`rdbg.checking.faults`).
 """
 import dataclasses
 import re
-from typing import Dict, List, Optional, Sequence, Set, Tuple
+from typing import Dict, List, Mapping, NamedTuple, Optional, Sequence, Set, Tuple
 
-from rdbg.checking.faults import Fault, faults_of
-from rdbg.firmware import meant
-from rdbg.firmware.code import MOST_READ, Script
-from rdbg.firmware.numbers import Constants, Numbers
+from rdbg.fault import Fault
+from rdbg.checking.faults import faults_of
+from rdbg.failure import Failure
+from rdbg.application import Interrupt
+from rdbg.firmware import blocks, interrupts, meant, semaphores, waits
+from rdbg.firmware.code import MOST_READ, Script, without_parentheses
+from rdbg.firmware.numbers import Constants, Numbers, near_to
 from rdbg.firmware.objects import OBJECTS, SETTINGS, ObjectLine, ended, form_of, number_of
-from rdbg.firmware.tokens import MOST_TOKENS, Refusal, Scanner, Stop, Token, decoded, shown
+from rdbg.firmware.spare import Spare, Uses, spare
+from rdbg.firmware.things import Thing
+from rdbg.firmware.tokens import MOST_TOKENS, Refusal, Scanner, Stop, Token, decoded, shown, written
 from rdbg.instructions import FORM_OF
 from rdbg.shapes import FILE
 from rdbg.tree import Member, Node, Number, Object, Place
@@ -23,6 +28,7 @@ MOST_REFUSALS = 500
 CONST = ("const", "#define")
 SET_KEYS = ("length", "members")
 TOP = Place(1, 1)
+NOTHING = Spare(None, None)
 
 
 def is_const(tokens: Sequence[Token]) -> bool:
@@ -36,33 +42,22 @@ def is_label(tokens: Sequence[Token]) -> bool:
     return words[1:] == [":"] and words[0] not in OBJECTS and words[0] not in SETTINGS
 
 
-@dataclasses.dataclass(frozen=True)
-class Thing:
-    """An object or a task: its first word, its keys with their values, and a task's script."""
-
-    word: Token
-    members: Tuple[Member, ...]
-    script: Optional[Script] = None
-
-    def name(self) -> str:
-        """Its name; empty where there is none."""
-        return next((str(it.node.value) for it in self.members if it.key == "name"), "")
-
-    def node(self) -> Node:
-        """The thing as a part of the tree."""
-        members = self.members
-        if self.script is not None:
-            code = Node(self.script.nodes(), self.word.place)
-            members = (*members, Member("code", self.word.place, code))
-        return Node(Object(members), self.word.place)
-
-
 class Reader:
     """Reads a text line by line. What is refused of it is kept in `refusals`."""
 
-    def __init__(self) -> None:
+    def __init__(self, given: Mapping[str, int]) -> None:
         self.refusals: List[Refusal] = []
-        self._constants = Constants()
+        self.remarks: List[Fault] = []
+        # What lines of objects become that are written as others, in words.
+        self.made: List[Tuple[int, str]] = []
+        self.comments: Dict[int, str] = {}
+        self.constants = Constants(given)
+        self._semaphores: Dict[str, semaphores.Semaphore] = {}
+        self._interrupts: List[interrupts.Read] = []
+        self._refused_interrupts: List[str] = []
+        # (those that end waits; and the first line that needs a queue that nobody fills)
+        self._endings: List[Interrupt] = []
+        self._waits: Optional[Token] = None
         self._numbers: Dict[str, Member] = {}
         self._things: Dict[str, List[Thing]] = {word: [] for word in OBJECTS}
         self._script: Optional[Script] = None
@@ -73,7 +68,7 @@ class Reader:
     @property
     def doubtful(self) -> Set[int]:
         """The lines with a number that is refused where it has its name."""
-        return self._constants.doubtful
+        return self.constants.doubtful
 
     def read(self, text: str) -> Optional[Node]:
         """The tree of a text, as far as it can be read; none where the rest of it isn't read. The
@@ -81,18 +76,29 @@ class Reader:
         try:
             lines = self._lines(text)
             self._targets = meant.jumped_to(lines)
-            for tokens in sorted(lines, key=lambda tokens: not is_const(tokens)):
+            consts = [tokens for tokens in lines if is_const(tokens)]
+            for tokens in consts:
                 self._try(tokens)
+            self._semaphores = semaphores.named(lines, self.constants)
+            self._semaphores.update(meant.semaphores_of(lines, self._semaphores))
+            for tokens in lines:
+                if not is_const(tokens):
+                    self._try(tokens)
         except Stop as stop:
             self.refusals.append(stop)
             return None
         self._check_constants()
+        self._check_sets()
+        self._check_never()
+        self._check_interrupts()
         return self._tree()
 
     def _lines(self, text: str) -> List[List[Token]]:
         """The lines that have words."""
         found: List[List[Token]] = []
-        for tokens in Scanner(text, self.refusals).lines():
+        scanner = Scanner(text, self.refusals)
+        self.comments = scanner.comments
+        for tokens in scanner.lines():
             if tokens:
                 found.append(tokens)
             if len(found) > MOST_LINES:
@@ -148,6 +154,11 @@ class Reader:
     def _said(self, tokens: Sequence[Token]) -> None:
         """Reads a line without labels. Of one that is no instruction the first fault counts."""
         word, known = tokens[0].text, len(self.refusals)
+        if self._is_of_block(tokens) or self._is_of_semaphore(tokens):
+            return
+        if waits.is_line(tokens):
+            self._wait(tokens)
+            return
         if word in FORM_OF and not (word == "set" and self._is_queue_set(tokens)):
             self._script_of(tokens[0]).instruction(tokens)
             return
@@ -159,6 +170,81 @@ class Reader:
             self.refusals.append(refusal)
         del self.refusals[known + 1 :]
 
+    def _is_of_block(self, tokens: Sequence[Token]) -> bool:
+        """Whether a line is of a block of a script; then it is read, and `end task` is no such."""
+        if tokens[0].text in blocks.WORDS:
+            return self._script_of(tokens[0]).blocks.reads(tokens)
+        return self._script is not None and self._script.blocks.reads(tokens)
+
+    def _is_of_semaphore(self, tokens: Sequence[Token]) -> bool:
+        """Whether a line takes, gives or counts a semaphore; then it is read."""
+        word = tokens[0]
+        if word.text not in (semaphores.TAKE, semaphores.GIVE, semaphores.COUNT):
+            return False
+        plain = [word, *without_parentheses(tokens[1:])]
+        known, constants = self._semaphores, self.constants
+        try:
+            text = semaphores.instruction(plain, known, constants, self.refusals)
+        except Refusal:
+            self._script_of(word).placeholder(tokens)
+            raise
+        if text is not None:
+            self._script_of(word).made(tokens, text)
+        return text is not None
+
+    def _wait(self, tokens: Sequence[Token]) -> None:
+        """A line that waits."""
+        script = self._script_of(tokens[0])
+        plain = [tokens[0], *without_parentheses(tokens[1:])]
+        self._waits = self._waits or tokens[0]
+        try:
+            script.wait(plain)
+        except Refusal:
+            script.placeholder(tokens)
+            raise
+
+    def _check_never(self) -> None:
+        """Makes the queue from which waits receive, where there is none, and refuses what fills it."""
+        if self._waits is None:
+            return
+        named = [it for it in self._things["queue"] if it.name() == waits.NEVER]
+        if not named:
+            place = self._waits.place
+            one = Node(Number("1"), place)
+            values = (("name", Node(waits.NEVER, place)), ("length", one), ("item", one))
+            members = [Member(key, place, node) for key, node in values]
+            self._things["queue"].append(Thing(self._waits, tuple(members)))
+            made = f"{self._waits.text}: queue {waits.NEVER} length 1 item 1, which nobody fills"
+            self.made.append((place.line, made))
+        tasks = [it.script for it in self._things["task"] if it.script is not None]
+        fillers = [token for script in tasks for token in script.fillers(waits.NEVER)]
+        calls = [call for it in self._interrupts for call in it.calls]
+        fillers += [it.tokens[0] for it in calls if it.words[:2] == ("send", waits.NEVER)]
+        for token in fillers:
+            message = f"queue {waits.NEVER} is what wait receives from, and nothing may fill it"
+            self.refusals.append(Refusal(token.place, message))
+
+    def _semaphore(self, tokens: Sequence[Token]) -> None:
+        """A line of a semaphore or a mutex, which is a queue."""
+        line = semaphores.SemaphoreLine(tokens, self.constants, self.refusals)
+        it = line.read()
+        place = tokens[0].place
+        self.made.append((place.line, f"{written(tokens)}: {it.queue()}"))
+        if it.word.text == semaphores.MUTEX:
+            text = f"note: mutex {it.name} is a queue: {semaphores.NO_INHERITANCE}"
+            self.remarks.append(Fault(place, "", text))
+        self._things["queue"].append(Thing(tokens[0], line.members))
+
+    def _interrupt(self, tokens: Sequence[Token]) -> None:
+        """A line of an interrupt. The name of one that is refused is there all the same."""
+        constants, refusals = self.constants, self.refusals
+        line = interrupts.InterruptLine(tokens, constants, refusals, self._semaphores)
+        try:
+            self._interrupts.append(line.read())
+        except Refusal:
+            self._refused_interrupts += [token.text for token in tokens[1:2]]
+            raise
+
     def _structure(self, tokens: Sequence[Token]) -> None:
         """Reads a line that is no instruction."""
         word = tokens[0].text
@@ -166,6 +252,10 @@ class Reader:
             self._const(tokens)
         elif word in SETTINGS:
             self._number(tokens)
+        elif word in semaphores.FORMS:
+            self._semaphore(tokens)
+        elif word == interrupts.WORD:
+            self._interrupt(tokens)
         elif word in OBJECTS:
             self._thing(tokens)
         else:
@@ -176,7 +266,7 @@ class Reader:
         if self._script is None:
             message = f"{shown(token.text)} stands before any task: {form_of('task')}"
             self.refusals.append(Refusal(token.place, message))
-            self._script = Script("no task", self._constants, [])
+            self._script = Script("no task", self.constants, [])
         return self._script
 
     def _is_queue_set(self, tokens: Sequence[Token]) -> bool:
@@ -191,7 +281,7 @@ class Reader:
             raise Refusal(tokens[0].place, f"{tokens[0].text} NAME N: there is no name")
         if meant.TYPES.fullmatch(tokens[1].text) and meant.as_const(tokens):
             self._unknown(tokens)
-        reader = Numbers(tokens, self._constants, self.refusals)
+        reader = Numbers(tokens, self.constants, self.refusals)
         reader.at = 2
         if reader.is_next("="):
             said = f"{tokens[0].text} {shown(tokens[1].text)} N"
@@ -200,11 +290,11 @@ class Reader:
         is_refused = True
         try:
             value = reader.number()
-            doubtful = tokens[0].place.line in self._constants.doubtful
+            doubtful = tokens[0].place.line in self.constants.doubtful
             is_refused = doubtful or len(self.refusals) > known
             ended(reader)
         finally:
-            self._constants.define(tokens[1], value, is_refused)
+            self.constants.define(tokens[1], value, is_refused)
 
     def _number(self, tokens: Sequence[Token]) -> None:
         """A line for a key of the file that is a number."""
@@ -212,12 +302,12 @@ class Reader:
         if word.text in self._numbers:
             line = self._numbers[word.text].place.line
             raise Refusal(word.place, f"{word.text} stands in line {line} already")
-        node = number_of(tokens, self._constants, self.refusals)
+        node = number_of(tokens, self.constants, self.refusals)
         self._numbers[word.text] = Member(word.text, word.place, node)
 
     def _thing(self, tokens: Sequence[Token]) -> None:
         """A line of an object or of a task."""
-        word, line = tokens[0], ObjectLine(tokens, self._constants, self.refusals)
+        word, line = tokens[0], ObjectLine(tokens, self.constants, self.refusals)
         if len(self._things[word.text]) == MOST_READ:
             what = OBJECTS[word.text].plural
             message = f"there are {MOST_READ} {what} up to here; the rest isn't read"
@@ -226,8 +316,11 @@ class Reader:
         script = None
         if word.text == "task":
             label = f"task {line.name() or 'number ' + str(len(self._things['task']))}"
-            script = self._script = Script(label, self._constants, self.refusals)
-        self._things[word.text].append(Thing(word, tuple(line.members), script))
+            if line.count is not None:
+                label = f"task {line.name()}[{line.count}]"
+            script = self._script = Script(label, self.constants, self.refusals)
+            script.semaphores = self._semaphores
+        self._things[word.text].append(Thing(word, tuple(line.members), script, line.count))
 
     def _unknown(self, tokens: Sequence[Token]) -> None:
         """A line that begins with no word that lines begin with. What it names is there all the
@@ -250,10 +343,15 @@ class Reader:
         elif name is not None:
             first = dataclasses.replace(tokens[0], text=word)
             line = [first, name, *tokens[tokens.index(name) + 1 :]]
+            if word == semaphores.MUTEX:
+                node = Node(name.text, name.place)
+                first = dataclasses.replace(first, text="queue")
+                self._meant.append(Thing(first, (Member("name", name.place, node),)))
+                return
             if word == "task":
                 self._thing(line)
                 return
-            reader = ObjectLine(line, self._constants, [])
+            reader = ObjectLine(line, self.constants, [])
             reader.read()
             self._meant.append(Thing(first, tuple(reader.members)))
         elif meant.is_label(tokens, self._targets) and self._script is not None:
@@ -266,17 +364,102 @@ class Reader:
         for word, things in self._things.items():
             for member in (member for thing in things for member in thing.members):
                 name = member.node.value
-                if member.key == "name" and isinstance(name, str) and name in self._constants.named:
-                    token = self._constants.named[name]
+                if member.key == "name" and isinstance(name, str) and name in self.constants.named:
+                    token = self.constants.named[name]
                     message = f"const {name} has the name of a {word}"
                     self.refusals.append(Refusal(token.place, message))
+
+    def _check_sets(self) -> None:
+        """Refuses semaphores in queue sets that are given at the start."""
+        nodes = [
+            node
+            for thing in self._things["set"]
+            for member in thing.members
+            if member.key == "members" and isinstance(member.node.value, tuple)
+            for node in member.node.value
+        ]
+        for node in nodes:
+            it = self._semaphores.get(str(node.value))
+            if it is not None and it.is_given:
+                self.refusals.append(Refusal(node.place, semaphores.not_in_sets(it)))
+
+    def _check_interrupts(self) -> None:
+        """Refuses interrupts that name what isn't there, and a profile that has none."""
+        things = {word: self._things[word] for word in ("task", "queue")}
+        tasks, queues = (
+            [name for thing in things[word] for name in thing.names()] for word in things
+        )
+        refused = self._refused_interrupts
+        names = interrupts.Names(tasks, queues, self._entries(), refused)
+        for at, it in enumerate(self._interrupts):
+            self.refusals += names.faults(it, self._interrupts[:at])
+        profile = self._numbers.get("profile")
+        is_needed = self._interrupts or self._has_endings()
+        if is_needed and profile is not None and profile.node.value == Number("1"):
+            message = "profile 1 has no interrupts: profile 2 has"
+            self.refusals.append(Refusal(profile.node.place, message))
+
+    def _has_endings(self) -> bool:
+        """Whether some wait may be ended by an interrupt."""
+        scripts = [it.script for it in self._things["task"]]
+        return any(script is not None and script.has_waits for script in scripts)
+
+    def interrupts(self) -> Tuple[Interrupt, ...]:
+        """The interrupts that may come."""
+        return (*(it.interrupt() for it in self._interrupts), *self._endings)
+
+    def several(self) -> Set[int]:
+        """The lines of scripts that several tasks have."""
+        found: Set[int] = set()
+        for thing in self._things["task"]:
+            if thing.count is not None and thing.script is not None:
+                found |= {thing.word.place.line, *thing.script.lines()}
+        return found
+
+    def _spares(self) -> Dict[int, Spare]:
+        """What each task doesn't use; its script is closed."""
+        tasks = [it for it in self._things["task"] if it.script is not None]
+        uses: List[Uses] = []
+        for task in tasks:
+            assert task.script is not None
+            task.script.close()
+            uses.append(task.script.uses())
+        for it in self._interrupts:
+            uses.append(Uses())
+            for call in it.calls:
+                uses[-1].tell(call.words)
+        found: Dict[int, Spare] = {}
+        for task, own in zip(tasks, uses):
+            assert task.script is not None
+            names, has_waits = task.names(), task.script.has_waits
+            free = found[id(task)] = spare(names, own, uses, self._entries(), has_waits)
+            task.script.check_spare(free)
+            self.remarks += task.script.remarks(free, names)
+            if free.ending is not None:
+                self._endings += [waits.interrupt(name, free.ending) for name in names]
+        return found
+
+    def _entries(self) -> int:
+        """How many notification entries each task has."""
+        node = self._numbers["notes"].node.value if "notes" in self._numbers else Number("1")
+        return int(node.text) if isinstance(node, Number) and len(node.text) < 3 else 1
+
+    def named(self) -> "Named":
+        """What is named besides tasks and objects, once all is read."""
+        tasks = self._things["task"]
+        labels = {
+            name: it.script.labels() for it in tasks if it.script is not None for name in it.names()
+        }
+        return Named(self.constants.values, labels)
 
     def _tree(self) -> Node:
         for thing in self._meant:
             others = self._things[thing.word.text]
             if thing.name() not in [other.name() for other in others]:
                 others.append(thing)
-        profile = Member("profile", TOP, Node(Number("1"), TOP))
+        spares = self._spares()
+        number = Number("2" if self._interrupts or self._has_endings() else "1")
+        profile = Member("profile", TOP, Node(number, TOP))
         members: List[Member] = []
         for key in FILE.keys:
             things = self._things.get(key.name[:-1], []) if key.of is not None else []
@@ -284,23 +467,77 @@ class Reader:
                 members.append(self._numbers.get(key.name, profile))
             elif things:
                 place = things[0].word.place
-                nodes = tuple(thing.node() for thing in things)
+                nodes = tuple(
+                    node for it in things for node in it.nodes(spares.get(id(it), NOTHING))
+                )
                 members.append(Member(key.name, place, Node(nodes, place)))
         return Node(Object(tuple(members)), TOP)
 
 
-def read(content: bytes) -> Tuple[Optional[Node], List[Fault]]:
-    """The tree of a text, none where it can't be read to its end, and what is refused of it. Where
-    that is anything, what else is wrong in other lines is among it, but for those with a number that
-    is refused where it has its name. Raises `Failure` where the text is too long."""
-    reader = Reader()
+class Named(NamedTuple):
+    """What a text names besides tasks and objects: numbers, and of each task instructions."""
+
+    constants: Mapping[str, int]
+    labels: Mapping[str, Mapping[str, int]]
+
+
+def named(text: str, given: Mapping[str, int]) -> Named:
+    """What an accepted text names, whose consts of these names are these numbers."""
+    reader = Reader(given)
+    reader.read(text)
+    return reader.named()
+
+
+@dataclasses.dataclass(frozen=True)
+class Text:
+    """What a text says: its tree, none where it can't be read to its end, what is wrong with it, what
+    there is to remark, what lines of objects become, the comments of each line, and the interrupts
+    that may come."""
+
+    root: Optional[Node]
+    faults: Tuple[Fault, ...]
+    remarks: Tuple[Fault, ...] = ()
+    made: Tuple[Tuple[int, str], ...] = ()
+    comments: Mapping[int, str] = dataclasses.field(default_factory=dict)
+    interrupts: Tuple[Interrupt, ...] = ()
+
+
+def read(content: bytes, given: Mapping[str, int]) -> Text:
+    """Reads a text, whose consts of these names are these numbers. Where anything is refused of it,
+    what else is wrong in other lines is among its faults, but for those with a number that is refused
+    where it has its name. Raises `Failure` where the text is too long, or where no line has a const
+    that is given."""
+    reader = Reader(given)
     try:
         root = reader.read(decoded(content))
     except Refusal as refusal:
         reader.refusals.append(refusal)
         root = None
+    check_given(reader)
     faults = [Fault(it.place, it.kind, it.message) for it in reader.refusals]
-    if root is not None and faults:
+    others = [] if root is None else once(faults_of(root), reader.several())
+    if faults:
         lines = reader.doubtful | {fault.place.line for fault in faults}
-        faults += [fault for fault in faults_of(root) if fault.place.line not in lines]
-    return root, sorted(faults, key=lambda fault: fault.place)
+        others = [fault for fault in others if fault.place.line not in lines]
+        others = sorted([*faults, *others], key=lambda fault: fault.place)
+    remarks = sorted(reader.remarks, key=lambda it: it.place)
+    made, may_come = tuple(reader.made), reader.interrupts()
+    return Text(root, tuple(others), tuple(remarks), made, reader.comments, may_come)
+
+
+def check_given(reader: Reader) -> None:
+    """Raises `Failure` where a const is given that no line has."""
+    for name in sorted(reader.constants.idle):
+        near = near_to(name, reader.constants.named)
+        raise Failure(f"-D {name}: no line has a const {name}{near}", 2)
+
+
+def once(faults: Sequence[Fault], several: Set[int]) -> List[Fault]:
+    """Faults without those that lines of several tasks have as often as there are tasks."""
+    found: List[Fault] = []
+    told: Set[Tuple[Place, str]] = set()
+    for fault in faults:
+        if fault.place.line not in several or (fault.place, fault.kind) not in told:
+            found.append(fault)
+        told.add((fault.place, fault.kind))
+    return found

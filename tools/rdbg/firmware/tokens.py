@@ -1,7 +1,7 @@
 """The words of a text in lines, each with its place; comments and the ends of lines are gone."""
 import dataclasses
 import re
-from typing import Iterator, List, Optional, Sequence
+from typing import Dict, Iterator, List, Optional, Sequence
 
 from rdbg.failure import Failure
 from rdbg.tree import Place
@@ -21,6 +21,8 @@ PIECE = re.compile(
     |(?P<token>"(?:\\.|[^"\\])*"?|<<|[()|;:]|(?:(?!<<|//|/\*)[^ \t,"()|;:\#])+)""",
     re.VERBOSE | re.DOTALL,
 )
+# What stands round the words of a comment.
+COMMENT = re.compile(r"^(?:/[/*]+|#+|\*(?!/))|\*/$")
 SIGNS = ("(", ")", "|", "<<", ";", ":")
 CLOSED = re.compile(r'"(?:\\.|[^"\\])*"', re.DOTALL)
 STRANGE = re.compile(r"[^ -~]")
@@ -108,6 +110,8 @@ class Scanner:
 
     def __init__(self, text: str, refusals: List[Refusal]) -> None:
         self._text, self._refusals = text, refusals
+        # The comments of each line that has some, by its number, without the signs of them.
+        self.comments: Dict[int, str] = {}
         # (where a comment was begun by `/*` that isn't closed yet)
         self._comment: Optional[Place] = None
 
@@ -124,7 +128,9 @@ class Scanner:
         at, gap = 0, ""
         while at < len(line) and len(tokens) <= MOST_TOKENS:
             if self._comment is not None:
-                at, gap = self._behind_comment(line, at), " "
+                end = self._behind_comment(line, at)
+                self._keep(number, line[at:end])
+                at, gap = end, " "
                 continue
             found = PIECE.match(line, at)
             assert found is not None, "each character begins a piece"
@@ -137,10 +143,19 @@ class Scanner:
             elif found.lastgroup == "token":
                 tokens.append(Token(found[0], place, gap))
                 gap = ""
-            elif found.lastgroup == "comment" and not tokens:
-                tokens += self._directive(found[0], place)
-                at = found.start() + len(tokens[0].text) if tokens else at
+            elif found.lastgroup == "comment":
+                directive = [] if tokens else self._directive(found[0], place)
+                tokens += directive
+                at = found.start() + len(directive[0].text) if directive else at
+                if not directive:
+                    self._keep(number, found[0])
         return tokens
+
+    def _keep(self, number: int, comment: str) -> None:
+        """Keeps a comment of a line, or the part of one that stands there."""
+        text = COMMENT.sub("", comment.strip()).strip()
+        if text:
+            self.comments[number] = f"{self.comments.get(number, '')} {text}".strip()
 
     def _behind_comment(self, line: str, at: int) -> int:
         """Where the comment ends that is open."""

@@ -1,11 +1,12 @@
 """The text in lines (`.fw`) of an application: what `rdbg.firmware` reads, written to be read."""
-from typing import Any, Callable, Dict, List, Sequence, Set
+from typing import Any, Callable, Dict, Iterator, List, Optional, Sequence, Tuple
 
 from rdbg.application import Application, Instruction, Task
 from rdbg.digits import is_digits
 from rdbg.json_layout import pairs, settings
 from rdbg.firmware.numbers import FOREVER, LARGEST
 from rdbg.firmware.objects import OBJECTS
+from rdbg.firmware.recognized import if_at
 from rdbg.instructions import FORM_OF
 from rdbg.shapes import FILE
 
@@ -67,24 +68,64 @@ def instruction_text(instruction: Instruction) -> str:
     return " ".join(parts)
 
 
-def targets(task: Task) -> Set[int]:
-    """The numbers of the instructions that are jumped to."""
-    found: Set[int] = set()
-    for words in (instruction.words() for instruction in task.code):
+Line = Tuple[int, str, Optional[int]]
+
+
+def lines_of(task: Task, has_ifs: bool) -> List[Line]:
+    """The lines of a script without labels: the number of the first instruction of each, its text,
+    and to which instruction it jumps, if to any. An `if` that became several instructions is one,
+    where that is asked."""
+    code = [it.text for it in task.code]
+    found: List[Line] = []
+    at = 0
+    while at < len(code):
+        several = if_at(code, at, task.name) if has_ifs else None
+        if several is not None:
+            text = several.text(label(str(several.target)))
+            found.append((at, text, several.target))
+            at += several.length
+            continue
+        words = code[at].split(" ")
         symbols = FORM_OF[words[0]].symbols
-        found |= {int(word) for symbol, word in zip(symbols, words[1:]) if symbol == "L"}
+        jumps = [int(word) for symbol, word in zip(symbols, words[1:]) if symbol == "L"]
+        found.append((at, instruction_text(task.code[at]), jumps[0] if jumps else None))
+        at += 1
     return found
 
 
-def task_lines(task: Task) -> List[str]:
-    """The lines of a task."""
-    labelled = targets(task)
-    lines = [f"task {task.name} priority {task.priority}"]
-    for number, instruction in enumerate(task.code):
-        if number in labelled:
-            lines.append(f"{label(str(number))}:")
-        lines.append(INDENT + instruction_text(instruction))
-    return lines
+def script_lines(task: Task, has_ifs: bool) -> List[str]:
+    """The lines of a script, with labels."""
+    lines = lines_of(task, has_ifs)
+    labelled = {target for _, _, target in lines if target is not None}
+    found: List[str] = []
+    for number, text, _ in lines:
+        found += [f"{label(str(number))}:"] if number in labelled else []
+        found.append(INDENT + text)
+    return found
+
+
+def task_blocks(app: Application, is_plain: bool) -> Iterator[List[str]]:
+    """The lines of each task; of several with one script, whose names are counted from 0, once."""
+    left = [(it, script_lines(it, not is_plain)) for it in app.tasks]
+    while left:
+        task, script = left[0]
+        count = 0 if is_plain else counted(left)
+        name = f"{task.name[:-1]}[{count}]" if count > 1 else task.name
+        yield [f"task {name} priority {task.priority}", *script]
+        left = left[max(1, count) :]
+
+
+def counted(left: Sequence[Tuple[Task, List[str]]]) -> int:
+    """How many tasks at the front have one script, a priority, and names that are counted from 0."""
+    first, script = left[0]
+    count = 0
+    while first.name.endswith("0") and count < len(left):
+        task, other = left[count]
+        is_one = (task.name, task.priority) == (f"{first.name[:-1]}{count}", first.priority)
+        if not is_one or other != script:
+            break
+        count += 1
+    return count
 
 
 def object_cells(word: str, thing: Any) -> List[str]:
@@ -113,9 +154,23 @@ def object_lines(app: Application) -> List[str]:
     return [line for name in kinds for line in aligned(rows[name], width)]
 
 
-def text_of(app: Application) -> str:
-    """The text of an application, with an end of line. Reading it gives the application again."""
+def text_of(app: Application, is_plain: bool = False) -> str:
+    """The text of an application, with an end of line. Reading it gives the application again, with
+    several tasks and an `if` in a line each, where they can be found; or without, where that is
+    asked."""
     numbers = [pair for pair in settings(app) if pair != PROFILE]
     blocks = [[f"{name} {value}" for name, value in numbers]]
-    blocks += [object_lines(app), *map(task_lines, app.tasks)]
+    blocks += [object_lines(app), *task_blocks(app, is_plain)]
     return "\n\n".join("\n".join(block) for block in blocks if block) + "\n"
+
+
+def jumps_of(app: Application) -> List[str]:
+    """The tasks of which some jumps come back with labels, as there is no loop, no while and no
+    block of an if in a JSON, each with the numbers of these jumps."""
+    found: List[str] = []
+    for task in app.tasks:
+        ends = [(at, text) for at, text, target in lines_of(task, True) if target is not None]
+        numbers = [str(at) for at, text in ends if not text.startswith("if ")]
+        if numbers:
+            found.append(f"{task.name} {', '.join(numbers)}")
+    return found

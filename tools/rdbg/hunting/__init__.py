@@ -1,1 +1,2 @@
-"""A search for an order of moves that comes to a goal: what `rdbg hunt` is made of."""
+"""A hunt for an order of moves that comes to a goal: the search through orders is asked, and what it
+finds is made again, and told."""

@@ -1,80 +1,76 @@
-"""Interrupts that may come in a hunt: those that a user names, as surprises.
+"""Interrupts that may come in a hunt: those that a user names.
 
 A handler is its calls, one behind the other with nothing between them. It may come once at any
-place; who names it twice has it come up to twice. Which of them have come belongs to a state, since
-no more can come behind it than are left.
+place; who names it twice has it come up to twice.
 """
 import dataclasses
-from typing import Dict, Iterator, List, Sequence, Tuple
+from typing import Dict, List, Sequence, Tuple
 
 from rdbg import commands
-from rdbg.application import Application
+from rdbg.application import MOST_TIMES, Application
 from rdbg.failure import Failure
-from rdbg.hunting.surprises import Came, Kind, Ladder, Surprise
 from rdbg.near import nearest
-from rdbg.replies import Cores
+from rdbg.reaching.handlers import EVER, TIMES
+from rdbg.reaching.handlers import Handler as Named
+from rdbg.reaching.handlers import handlers as by_name
 
 OPTION, WORD, BETWEEN = "--isr", "isr", ";"
-# So many handlers can be told apart in an order of chosen moves, where each is a byte.
-MOST_HANDLERS = 64
 # The profile from which on there are interrupts.
 PROFILE = 2
 FORMS = "send Q HEX, or notify K I N ACTION; more calls of one handler with ; between them"
 
 
 @dataclasses.dataclass(frozen=True)
-class Comes(Surprise):
-    """An interrupt comes: all calls of its handler."""
+class Handler:
+    """A handler, by the lines of its calls, how often it may come in one order, and when, as the
+    program that searches has it, where a text says that."""
 
-    handler: int = 0
-    calls: Tuple[str, ...] = ()
+    calls: Tuple[str, ...]
+    times: int = 1
+    when: Tuple[Tuple[str, str], ...] = ()
 
-    def lines(self) -> Tuple[str, ...]:
-        return self.calls
-
-    def came(self) -> Came:
-        return (self.handler,)
-
+    @property
     def text(self) -> str:
-        return f"an interrupt comes: {shown(self.calls)}"
+        """Its calls, as they are typed behind the option."""
+        return f"{BETWEEN} ".join(call[len(WORD) + 1 :] for call in self.calls)
+
+    def line(self) -> str:
+        """The line that lets it come, of the program that searches."""
+        return " ".join([f"{WORD} {self.text} times {self.times}", *map(" ".join, self.when)])
 
 
-def shown(calls: Sequence[str]) -> str:
-    """The calls of a handler, as they are typed behind the option."""
-    return f"{BETWEEN} ".join(call[len(WORD) + 1 :] for call in calls)
-
-
-def often(times: int) -> str:
-    """How often a handler may come."""
-    return {1: "once", 2: "up to twice"}.get(times, f"up to {times} times")
-
-
-class AnInterrupt(Kind):
-    """A handler comes, up to so many times in an order."""
-
-    def __init__(self, handler: int, calls: Tuple[str, ...], times: int) -> None:
-        self.comes = Comes(calls[0], len(calls), handler, calls)
-        self.times = times
-        self.text = f"{WORD} {often(times)} ({shown(calls)})"
-
-    def ladders(self, cores: Cores, came: Came) -> Iterator[Ladder]:
-        if came.count(self.comes.handler) < self.times:
-            yield [self.comes]
-
-
-def interrupts(texts: Sequence[str], application: Application) -> List[AnInterrupt]:
+def handlers(texts: Sequence[str], application: Application) -> Tuple[Handler, ...]:
     """The handlers that are named, each once, with how often it may come. Raises `Failure`."""
     if texts and application.profile < PROFILE:
         raise Failure(
             f"NoIsr: {OPTION} needs profile {PROFILE}, and the file has {application.profile}", 2
         )
-    times: Dict[Tuple[str, ...], int] = {}
-    for text in texts:
-        calls = tuple(call_of(part, text, application) for part in text.split(BETWEEN))
-        times[calls] = times.get(calls, 0) + 1
-    if len(times) > MOST_HANDLERS:
-        raise Failure(f"{OPTION} takes {MOST_HANDLERS} different handlers at the most", 2)
-    return [AnInterrupt(at, calls, count) for at, (calls, count) in enumerate(times.items())]
+    found: List[Handler] = []
+    for it in named(texts, application):
+        when = dict(it.when)
+        calls = tuple(call_of(part, it.calls, application) for part in it.calls.split(BETWEEN))
+        times = when.pop(TIMES, "1")
+        same = [at for at, other in enumerate(found) if other == Handler(calls, other.times)]
+        if same and not it.when:
+            found[same[0]] = Handler(calls, found[same[0]].times + 1)
+        else:
+            most = MOST_TIMES if times == EVER else int(times)
+            found.append(Handler(calls, most, tuple(when.items())))
+    return tuple(found)
+
+
+def named(texts: Sequence[str], application: Application) -> List[Named]:
+    """Those that are named, and those that end waits; the ones that others come after first, so that
+    their numbers stay."""
+    names = [text for text in texts if application.interrupt(text.strip()) is not None]
+    others = [text for text in texts if text not in names]
+    return by_name([*names, *others], application)
+
+
+def first_of(handlers: Sequence[Handler], lines: Sequence[str]) -> int:
+    """How many of these lines are the calls of one handler, the first of them among its own."""
+    fitting = [len(it.calls) for it in handlers if it.calls == tuple(lines[: len(it.calls)])]
+    return max(fitting, default=1)
 
 
 def call_of(part: str, text: str, application: Application) -> str:
@@ -93,7 +89,7 @@ def call_of(part: str, text: str, application: Application) -> str:
 
 def fault(symbol: str, word: str, application: Application) -> str:
     """Why a word can't stand where a form has this symbol; empty where it can."""
-    names = {
+    names: Dict[str, List[str]] = {
         "Q": [queue.name for queue in application.queues],
         "K": [task.name for task in application.tasks],
     }

@@ -1,88 +1,116 @@
-"""Orders of moves, as the lines that make them."""
+"""Orders of moves: the lines that make one, and what in it is a surprise.
+
+A surprise is a move that `forward` wouldn't make next, where the moves of one core in a row, all ahead
+of it, count as one; an interrupt is one, whatever it calls.
+"""
 import dataclasses
-from typing import List, Sequence, Tuple
+from typing import Iterator, List, Optional, Sequence, Tuple
 
-from rdbg.hunting.surprises import Came, Surprise
+from rdbg.driving.target import Target, read
+from rdbg.failure import Failure
+from rdbg.hunting.interrupts import WORD, Handler, first_of
+from rdbg.replies import Cores
 
-FORWARD = "forward"
-# A move that was chosen by itself, as a byte: the number of a core, this, or an interrupt's number
-# above that of the first.
-TICK, FIRST_INTERRUPT = 255, 128
-# A line, and how many moves it stands for: `forward` with its COUNT, others so many times.
-Part = Tuple[str, int]
+TICK = "tick"
 
 
 @dataclasses.dataclass(frozen=True)
 class Order:
-    """Moves from boot in parts, no two of one line behind each other; how many moves they are; what
-    is told of them, the surprises; and which interrupts have come. Behind them `forward` goes on.
-    """
+    """An order, by the lines that make it from boot, and by those of its moves; what is told of it,
+    the surprises; how many moves it has, an interrupt as one; and how many the program has made
+    then, each call of an interrupt as one."""
 
-    parts: Tuple[Part, ...] = ()
-    place: int = 0
+    lines: Tuple[str, ...] = ()
+    moves: Tuple[str, ...] = ()
     told: Tuple[str, ...] = ()
-    came: Came = ()
+    length: int = 0
+    place: int = 0
 
-    def made(self, line: str, count: int) -> "Order":
-        """The order with so many moves behind it."""
-        if not count:
-            return self
-        before, last = self.parts, (line, count)
-        if before and before[-1][0] == line:
-            before, last = before[:-1], (line, before[-1][1] + count)
-        return Order((*before, last), self.place + count, self.told, self.came)
 
-    def ahead(self, count: int) -> "Order":
-        """The order that goes on as `forward` does, for so many moves."""
-        return self.made(FORWARD, count)
+@dataclasses.dataclass
+class Run:
+    """Moves in a row that are one to whoever reads of them: their line, or the word for those of
+    `forward`, how many they are, and behind how many they come."""
 
-    def then(self, surprise: Surprise) -> "Order":
-        """The order with a surprise behind it."""
-        told = (*self.told, f"at {self.place}: {surprise.text()}")
-        came = tuple(sorted((*self.came, *surprise.came())))
-        order = self
-        for line in surprise.lines():
-            order = order.made(line, 1)
-        return dataclasses.replace(order, told=told, came=came)
+    line: str
+    count: int
+    place: int
+    calls: Tuple[str, ...] = ()
+
+    def told(self) -> str:
+        """The surprise that it is; empty where it is none."""
+        if self.line == FORWARD:
+            return ""
+        return f"at {self.place}: {self._text()}"
+
+    def _text(self) -> str:
+        if self.calls:
+            return f"an interrupt comes: {Handler(self.calls).text}"
+        if self.line == TICK:
+            return "a tick comes early"
+        moves = f"{self.count} move{'' if self.count == 1 else 's'}"
+        return f"core {self.line.split()[1]} is {moves} ahead"
 
     def lines(self) -> List[str]:
-        """The lines that make it from boot."""
-        return [line for part in self.parts for line in lines_of(part)]
+        """The lines that make it."""
+        if self.calls:
+            return [*self.calls]
+        return [f"{FORWARD} {self.count}"] if self.line == FORWARD else [self.line] * self.count
 
 
-def lines_of(part: Part) -> List[str]:
-    """The lines of a part."""
-    line, count = part
-    return [f"{FORWARD} {count}"] if line == FORWARD else [line] * count
+FORWARD = "forward"
 
 
-def way(now: Order, to: Order) -> List[str]:
-    """The lines that lead from where one order ends to where another does."""
-    at, common = 0, 0
-    while at < min(len(now.parts), len(to.parts)) and now.parts[at] == to.parts[at]:
-        common += now.parts[at][1]
-        at += 1
-    rest = list(to.parts[at:])
-    if rest and at < len(now.parts) and now.parts[at][0] == rest[0][0]:
-        line, count = rest[0]
-        shared = min(count, now.parts[at][1])
-        common += shared
-        rest[0] = (line, count - shared)
-    back = now.place - common
-    lines = [line for part in rest if part[1] for line in lines_of(part)]
-    return [f"back {back}", *lines] if back else lines
+def choice(cores: Cores) -> Optional[int]:
+    """The core that `forward` would move next: the first busy one from the turn on; none where it
+    would be a tick."""
+    busy = (core for core, task in enumerate(cores.running) if task and core >= cores.turn)
+    return next(busy, None)
 
 
-def chosen(path: bytes, interrupts: Sequence[Surprise] = ()) -> Order:
-    """The order of moves that were each chosen, where these interrupts may come."""
-    order = Order()
-    for move in path:
-        order = with_move(order, move, interrupts)
-    return order
+def expected(cores: Cores) -> str:
+    """The line of the move that `forward` would make next."""
+    core = choice(cores)
+    return TICK if core is None else f"step {core}"
 
 
-def with_move(order: Order, move: int, interrupts: Sequence[Surprise]) -> Order:
-    """The order with a move behind it that was chosen; an interrupt may be more moves than one."""
-    if FIRST_INTERRUPT <= move < TICK:
-        return order.then(interrupts[move - FIRST_INTERRUPT])
-    return order.made("tick" if move == TICK else f"step {move}", 1)
+def runs_of(
+    lines: Sequence[str], looks: Sequence[Cores], handlers: Sequence[Handler]
+) -> Iterator[Run]:
+    """The runs that the moves of an order make, with the cores before each of them."""
+    at = 0
+    last: Optional[Run] = None
+    while at < len(lines):
+        line = lines[at]
+        if line.split()[0] == WORD:
+            count = first_of(handlers, lines[at:])
+            run = Run(line, count, at, tuple(lines[at : at + count]))
+        else:
+            run = Run(FORWARD if line == expected(looks[at]) else line, 1, at)
+        at += run.count
+        if last is not None and last.line == run.line and run.line != TICK and not run.calls:
+            last.count += 1
+            continue
+        if last is not None:
+            yield last
+        last = run
+    if last is not None:
+        yield last
+
+
+def make(target: Target, moves: Sequence[str], handlers: Sequence[Handler]) -> Order:
+    """The order of these moves, a line each, made in a program that is at boot. Raises `Failure`
+    where one of them is refused there."""
+    answers = target.tell_all([it for move in moves for it in ("show cores", move)])
+    if any(it.startswith("no ") for it in answers):
+        raise Failure("what was found can't be made again")
+    looks = [it for it in map(read, answers[::2]) if isinstance(it, Cores)]
+    runs = [*runs_of(moves, looks, handlers)]
+    lengths = (1 if it.calls else it.count for it in runs)
+    return Order(
+        tuple(line for it in runs for line in it.lines()),
+        tuple(moves),
+        tuple(it.told() for it in runs if it.told()),
+        sum(lengths),
+        len(moves),
+    )

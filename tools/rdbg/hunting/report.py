@@ -1,15 +1,17 @@
-"""What is said of a hunt: what was found, and exactly what was tried."""
-from typing import Iterator, Union
+"""What is said of a hunt: what was found, and exactly what was gone through."""
+from typing import Iterator, List, Optional, Sequence, Tuple
 
-from rdbg.hunting.exhaustive import Exhaustive
-from rdbg.hunting.finds import Found, differences
-from rdbg.hunting.search import Find, Level, Limits, Search
-from rdbg.hunting.standing import Standing
-from rdbg.hunting.worker import Hunted
+from rdbg.application import Application
+from rdbg.hunting.differs import Difference, Own, compared
+from rdbg.hunting.goals import Goal
+from rdbg.hunting.search import check
+from rdbg.hunting.stage import Find, Stage
+from rdbg.reaching.said import Answer, Kind
 
 # So many instructions are named, and so many of them in a line.
 MOST_NAMED, IN_A_LINE = 12, 3
-TIME, CTRL_C, ROOM = "the time was up", "Ctrl-C came", "there are more states than --states allows"
+# What ended a search, as the program says it, in words of a hunt.
+WHY = {"as many states as may be kept (--states)": "there are more states than --states allows"}
 
 
 def counted(count: int, noun: str) -> str:
@@ -22,43 +24,63 @@ def with_surprises(count: int) -> str:
     return f"with {counted(count, 'surprise')}" if count else "without a surprise"
 
 
-def found(it: Found) -> Iterator[str]:
-    """What is said of what was found, the order that others are held against first."""
-    tables = it.tables()
-    if it.own is not None:
-        which = "an order" if it.hunted.is_exhaustive else "the order without a surprise"
-        yield f"{which}, which ends at {it.own.met}:"
-        yield from tables.pop(0)
-    for at, (find, table) in enumerate(zip(it.finds, tables), 1):
-        how = "" if it.hunted.is_exhaustive else f", {with_surprises(len(find.order.told))}"
-        which = f" {at}" if len(it.finds) > 1 else ""
-        yield f"found{which}: {it.hunted.goal.text}, at {find.met}{how}"
+def lines_of(goal: Goal, stage: Stage, finds: Sequence[Find]) -> List[str]:
+    """The lines that make each order and show its end, going back to boot between two."""
+    lines = goal.first_lines()
+    for at, find in enumerate(finds):
+        lines += [*find.order.lines, *goal.last_lines(stage.names)]
+        if at + 1 < len(finds) and find.order.place:
+            lines.append(f"back {find.order.place}")
+    return lines
+
+
+def found(goal: Goal, stage: Stage, finds: Sequence[Find], is_exhaustive: bool) -> Iterator[str]:
+    """What is said of what was found."""
+    for at, find in enumerate(finds, 1):
+        yield from one_found(goal, stage, find, at if len(finds) > 1 else None, is_exhaustive)
+
+
+def one_found(
+    goal: Goal, stage: Stage, find: Find, number: Optional[int], is_exhaustive: bool
+) -> Iterator[str]:
+    """What is said of one."""
+    how = "" if is_exhaustive else f", {with_surprises(len(find.order.told))}"
+    which = "" if number is None else f" {number}"
+    yield f"found{which}: {goal.text}, at {find.order.place}{how}"
+    if not is_exhaustive:
         yield from (f"  {told}" for told in find.order.told)
-        yield from table
-        if it.own is not None:
-            yield from compared(it.own, find)
+    table, is_so = stage.table(find, goal.is_so)
+    check(is_so)
+    yield from table
 
 
-def compared(own: Find, find: Find) -> Iterator[str]:
-    """How two orders end."""
-    yield "how the first order ends (<), and this one (>):"
-    for one, other in differences(own, find):
-        yield from (f"< {one}", f"> {other}")
+def differing(goal: Goal, stage: Stage, own: Own, them: Sequence[Difference]) -> Iterator[str]:
+    """What is said of orders that end otherwise than `forward`'s own."""
+    yield f"the order without a surprise, which ends at {own.find.order.place}:"
+    yield from stage.table(own.find, lambda look: True)[0]
+    for at, it in enumerate(them, 1):
+        yield from one_found(goal, stage, it.find, at if len(them) > 1 else None, False)
+        yield "how the first order ends (<), and this one (>):"
+        for one, other in compared(own, it).values():
+            yield from (f"< {one}", f"> {other}")
+        for task in it.tasks:
+            yield f"from here on {task} can't end as in the first order, whatever comes"
 
 
-def orders_of(level: Level) -> str:
-    """How many orders of a level were tried, and at how many places their surprises came."""
-    text = f"{counted(level.tries, 'order')} {with_surprises(level.surprises)}"
-    if level.surprises:
-        text += f", at {counted(level.places, 'place')}"
-    if level.again:
-        text += f" ({level.again:,} more come to states that were seen)"
-    return text
+def gone_through(counts: Tuple[int, int, int]) -> str:
+    """What was gone through."""
+    states, moves, deepest = counts
+    longest = f"the longest order has {counted(deepest, 'move')}"
+    return f"tried: {counted(states, 'state')}, {counted(moves, 'move')} made; {longest}"
 
 
-def not_come_to(standing: Standing) -> Iterator[str]:
+def not_come_to(answer: Answer, application: Application) -> Iterator[str]:
     """The instructions that no order came to, if there are any."""
-    left = [f"{task.name} {pc}: {it.written}" for task, pc, it in standing.left()]
+    left: List[str] = []
+    for name, numbers in answer.missed:
+        task = application.task(name)
+        if task is not None:
+            left += [f"{name} {pc}: {task.code[pc].told}" for pc in numbers]
     if not left:
         return
     yield f"no order came to {counted(len(left), 'instruction')}:"
@@ -68,55 +90,33 @@ def not_come_to(standing: Standing) -> Iterator[str]:
         yield f"  and {len(left) - MOST_NAMED:,} more"
 
 
-def past(moves: int) -> str:
-    """That orders go on past the limit of moves."""
-    return f"orders go on past {counted(moves, 'move')}; --moves N tries more"
+def ended(answer: Answer) -> Iterator[str]:
+    """Why not all was gone through, if it wasn't."""
+    if answer.why:
+        yield f"that isn't all: {WHY.get(answer.why, answer.why)}"
 
 
-def tried(hunt: Search, limits: Limits, it: Hunted, ended: str) -> Iterator[str]:
-    """What a search has tried, and whether that was all that it was to try."""
-    part = "" if limits.parts == 1 else f", part {limits.part} of {limits.parts}"
-    yield f"tried{part}:"
-    yield from (f"  {orders_of(level)}" for level in hunt.levels)
-    if hunt.finds:
-        if ended:
-            yield f"that isn't all: {ended}"
-        return
-    yield from (f"  {line}" for line in not_come_to(hunt.standing))
-    kinds = ", ".join(kind.text for kind in it.kinds)
-    yield f"each of {counted(it.moves, 'move')} at the most; {kinds}"
-    if hunt.goes_on:
-        yield past(it.moves)
-    if ended:
-        yield f"that isn't all: {ended}"
-    elif hunt.is_all:
-        yield "more of such surprises come to no other state"
-    else:
-        others = "" if limits.parts == 1 else "what the other parts try, "
-        yield f"{others}more surprises, moves, or other surprises weren't tried"
+def others(answer: Answer) -> Iterator[str]:
+    """What is said of ends that weren't found, where all were asked for."""
+    if answer.kind is Kind.NONE:
+        yield f"none that ends otherwise, as far as a goal can say it: {answer.head()}"
+    yield from ended(answer)
 
 
-def depth(hunt: Exhaustive, ended: str) -> Iterator[str]:
-    """How far every order was gone through."""
-    it, hunted = hunt.depth, hunt.hunted
-    moves = f"{counted(it.states, 'state')}, {counted(it.tries, 'move')} made"
-    with_what = ", ".join(kind.text for kind in hunted.interrupts)
-    interrupts = f", with {with_what}" if with_what else ""
-    if it.is_all:
-        yield f"tried: every order there is of steps and ticks{interrupts}; {moves}"
-    else:
-        yield f"tried: every order of {counted(it.moves, 'move')}{interrupts}; {moves}"
-    if not hunt.finds:
-        yield from not_come_to(hunt.standing)
-    if hunt.goes_on and not hunt.finds:
-        yield past(hunted.moves)
-    if ended and not it.is_all:
-        yield f"that isn't all: {ended}"
+def smaller(answers: Sequence[Answer]) -> Iterator[str]:
+    """What is said of finds that would be smaller than the one that was found."""
+    heads = [it.head() for it in answers if it.kind is Kind.NONE]
+    if heads:
+        yield f"none smaller: {'; '.join(heads)}"
+    for it in answers:
+        yield from ended(it)
 
 
-def so_far(hunt: Union[Search, Exhaustive]) -> str:
-    """How far a search is."""
-    if isinstance(hunt, Exhaustive):
-        depth = hunt.depth
-        return f"every order of {counted(depth.moves, 'move')}; {counted(depth.states, 'state')}"
-    return orders_of(hunt.level) if hunt.levels else "it begins"
+def none(goal: Goal, answer: Answer, application: Application) -> Iterator[str]:
+    """What is said where nothing was found."""
+    part = "" if answer.part is None else f", part {answer.part[0]} of {answer.part[1]}"
+    yield f"none found: {goal.text}"
+    yield f"{answer.head()}{part}"
+    yield from not_come_to(answer, application)
+    yield gone_through(answer.counts)
+    yield from ended(answer)

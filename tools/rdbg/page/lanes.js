@@ -56,8 +56,8 @@ function byHand(run, behind, last) {
   const texts = new Map();
   const add = (place, text) => texts.set(place, [...(texts.get(place) || []), text]);
   for (const move of movesBehind(run, behind, last)) {
-    if (move.kind === EDIT) add(move.place, `*${move.line || "edit"}`);
-    if (move.kind === INTERRUPT) add(move.place, `!${doesWords(run, move)}`);
+    if (move.kind === EDIT) add(move.place, `*${move.does}`);
+    if (move.kind === INTERRUPT) add(move.place, `!${move.does}`);
   }
   for (const [place, line] of run.trims) if (place > behind && place <= last) add(place, `|${line}`);
   const places = [...texts.keys()].sort((one, other) => one - other);

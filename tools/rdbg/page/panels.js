@@ -108,6 +108,22 @@ class MovesPanel {
 }
 MovesPanel.AROUND = 4;
 
+// The lines of a script, each with the numbers of its first instruction and of the one behind it.
+function scriptLines(code) {
+  return code.flatMap(([text, line, index, count, beside = "", above = []], at) => {
+    return index ? [] : [{ begin: at, end: at + count, line, text, beside, above }];
+  });
+}
+
+// The rows of a line: its comments above it, and itself with the one beside it; it is marked where
+// its next instruction is one of it, whose text is given.
+function scriptRows({ begin, end, line, text, beside, above }, next) {
+  const numbers = end > begin + 1 ? `${begin}-${end - 1}` : String(begin);
+  const comment = beside ? `  // ${beside}` : "";
+  const own = [next === null ? "" : "->", numbers, String(line), (next || text) + comment];
+  return [...above.map((it) => ["", "", "", `// ${it}`]), own];
+}
+
 // A script around its next instruction: of the task that moved last, or of one that is chosen.
 class ScriptPanel {
   constructor(run, again) {
@@ -129,9 +145,11 @@ class ScriptPanel {
     const task = this.run.tasks[chosen];
     if (!task) return;
     const pc = this.run.value(task.tracks.pc, place);
-    const begin = Math.max(0, Math.min(pc - 5, task.code.length - 11));
-    const rows = task.code.slice(begin, begin + 11).map(([text, line], at) => {
-      return [begin + at === pc ? "->" : "", String(begin + at), String(line), text];
+    const lines = scriptLines(task.code);
+    const next = lines.findIndex(({ begin, end }) => begin <= pc && pc < end);
+    const first = Math.max(0, Math.min(next - 5, lines.length - 11));
+    const rows = lines.slice(first, first + 11).flatMap((it, at) => {
+      return scriptRows(it, first + at === next ? task.code[pc][0] : null);
     });
     this.table.show(rows.length ? rows : [["", orNobody(pc), "", "the file isn't known"]]);
     this.choice.options[0].textContent = `the task that moved (${this.run.tasks[this.moved].name})`;

@@ -2,11 +2,11 @@
 from typing import Dict, Iterable, Iterator, List, Optional, Sequence, Tuple
 
 from rdbg import replies
-from rdbg.application import Application
+from rdbg.application import Application, Instruction
 from rdbg.effects import Effect, Move
 from rdbg.looks import Key, Look, Object
 from rdbg.page.tracks import Track, Value, Values
-from rdbg.tracing.run import Part, Trim
+from rdbg.driving.parts import Part, Trim
 
 WAKES = ("woke", "given", "time up")
 KINDS = {"step": 0, "tick": 1, "edit": 2, "isr": 3}
@@ -136,18 +136,15 @@ class Recorder:
     def _task(self, name: str, tracks: Dict[str, Track], has_code: bool) -> Dict[str, object]:
         """A task, with its script where that is known, and wanted."""
         found = self._application.task(name) if self._application else None
-        code = [[it.written, it.place.line] for it in found.code] if found and has_code else []
+        code = [code_of(it) for it in found.code] if found and has_code else []
         priority = found.priority if found else None
         return {"name": name, "priority": priority, "code": code, "tracks": flat(tracks)}
 
     def _move(self, move: Move) -> List[object]:
-        """A move: its kind, core, task, instruction by number and text, answer, line and effects.
-        An instruction that stands in the script has no text here, and the line is an edit's or an
-        interrupt's."""
+        """A move: its kind, core, task, instruction by number, what was done, and effects."""
         number = None if move.task is None else list(self._tasks).index(move.task)
-        line = move.line if move.kind in ("edit", "isr") else None
         effects = [self._effect(it, move.task) for it in move.effects]
-        return [KINDS[move.kind], move.core, number, move.pc, move.answer, line, effects]
+        return [KINDS[move.kind], move.core, number, move.pc, move.does, effects]
 
     def _effect(self, effect: Effect, actor: Optional[str]) -> List[object]:
         """An effect in words, and whom it woke, by number."""
@@ -185,6 +182,14 @@ class Recorder:
                 if place > self.first:
                     track.put(self.first, None)
             track.put(place, value)
+
+
+def code_of(it: Instruction) -> List[object]:
+    """An instruction of a script: its text, its line, which one of its line's it is, how many these
+    are, and its comments, that of its line and those above it, where it has any."""
+    part = (it.part.index, it.part.count) if it.part else (0, 1)
+    comments = [it.beside, list(it.above)] if it.beside or it.above else []
+    return [it.told, it.place.line, *part, *comments]
 
 
 def flat(tracks: Dict[str, Track]) -> Dict[str, List[int]]:

@@ -246,7 +246,7 @@ class Timeline {
       if (move.kind !== STEP || move.core !== lane.core) continue;
       const x = this.x(place - 1);
       this.painter.outline(this.painter.ink, x + 0.5, y + 1, this.scale - 1, 16);
-      this.painter.text(doesWords(this.run, move), x + 3, y + 9, this.scale - 4);
+      this.painter.text(move.does, x + 3, y + 9, this.scale - 4);
     }
   }
 

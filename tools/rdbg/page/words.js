@@ -99,15 +99,6 @@ function waitingNames(name, value) {
   return Array.isArray(value) ? value : [value];
 }
 
-// A move's text: what was done, and what was answered.
-function doesWords(run, move) {
-  if (move.kind === TICK) return "";
-  if (move.kind === EDIT) return move.line || "an edit that can't be told";
-  const found = move.kind === STEP ? run.instruction(move.task, move.pc) : [move.line || ""];
-  const text = found ? found[0] : "";
-  return move.answer === null ? text : `${text} -> ${move.answer}`;
-}
-
 function effectWords(move) {
   return move.effects.map(([text]) => text).join(", ");
 }
@@ -118,7 +109,7 @@ function moveCells(run, move) {
   const tick = run.value(run.cores.tick, move.place);
   const trims = run.trimsAt(move.place).map((line) => `then ${line}`);
   const effects = [effectWords(move), ...trims].filter(Boolean).join(", ");
-  return [move.place, tick, move.core, who, move.pc, doesWords(run, move), effects].map((it) =>
+  return [move.place, tick, move.core, who, move.pc, move.does, effects].map((it) =>
     it === null || it === undefined ? "" : String(it),
   );
 }

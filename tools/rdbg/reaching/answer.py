@@ -6,7 +6,8 @@ from typing import List, Optional
 from rdbg.failure import Failure
 from rdbg.reaching.progress import Progress
 
-FOUND = "found"
+# What the first line of an answer is behind which an order stands.
+FOUND = re.compile(r"found(, part \d+ of \d+)?|still|lost at \d+", re.ASCII)
 # What stands behind the order: what was gone through.
 COUNTS = re.compile(r"states \d+ moves \d+ deepest \d+", re.ASCII)
 # How a program ends that has answered: where the goal comes behind no order, behind one, and where
@@ -32,7 +33,7 @@ def order_of(output: str) -> Optional[List[str]]:
     """The lines of the order that an answer has, as `rdbg run` takes them; none where it has none."""
     first, *rest = output.splitlines() or [""]
     ends = (at for at, line in enumerate(rest) if COUNTS.fullmatch(line))
-    return rest[: next(ends, 0)] if first == FOUND else None
+    return rest[: next(ends, 0)] if FOUND.fullmatch(first) else None
 
 
 def within(last: Optional[Progress], surprises: Optional[str]) -> str:

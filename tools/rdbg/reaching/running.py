@@ -4,7 +4,7 @@ import selectors
 import subprocess
 import sys
 import time
-from typing import Callable, NamedTuple, Optional, Sequence
+from typing import IO, Callable, NamedTuple, Optional, Sequence
 
 from rdbg import children
 from rdbg.ending import ENDING, STARTED
@@ -95,21 +95,24 @@ class Listener:
         return min(rests, default=None)
 
 
-def started(words: Sequence[str]) -> "subprocess.Popen[bytes]":
-    """The program, started on these words. Raises `Failure` where it can't be."""
+def started(words: Sequence[str], lines: Optional[IO[bytes]]) -> "subprocess.Popen[bytes]":
+    """The program, started on these words and lines. Raises `Failure` where it can't be."""
     pipe = subprocess.PIPE
     try:
-        return children.start(words, None, pipe, pipe)
+        return children.start(words, lines, pipe, pipe)
     except OSError as error:
         raise Failure(f"cannot start {words[0]}: {error.strerror}", 2) from None
 
 
-def run(words: Sequence[str], seconds: Optional[float]) -> Outcome:
-    """What comes of a program that searches, on these words. It is ended where so many seconds have
-    passed, or Ctrl-C came. Raises `Failure` where it can't be started."""
+def run(
+    words: Sequence[str], seconds: Optional[float], lines: Optional[IO[bytes]] = None
+) -> Outcome:
+    """What comes of a program that searches, on these words, and on the lines of a file, where it is
+    given one. It is ended where so many seconds have passed, or Ctrl-C came. Raises `Failure` where
+    it can't be started."""
     end = None if seconds is None else time.monotonic() + seconds
     gauge = Gauge(sys.stderr)
-    with started(words) as process:
+    with started(words, lines) as process:
         listener = Listener(process, gauge)
         try:
             is_ended = listener.listen(end)

@@ -1,26 +1,44 @@
 """The words of `rdbg reach`: those of the program that searches, and those of what starts it."""
 from itertools import takewhile
-from typing import Dict, List, NamedTuple, Optional, Sequence, Tuple
+from typing import Callable, Dict, List, NamedTuple, Optional, Sequence, Tuple
 
-from rdbg.checking.wording import shown
+from rdbg.wording import shown
 from rdbg.digits import is_digits, seconds
 from rdbg.failure import Failure
+from rdbg.reaching.handlers import OPTION, Handler
 
 OUTPUT, WITHIN, SURPRISES = "-o", "--within", "--surprises"
+# A const of a text in lines; it may stand more than once.
+DEFINE = "-D"
 # Has the program say how far it is, which it always does here.
 PROGRESS = "--progress"
 # What stands behind each of these, which the program doesn't know.
 OWN = {OUTPUT: "OUT", WITHIN: "SECONDS"}
+# Options of the program behind which a value stands.
+VALUED = {
+    "--from",
+    "--moves",
+    "--pace",
+    "--isr",
+    "--times",
+    "--after",
+    "--apart",
+    SURPRISES,
+    "--states",
+    "--memory",
+    "--part",
+}
 # Behind it all words are a file and a goal.
 NO_MORE = "--"
 
 
 class Words(NamedTuple):
-    """What was asked for: the words of the program, and what its starter does."""
+    """What was asked for: the words of the program, what its starter does, and consts of a text."""
 
     program: List[str]
     output: Optional[str]
     seconds: Optional[float]
+    consts: Tuple[str, ...] = ()
 
     def surprises(self) -> Optional[str]:
         """How many surprises an order has at the most, if that was asked."""
@@ -31,6 +49,65 @@ class Words(NamedTuple):
             if option == SURPRISES:
                 asked = value if has_value else following
         return str(int(asked)) if asked and is_digits(asked) else asked
+
+    def plain(self) -> List[int]:
+        """Where the words stand that are no options: the file, and behind it those of a goal."""
+        found: List[int] = []
+        places = iter(range(len(self.program)))
+        for at in places:
+            if self.program[at] == NO_MORE:
+                return found + [*places]
+            if self.program[at] in VALUED:
+                next(places, None)
+            elif not self.program[at].startswith("-"):
+                found.append(at)
+        return found
+
+    def has_goal(self) -> bool:
+        """Whether a goal stands behind the file. Without one the program is an engine."""
+        return len(self.plain()) > 1
+
+    def put(self, file: str, goal: str) -> List[str]:
+        """The words of the program, with another file and goal."""
+        first, second, *others = self.plain()
+        new = {first: file, second: goal}
+        words = enumerate(self.program)
+        return [new.get(at, word) for at, word in words if at not in others]
+
+    def with_program(self, program: List[str]) -> "Words":
+        """The same with other words of the program."""
+        return self._replace(program=program)
+
+    def put_file(self, file: str) -> List[str]:
+        """The words of the program, with another file."""
+        first = self.plain()[0]
+        return [file if at == first else word for at, word in enumerate(self.program)]
+
+    def with_interrupts(self, handlers: Callable[[List[str]], List[Handler]]) -> "Words":
+        """The same with each interrupt as the program takes it, by what these are."""
+        places = self._interrupts()
+        made = handlers([text for _, _, text in places])
+        program = list(self.program)
+        for (at, end, _), it in [*zip(places, made)][::-1]:
+            program[at:end] = it.options()
+        others = [word for it in made[len(places) :] for word in it.options()]
+        behind = program.index(NO_MORE) if NO_MORE in program else len(program)
+        program[behind:behind] = others
+        return self._replace(program=program)
+
+    def _interrupts(self) -> List[Tuple[int, int, str]]:
+        """Where interrupts stand among the words, from the first word to behind the last one, and
+        what is given of each."""
+        found: List[Tuple[int, int, str]] = []
+        at = 0
+        while at < len(self.program) and self.program[at] != NO_MORE:
+            word, has_value, value = self.program[at].partition("=")
+            is_apart = word in VALUED and not has_value
+            if word == OPTION and (has_value or at + 1 < len(self.program)):
+                text = value if has_value else self.program[at + 1]
+                found.append((at, at + 1 + is_apart, text))
+            at += 1 + is_apart
+        return found
 
     def files(self) -> List[str]:
         """The words that may be files of the program, an option's among them."""
@@ -52,9 +129,15 @@ def read(words: Sequence[str]) -> Words:
     are the program's to judge."""
     program = [PROGRESS]
     found: Dict[str, str] = {}
+    consts: List[str] = []
     left = list(words)
     while left and left[0] != NO_MORE:
         word = left.pop(0)
+        if word.startswith(DEFINE):
+            if word == DEFINE and not left:
+                raise Failure(f"{DEFINE} lacks its NAME=N", 2)
+            consts.append(word[len(DEFINE) :] or left.pop(0))
+            continue
         option, value = own(word)
         if not option:
             program += [word] if word != PROGRESS else []
@@ -64,7 +147,8 @@ def read(words: Sequence[str]) -> Words:
         if value is None and not left:
             raise Failure(f"{option} lacks its {OWN[option]}", 2)
         found[option] = left.pop(0) if value is None else value
-    return Words(program + left, found.get(OUTPUT), limit(found.get(WITHIN)))
+    seconds_given = limit(found.get(WITHIN))
+    return Words(program + left, found.get(OUTPUT), seconds_given, tuple(consts))
 
 
 def limit(text: Optional[str]) -> Optional[float]:

@@ -1,9 +1,10 @@
 """What somebody does by several lines, and is told to the others, and kept, as one."""
 from typing import List, Optional
 
+from rdbg import record
 from rdbg.commands import Command
 from rdbg.shell.notices import BETWEEN
-from rdbg.shell.target import BY_HAND
+from rdbg.driving.target import BY_HAND
 
 
 class Doing:
@@ -20,7 +21,7 @@ class Doing:
         and kept by themselves, and so is what changes something where nothing was typed."""
         if command is None or command.form.is_look:
             return True
-        return bool(self.text) and command.form.word not in (*BY_HAND, "trim")
+        return bool(self.text) and command.form.word not in (*BY_HAND, record.TRIM)
 
     def add(self, lines: List[str], place: int) -> None:
         """One of its lines has led to a place; it would have been told so."""

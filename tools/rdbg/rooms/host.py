@@ -12,9 +12,9 @@ from rdbg.client import LOCAL, Session, connected, program
 from rdbg.ending import STARTED
 from rdbg.failure import Failure
 from rdbg.rooms import apart
-from rdbg.shell.opening import as_read, greet
-from rdbg.shell.target import Limits
-from rdbg.source import Source
+from rdbg.driving.opening import as_read, greet
+from rdbg.driving.target import Limits
+from rdbg.files.source import Source
 
 # So many sessions serve lets in, one after the other, and no more.
 MOST_SESSIONS = 64

@@ -3,7 +3,7 @@ the old one was."""
 import dataclasses
 from typing import List
 
-from rdbg import replies
+from rdbg import record, replies
 from rdbg.commands import Command
 
 # What makes moves by a choice of its own is known by their number alone.
@@ -27,18 +27,18 @@ class Journal:
 
     def __init__(self) -> None:
         self._done: List[Run] = []
-        # (the one that `redo` makes next stands last)
+        # (the one that is made again next stands last)
         self._undone: List[Run] = []
         self.place, self.base = 0, 0
 
     def moved(self, command: Command, moved: replies.Moved) -> None:
         """A line has changed the target."""
         word, count = command.form.word, moved.at - self.place
-        if word == "trim":
+        if word == record.TRIM:
             self.base = max(self.base, moved.at - int(command.words[1]))
-        elif word == "back":
+        elif word == record.BACK:
             carry(self._done, self._undone, -count)
-        elif word == "redo":
+        elif word == record.REDO:
             carry(self._undone, self._done, count)
         else:
             self._undone.clear()
@@ -59,8 +59,8 @@ class Journal:
         """The lines that lead from the start to this place, with the same moves to be made again
         and the same records."""
         made = [run.text() for run in [*self._done, *reversed(self._undone)]]
-        back = [f"back {self.undone}"] if self.undone else []
-        return made + back + ([f"trim {self.place - self.base}"] if self.base else [])
+        back = [record.back(self.undone)] if self.undone else []
+        return made + back + ([record.trim(self.place - self.base)] if self.base else [])
 
 
 def put(runs: List[Run], run: Run) -> None:

@@ -4,7 +4,7 @@ import threading
 import time
 from typing import Callable, Dict, List, Optional, Sequence
 
-from rdbg import replies
+from rdbg import record, replies
 from rdbg.commands import Command
 from rdbg.failure import Failure
 from rdbg.looks import Look
@@ -13,8 +13,8 @@ from rdbg.rooms.journal import Journal
 from rdbg.rooms.memory import Memory
 from rdbg.rooms.seats import Seat
 from rdbg.rooms.sight import Sight
-from rdbg.shell.target import UNCOUNTED, Limits, read, read_line
-from rdbg.source import Source
+from rdbg.driving.target import UNCOUNTED, Limits, read, read_line
+from rdbg.files.source import Source
 
 # So many entries have room for some 30,000 moves of a small application, with the looks that tell
 # them; then a new program goes on, and the memory of the old one is free.
@@ -133,7 +133,7 @@ class Program:
         count = min(made, most, self.place - self.journal.base)
         if count < 1 or not self.can_look((count + 1) * (len(lines) + 1)):
             return []
-        asked = [f"back {count}", *lines] + ["redo 1", *lines] * count
+        asked = [record.back(count), *lines] + [record.again(), *lines] * count
         answers, width = self._ask_all(seat, asked), len(lines) + 1
         looks: List[Look] = []
         for at in range(0, len(answers), width):

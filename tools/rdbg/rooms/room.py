@@ -4,6 +4,7 @@ import collections
 import time
 from typing import Callable, Deque, Dict, List, NamedTuple, Optional, Set
 
+from rdbg import record
 from rdbg.commands import MOST_BYTES, TARGET, Command
 from rdbg.failure import Failure
 from rdbg.rooms import remarks
@@ -14,9 +15,9 @@ from rdbg.rooms.seats import Refusal, Seat, Seats, check
 from rdbg.rooms.sight import is_single
 from rdbg.rooms.talk import Talk
 from rdbg.rooms.turns import Turns
-from rdbg.shell.target import Limits, read_line
+from rdbg.driving.target import Limits, read_line
 from rdbg.shown import shown
-from rdbg.source import Source
+from rdbg.files.source import Source
 
 __all__ = ["Ended", "Member", "Refusal", "Room"]
 
@@ -312,7 +313,7 @@ class Room:
         if before is not None:
             after = self._program.look(seat)
             effect = self._program.sight.effect(command, before, after) if after else ""
-        elif command.form.word == "back":
+        elif command.form.word == record.BACK:
             after = self._program.look(seat)
             effect = f"next: {self._program.sight.next(after)}" if after else ""
         elif command.form.moves:
@@ -414,6 +415,11 @@ class Room:
             self._followers.append(told)
             return self._program.journal.lines()
 
+    def lines(self) -> List[str]:
+        """The lines that lead to where the target stands."""
+        with self._turns:
+            return self._program.journal.lines()
+
     def people(self) -> List[Person]:
         """Who has a session, here or away."""
         seats = self._seats.by_name().items()
@@ -435,8 +441,7 @@ class Room:
         seat = member.seat if program.holder is None else self._seats.of_number(program.holder)
         for row in program.last_rows(seat, count):
             member.hear(f"# {row}")
-        undone = program.journal.undone
-        text = f"at {self.place}" + (f"; `redo` can make {undone} more" if undone else "")
+        text = record.at(self.place, program.journal.undone)
         member.hear(f"# {text}")
         return text
 

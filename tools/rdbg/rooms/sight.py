@@ -2,14 +2,14 @@
 import dataclasses
 from typing import Dict, List, Optional, Sequence
 
-from rdbg import replies
+from rdbg import record, replies
 from rdbg.application import Application
 from rdbg.by_hand import INTERRUPT, ByHand
 from rdbg.commands import Command
 from rdbg.effects import Move, move_between
 from rdbg.looks import Look, Names
-from rdbg.shell import trail
-from rdbg.shell.target import BY_HAND, SINGLE, read
+from rdbg.driving import trail
+from rdbg.driving.target import BY_HAND, SINGLE, read
 
 
 class Sight:
@@ -31,7 +31,7 @@ class Sight:
         """The target has changed by a line, from a place."""
         self.last = None
         word = command.form.word
-        if word in ("back", "redo", "trim"):
+        if word in record.WORDS:
             return
         self._by_hand = {at: it for at, it in self._by_hand.items() if at <= place}
         if word in BY_HAND:
@@ -48,7 +48,7 @@ class Sight:
         script = self.application.task(found.task) if found.task else None
         if script is None or found.pc is None or found.pc >= len(script.code):
             return found
-        return dataclasses.replace(found, written=script.code[found.pc].written)
+        return dataclasses.replace(found, written=script.code[found.pc].told)
 
     def effect(self, command: Command, before: Look, after: Look) -> str:
         """What a line of one move did, in a few words; empty where the line says all."""
@@ -68,12 +68,12 @@ class Sight:
             task = None if name is None else self.application.task(name)
             if task is not None:
                 pc = look.tasks[task.name].pc
-                found.append(f"{task.name} {pc} {task.code[pc].written} (core {core})")
+                found.append(f"{task.name} {pc} {task.code[pc].told} (core {core})")
         return ", ".join(found) or "no core is busy: tick"
 
 
 def is_single(command: Command) -> bool:
     """Whether a line makes one move, so that it can be told by looks before and after it."""
-    if command.form.word == "back":
+    if command.form.word == record.BACK:
         return False
     return command.form.word in SINGLE or (command.form.moves and command.count() == 1)

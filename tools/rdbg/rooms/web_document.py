@@ -4,7 +4,7 @@ import pathlib
 from typing import Dict
 
 from rdbg.page.document import POLICY, body_of, document
-from rdbg.source import Source
+from rdbg.files.source import Source
 
 HERE = pathlib.Path(__file__).resolve().parent / "page"
 SCRIPTS = tuple(

@@ -3,13 +3,13 @@ import queue
 import threading
 from typing import Callable, Dict, List, Optional
 
-from rdbg import replies
+from rdbg import record, replies
 from rdbg.rooms.room import Room
 from rdbg.rooms.web_known import Known, Piece
-from rdbg.rooms.web_mirror import BACK, REDO, TRIM, Differs, Mirror
+from rdbg.rooms.web_mirror import Differs, Mirror
 from rdbg.rooms.web_past import WRONG, Past
-from rdbg.shell.target import read
-from rdbg.tracing.run import Part, Told, Trim
+from rdbg.driving.target import read
+from rdbg.driving.parts import Part, Told, Trim
 
 # A line that made at most so many moves is looked at as a whole, where that takes so few seconds.
 # Of more, and where so many lines have come in a heap, the last moves are looked at, so many, and
@@ -141,10 +141,10 @@ class Follower:
         """Does what a line did."""
         self._past.told(told)
         word = told.text.split(" ")[0]
-        if word == TRIM:
+        if word == record.TRIM:
             self._known.trim(Trim(told.place, told.text))
             self._tell("trims", {"trims": self._known.trims(), **self._now()})
-        elif word in (BACK, REDO):
+        elif word in (record.BACK, record.REDO):
             self._mirror.do(told)
         else:
             self._make(told, is_heap)

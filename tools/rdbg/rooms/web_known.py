@@ -3,7 +3,7 @@ from typing import Dict, List, NamedTuple, Optional
 
 from rdbg.application import Application
 from rdbg.page.recorder import Recorder
-from rdbg.tracing.run import Part, Trim
+from rdbg.driving.parts import Part, Trim
 
 # So many moves are kept at the least, and so many more until the oldest are forgotten.
 MOST_MOVES, SLACK = 20_000, 4_096

@@ -4,24 +4,24 @@ import contextlib
 import time
 from typing import Optional, Sequence
 
+from rdbg import record
 from rdbg.commands import MOST_COUNT
 from rdbg.failure import Failure
 from rdbg.looks import Look
 from rdbg.replies import Moved
 from rdbg.rooms.journal import Journal
-from rdbg.shell import trail
-from rdbg.shell.interrupt import Interrupt
-from rdbg.shell.opening import begin
-from rdbg.shell.target import RESERVE, SINGLE, Limits, Target, read, read_line
-from rdbg.shell.walk import LEAST_PIECE, Walk
-from rdbg.source import Source
-from rdbg.tracing.run import Part, Told, walk_through
+from rdbg.driving import trail
+from rdbg.driving.interrupt import Interrupt
+from rdbg.driving.opening import begin
+from rdbg.driving.target import RESERVE, SINGLE, Limits, Target, read, read_line
+from rdbg.driving.walk import LEAST_PIECE, Walk
+from rdbg.files.source import Source
+from rdbg.driving.parts import Part, Told, walk_through
 
 # The history of such a program: a new one is begun where it is full.
 HISTORY = 100_000
 # So many seconds a move takes to be looked at, until that was measured.
 GUESS = 0.005
-BACK, REDO, TRIM = "back", "redo", "trim"
 
 
 class Differs(Failure):
@@ -60,7 +60,7 @@ class Mirror:
 
     def tell(self, line: str) -> None:
         """Does what a line does that changes the target. One that trims does nothing here."""
-        if line.split(" ")[0] == TRIM:
+        if line.split(" ")[0] == record.TRIM:
             return
         self._return(1)
         self._look = None
@@ -74,10 +74,10 @@ class Mirror:
     def do(self, told: Told) -> None:
         """Does what a line did, which leads to a place."""
         word, count = told.text.split(" ")[0], told.place - self.place
-        if word in (BACK, REDO):
+        if word in (record.BACK, record.REDO):
             if count:
-                self.tell(f"{BACK if count < 0 else REDO} {abs(count)}")
-        elif word != TRIM:
+                self.tell(record.way(self.place, told.place))
+        elif word != record.TRIM:
             self.tell(told.text if word in SINGLE else f"forward {count}")
         if self.place != told.place:
             raise Differs(f"{told.text} led to {told.place}, and here to {self.place}")

@@ -8,6 +8,7 @@ import threading
 import time
 from typing import Callable, Deque, Dict, List, Optional, Tuple
 
+from rdbg.rooms import web_goals
 from rdbg.rooms.room import Member, Refusal, Room
 from rdbg.rooms.web_follower import Follower, Values
 
@@ -30,7 +31,8 @@ class TooMany(Refusal):
 class Page:
     """A page in a browser, as a member of the room."""
 
-    def __init__(self) -> None:
+    def __init__(self, room: Room) -> None:
+        self._room = room
         self.key = secrets.token_urlsafe(18)
         self.member: Optional[Member] = None
         self._guard = threading.Lock()
@@ -129,10 +131,12 @@ class Page:
         try:
             with self._turn:
                 assert self.member is not None
+                if web_goals.is_question(line.split()):
+                    return web_goals.answered(self._room, line.split())
                 if line.lstrip(" ").startswith("#"):
                     self.member.remark(line)
                     return ""
-                return self.member.ask(line)
+                return web_goals.told(self._room, line, self.member.ask(line))
         finally:
             self._lines.release()
 
@@ -167,7 +171,7 @@ class Pages:
 
     def open(self, name: Optional[str]) -> Page:
         """A page comes, by a name, or by one that nobody has. Raises `Refusal`."""
-        page = Page()
+        page = Page(self._room)
         with self._guard:
             if len(self._open) >= MOST_PAGES:
                 page.close()

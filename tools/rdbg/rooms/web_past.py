@@ -7,9 +7,9 @@ from rdbg.failure import Failure
 from rdbg.replies import Refused
 from rdbg.rooms.web_known import Piece
 from rdbg.rooms.web_mirror import Mirror
-from rdbg.shell.target import Unable
-from rdbg.source import Source
-from rdbg.tracing.run import Part, Told
+from rdbg.driving.target import Unable
+from rdbg.files.source import Source
+from rdbg.driving.parts import Part, Told
 
 # Moves are looked at in pieces of as many as take so many seconds, within bounds.
 SECONDS, LEAST, MOST = 0.2, 8, 1_024

@@ -6,7 +6,7 @@ from rdbg import commands, instructions
 from rdbg.checking import freertos
 from rdbg.shell import glossary
 from rdbg.shell.gdb import HINTS
-from rdbg.shell.target import Unable
+from rdbg.driving.target import Unable
 
 if TYPE_CHECKING:
     from rdbg.shell.shell import Shell

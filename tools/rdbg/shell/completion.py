@@ -2,7 +2,8 @@
 import glob
 from typing import TYPE_CHECKING, Iterable, List, Sequence
 
-from rdbg import commands
+from rdbg import commands, kinds
+from rdbg.goals import reading, sought
 from rdbg.shell import basics, glossary, seek, views, words
 
 if TYPE_CHECKING:
@@ -39,13 +40,17 @@ def own(word: words.Word, behind: Sequence[str]) -> List[str]:
 
 def goal(behind: Sequence[str], with_conditions: bool) -> List[str]:
     """What can stand behind the words of a goal."""
-    if not behind:
-        return [*seek.GOALS, *(condition(behind) if with_conditions else [])]
-    if len(behind) == 1 and behind[0] in seek.OF_TASKS:
+    if not behind or behind[-1] in (reading.NOT, reading.AND, reading.OR):
+        return [*seek.FIRST[:-1], *(condition([]) if with_conditions or behind else [])]
+    last = max(at for at, word in enumerate(behind) if at == 0 or behind[at - 1] in reading.JOINING)
+    words = behind[last:]
+    if len(words) == 1 and (words[0] in reading.OF_TASKS or words[0] == sought.WAKES):
         return ["K"]
-    if behind == ["changes"]:
+    if words == [sought.CHANGES]:
         return ["OBJECT"]
-    return condition(behind) if with_conditions else []
+    if words[0] == "waits" and len(words) == 2:
+        return [*reading.PLACES, *reading.SIDES, reading.NOTE, reading.AND, reading.OR]
+    return condition(words) if with_conditions or last else []
 
 
 def condition(behind: Sequence[str]) -> List[str]:
@@ -56,15 +61,15 @@ def condition(behind: Sequence[str]) -> List[str]:
 def of_symbol(shell: "Shell", symbol: str, begun: str) -> List[str]:
     """The words that a symbol stands for."""
     target = shell.target
-    kinds = {other: kind for kind, other in commands.KIND_SYMBOLS.items()}
     if symbol in ("K", "PART", "INFO", "HELP"):
         return (
             [*target.names.tasks, *more(shell, symbol)] if symbol != "HELP" else more(shell, symbol)
         )
     if symbol == "OBJECT":
         return [name for _, name in target.names.objects]
-    if symbol in kinds:
-        return [name for kind, name in target.names.objects if kind == kinds[symbol]]
+    if symbol in kinds.OF_SYMBOL:
+        wanted = kinds.OF_SYMBOL[symbol].word
+        return [name for kind, name in target.names.objects if kind == wanted]
     if symbol == "C":
         cores = target.application.cores if target.application else 0
         return [*(str(core) for core in range(cores)), *target.names.tasks]

@@ -20,7 +20,7 @@ HINTS: Dict[str, str] = {
     "display": "`set moves on` shows what each move does; `watch COND`, `show watches` keep more",
     "rwatch": "a read isn't seen: `until changes Q` ends where something was taken or put",
     "awatch": "`until changes Q` ends where something was taken or put",
-    "catch": "`until failed`, `until stuck` and `until wakes TASK` end at such an event",
+    "catch": "`until failed`, `until asleep` and `until wakes TASK` end at such an event",
     "commands": "a watch does nothing by itself: `continue` ends where one becomes so",
     "condition": "a condition is the watch itself: `break COND`, as in `break count jobs > 0`",
     "ignore": "`continue` ends at each time: give it again",

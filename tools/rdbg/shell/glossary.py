@@ -18,12 +18,20 @@ PHASES: Dict[str, str] = {
     " kernel would assert; the task never runs again",
 }
 GOALS: Dict[str, str] = {
-    "stuck": "no core is busy, and no task has a deadline: only ticks are left. A task that never"
-    " waits, as one that plays an interrupt and ends in a jump, keeps it off: then `until sleeps"
-    " TASK`",
-    "failed": "a task's phase is failed",
+    "asleep": "no core is busy, some task waits, and none that waits has a deadline: only ticks are"
+    " left. A task that never waits, as one that plays an interrupt and ends in a jump, keeps it"
+    " off: then `until sleeps TASK`",
+    "finished": "all tasks have ended",
+    "stuck": "no core is busy, and no task has a deadline: `asleep`, `finished`, or no task waits and"
+    " one has failed",
+    "failed": "some task's phase is failed; `failed TASK`: this one's is",
+    "ended": "`ended TASK`: its phase is ended",
+    "at": "`at TASK N`: it has instruction N to do, or waits in it; N may be a label",
+    "waits": "`waits TASK`: its phase is wait; `waits TASK recv QUEUE`, or another place: it waits"
+    " there",
+    "runs": "`runs TASK`: it is on a core",
     "wakes": "`wakes TASK`: it waited before the move, and doesn't after it",
-    "sleeps": "`sleeps TASK`: it begins to wait without a deadline",
+    "sleeps": "`sleeps TASK`: it waits without a deadline",
     "changes": "`changes QUEUE`, or another object: what it holds isn't what it was before the move",
 }
 REFUSALS: Dict[str, str] = {
@@ -48,8 +56,8 @@ REFUSALS: Dict[str, str] = {
     "Full": "the server has as many sessions as it was started for",
 }
 TERMS: Dict[str, str] = {
-    "goal": "a GOAL is a COND, or stuck, failed, wakes TASK, sleeps TASK or changes QUEUE: `until"
-    " GOAL` runs there, `rc GOAL` goes back there; with `!` to where it became so",
+    "goal": "a GOAL is a COND, or `asleep`, `at TASK N` and others, joined by and, or, not: `until"
+    " GOAL` runs there, `rc GOAL` goes back there; with `!` to where it became so; `help until`",
     "registers": "each task has r0 to r7; r0 is the answer of its last call (docs/CALLS.md):"
     " `print r0 TASK`, `info registers TASK`; `poke reg TASK R N` sets one",
     "isr": "an interrupt, a move that no task makes: it is answered 1, or 0 where nothing changed,"

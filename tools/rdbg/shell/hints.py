@@ -1,10 +1,10 @@
 """What a refusal most likely wants to say to who typed the line, in a sentence or two."""
 from typing import TYPE_CHECKING, Callable, Dict
 
-from rdbg import commands
+from rdbg import commands, kinds, record
 from rdbg.near import nearest
 from rdbg.replies import Refused
-from rdbg.shell.syntax import AMOUNTS, syntax
+from rdbg.shell.syntax import syntax
 
 if TYPE_CHECKING:
     from rdbg.shell.shell import Shell
@@ -24,9 +24,8 @@ def no_such(shell: "Shell", line: str) -> str:
 def missing(shell: "Shell", symbol: str, it: str, is_asked: bool) -> str:
     """What is wrong with a word of a command, if anything; `is_asked` in a condition."""
     application = shell.target.application
-    kinds = {other: kind for kind, other in commands.KIND_SYMBOLS.items()}
-    if symbol in kinds:
-        return missing_name(shell, kinds[symbol], it, is_asked)
+    if symbol in kinds.OF_SYMBOL:
+        return missing_name(shell, kinds.OF_SYMBOL[symbol].word, it, is_asked)
     if symbol == "R" and int(it) > 7:
         return "registers are 0 to 7"
     if symbol == "C" and application and int(it) >= application.cores:
@@ -52,7 +51,8 @@ def missing_name(shell: "Shell", kind: str, name: str, is_asked: bool) -> str:
     others = [k for k, n in names.objects if n == name] + (["task"] if name in names.tasks else [])
     if others and is_asked:
         of_task = f"`phase {name} WORD`, `pc {name} OP N`, `reg {name} R OP N`"
-        amount_of = f"`{AMOUNTS[others[0]]} {name} OP N`" if others[0] in AMOUNTS else "no COND"
+        word = kinds.OF_WORD[others[0]].amount
+        amount_of = f"`{word} {name} OP N`" if word else "no COND"
         return f"'{name}' is a {others[0]}: {of_task if others[0] == 'task' else amount_of}"
     if others:
         return f"'{name}' is a {others[0]}: `show {others[0]} {name}`"
@@ -101,7 +101,7 @@ def too_far(shell: "Shell", kept: int) -> str:
     """How far `back` goes, where so many moves are kept."""
     base = max(0, shell.target.place - kept)
     if not kept:
-        return f"`trim` gave up all before {base}" if base else "no move is done: this is boot"
+        return record.given_up(f"all before {base}") if base else "no move is done: this is boot"
     return f"only {kept} moves can be taken back: `goto {base}` goes as far as they lead"
 
 

@@ -3,15 +3,13 @@ are attached it is theirs too."""
 import dataclasses
 from typing import Optional
 
+from rdbg import kinds
 from rdbg.by_hand import INTERRUPT
-from rdbg.commands import KIND_SYMBOLS, Command
+from rdbg.commands import Command
 from rdbg.effects import LOCAL
 from rdbg.instructions import form_of
 from rdbg.looks import Look, Names
-from rdbg.shell.target import Target
-
-EDITED = {"Q": "queue", "B": "stream", "G": "group"}
-KINDS = {symbol: kind for kind, symbol in KIND_SYMBOLS.items()}
+from rdbg.driving.target import Target
 
 
 def names_for(target: Target, command: Command, last: Optional[Look]) -> Names:
@@ -22,7 +20,11 @@ def names_for(target: Target, command: Command, last: Optional[Look]) -> Names:
         return Names(target.names.tasks)
     if word == "poke":
         symbol, name = command.symbols[2], command.words[2]
-        return Names((name,)) if symbol == "K" else Names((), ((EDITED[symbol], name),))
+        return (
+            Names((name,))
+            if symbol == kinds.TASK.symbol
+            else Names((), ((kinds.OF_SYMBOL[symbol].word, name),))
+        )
     if word == INTERRUPT:
         return of_interrupt(target, command)
     found = of_step(target, int(command.words[1]), last) if word == "step" and last else None
@@ -32,10 +34,10 @@ def names_for(target: Target, command: Command, last: Optional[Look]) -> Names:
 def of_interrupt(target: Target, command: Command) -> Names:
     """What an interrupt can change: whom it wakes may displace another, and an item that it sends
     has its handle in a set, if the queue is a member."""
-    if command.symbols[2] != "Q":
+    if command.symbols[2] != kinds.QUEUE.symbol:
         return Names(target.names.tasks)
-    sets = [key for key in target.names.objects if key[0] == "set"]
-    return Names(target.names.tasks, (("queue", command.words[2]), *sets))
+    sets = [key for key in target.names.objects if key[0] == kinds.QUEUE_SET.word]
+    return Names(target.names.tasks, ((kinds.QUEUE.word, command.words[2]), *sets))
 
 
 def of_step(target: Target, core: int, last: Look) -> Optional[Names]:
@@ -51,9 +53,10 @@ def of_step(target: Target, core: int, last: Look) -> Optional[Names]:
     if form is None or words[0] in LOCAL:
         return Names((task,))
     pairs = zip(form.symbols, words[1:])
-    keys = [(KINDS[symbol], name) for symbol, name in pairs if symbol in KINDS and symbol != "K"]
-    if any(kind == "queue" for kind, _ in keys):
-        keys += [key for key in target.names.objects if key[0] == "set"]
+    named = [(kinds.OF_SYMBOL.get(symbol), name) for symbol, name in pairs]
+    keys = [(kind.word, name) for kind, name in named if kind in kinds.OBJECTS]
+    if any(kind == kinds.QUEUE.word for kind, _ in keys):
+        keys += [key for key in target.names.objects if key[0] == kinds.QUEUE_SET.word]
     return Names(target.names.tasks, tuple(dict.fromkeys(keys)))
 
 

@@ -10,7 +10,7 @@ from typing import TYPE_CHECKING, Optional
 from rdbg import own_file
 from rdbg.client import Incoming
 from rdbg.failure import Failure
-from rdbg.shell.interrupt import Woken
+from rdbg.driving.interrupt import Woken
 
 if TYPE_CHECKING:
     from rdbg.shell.shell import Shell
@@ -20,7 +20,7 @@ MOST_LINES = 2_000
 WIPE = "\r\x1b[K"
 # Lines with these words aren't repeated by Enter.
 ONCE = (
-    "watch", "unwatch", "break", "b", "delete", "d", "save", "save!", "reload", "set", "help", "h", "?",
+    "watch", "unwatch", "break", "b", "delete", "d", "save", "save!", "reload", "reach", "again", "set", "help", "h", "?",
     "wheel", "poke", "isr", "goto", "g", "#",
 )  # fmt: skip
 

@@ -2,17 +2,17 @@
 import re
 from typing import TYPE_CHECKING, List, Optional, Sequence, Tuple
 
-from rdbg import commands, replies
+from rdbg import commands, record, replies
 from rdbg.effects import Move
 from rdbg.looks import Names
 from rdbg.failure import Failure
 from rdbg.replies import Refused
-from rdbg.shell import trail
-from rdbg.shell.interrupt import Interrupted
+from rdbg.driving import trail
+from rdbg.driving.interrupt import Interrupted
 from rdbg.shell.notices import MOST_MOVES
-from rdbg.shell.opening import begin
-from rdbg.shell.target import Limits, Target, Unable, read
-from rdbg.source import Source, load
+from rdbg.driving.opening import begin
+from rdbg.driving.target import Limits, Target, Unable, read
+from rdbg.files.source import Source, load
 
 if TYPE_CHECKING:
     from rdbg.shell.shell import Shell
@@ -49,9 +49,7 @@ def moves(shell: "Shell", words: Sequence[str]) -> None:
         shell.say(f".. {first - 1} moves before these")
     for row in trail.rows(found):
         shell.say(row)
-    undone = shell.target.places().undone
-    end = f"at {done}" + (f"; `redo` can make {undone} more" if undone else "")
-    shell.say(end)
+    shell.say(record.at(done, shell.target.places().undone))
 
 
 def lines_of(shell: "Shell") -> List[str]:

@@ -5,7 +5,7 @@ from typing import Set, Tuple
 
 from rdbg import own_file
 from rdbg.failure import Failure
-from rdbg.shell.target import Unable
+from rdbg.driving.target import Unable
 
 ENDING = ".commands"
 

@@ -1,24 +1,28 @@
-"""Words that go to a goal: `until!`, `rc`, `rc!`, `continue`, `until` with goals of sh's own."""
+"""Words that go to a goal: `until`, `until!`, `rc`, `rc!` and `continue`."""
 import textwrap
 from typing import TYPE_CHECKING, List, Optional, Sequence, Tuple
 
-from rdbg import commands, replies
+from rdbg import commands, record
+from rdbg.driving.interrupt import Interrupted
+from rdbg.driving.target import Unable
+from rdbg.goals import claims, conditions, reading, sought
+from rdbg.goals import words as goal_words
+from rdbg.goals.claims import Goal, Holds, SomeFailed, Stuck
+from rdbg.goals.reading import NoGoal
+from rdbg.goals.scope import Scope
+from rdbg.goals.ways import AnyOf, To, Way, is_so, is_stuck
 from rdbg.instructions import form_of
 from rdbg.replies import Refused
-from rdbg.shell import conditions, syntax
-from rdbg.shell.changes import Changes
-from rdbg.shell.goals import AnyOf, Becomes, Goal, Lasting, Sleeps, is_stuck, wakes
-from rdbg.shell.interrupt import Interrupted
-from rdbg.shell.target import Unable
-from rdbg.shell.views import check_instruction, check_name, phase_text, script_of
+from rdbg.shell.views import check_instruction, phase_text, script_of
 
 if TYPE_CHECKING:
     from rdbg.shell.shell import Shell
 
 DEFAULT_COUNT = 10_000
+BACK = f"{record.BACK} until"
 WIDTH = 96
-GOALS = ("stuck", "failed", "wakes", "sleeps", "changes")
-OF_TASKS = ("wakes", "sleeps")
+# A goal that is no condition begins with one of these.
+FIRST = (*reading.OF_TASKS, *reading.ALONE, *reading.OF_MOVES, reading.NOT, reading.OPEN)
 
 
 def count_of(words: Sequence[str]) -> Optional[int]:
@@ -28,67 +32,41 @@ def count_of(words: Sequence[str]) -> Optional[int]:
     return int(words[0]) if len(words) == 1 and commands.is_count(words[0]) else None
 
 
-def own_goal(shell: "Shell", words: Sequence[str], becoming: bool) -> Tuple[Goal, Sequence[str]]:
-    """The goal of sh's own that these words begin with, and the words behind it."""
-    word = words[0]
-    if word in ("stuck", "failed"):
-        return Lasting(word, becoming), words[1:]
-    if len(words) < 2:
-        raise Unable(f"{word} what? `{word} {'TASK' if word in OF_TASKS else 'QUEUE'}`")
-    if word in OF_TASKS:
-        check_name(shell, words[1], "task")
-        is_waking = word == "wakes"
-        return wakes(shell.target, words[1]) if is_waking else Sleeps(words[1]), words[2:]
-    if len(words) > 2 and words[1] in commands.KIND_SYMBOLS:
-        kind, name, rest = words[1], words[2], words[3:]
-        check_name(shell, name, kind)
-    else:
-        name, rest = words[1], words[2:]
-        kinds = [kind for kind, other in shell.target.names.objects if other == name]
-        kind = kinds[0] if kinds else check_name(shell, name)
-    if kind == "task":
-        raise Unable(f"{name} is a task; `changes` is of queues and other objects")
-    return Changes(shell.target, kind, name), rest
-
-
-def condition_goal(shell: "Shell", words: Sequence[str], word: str) -> Tuple[Goal, Sequence[str]]:
-    """The goal that a condition becomes so, and the words behind the condition; `word` is that of
-    sh's own in front of it."""
-    words = watched(shell, words)
-    joined = syntax.joined(words)
-    if joined:
-        raise Unable(joined)
-    for length in (len(words), len(words) - 1):
-        found = conditions.read(words[:length])
-        if found is not None:
-            # (a name that isn't there is refused by rdbg itself; this line changes nothing then)
-            check_condition(shell, found)
-            return Becomes(found), words[length:]
-    for length in (len(words), len(words) - 1):
-        mended = syntax.mended(shell, " ".join(["watch", *words[:length]]))
-        if mended:
-            raise Unable(mended.replace("`watch ", f"`{word} "))
-    raise Unable(syntax.at_fault(shell, ["watch", *words]).replace("`watch", f"`{word}"))
-
-
-def watched(shell: "Shell", words: Sequence[str]) -> List[str]:
-    """The words with a watch in front taken as its condition."""
-    if words and commands.is_watch(words[0]):
-        number = int(words[0][1:])
-        if number not in shell.target.watches:
-            raise Unable(f"there is no watch {number}; `info watches` shows them")
-        return [*shell.target.watches[number].split(), *words[1:]]
-    return list(words)
-
-
-def check_condition(shell: "Shell", condition: conditions.Condition) -> None:
-    """Raises `Refused` where rdbg doesn't know what a condition names."""
-    shell.asked = f"watch {condition.text}"
+def is_goal(words: Sequence[str], scope: Scope) -> bool:
+    """Whether these words are a goal that rdbg has no line for, or are meant to be one: the words
+    of a condition that rdbg refuses are its own."""
+    if not words or words[0].partition("(")[0] in FIRST or words[0].startswith("("):
+        return bool(words)
     try:
-        condition.holds(replies.read(shell.target.tell(condition.view)))
-    except IndexError:
-        raise Refused("NoSuch") from None
-    check_instructions(shell, condition)
+        goal_words.counted(words, scope)
+    except NoGoal:
+        return False
+    return True
+
+
+def goal_of(shell: "Shell", words: Sequence[str], becoming: bool) -> Tuple[Way, Optional[int]]:
+    """The way to the goal that these words are, and the COUNT behind them. Raises `Unable`, and
+    `Refused` where the target hasn't what it names."""
+    try:
+        way, count = sought.way(words, shell.target, shell.scope(), becoming)
+    except NoGoal as wrong:
+        raise Unable(str(wrong)) from None
+    if isinstance(way, To):
+        check_goal(shell, way.goal)
+    return way, count
+
+
+def check_goal(shell: "Shell", goal: Goal) -> None:
+    """Raises `Refused` where rdbg doesn't know what a goal names, and `Unable` where it is of an
+    instruction that its task doesn't have."""
+    for claim in goal.claims():
+        condition = claim.condition if isinstance(claim, Holds) else None
+        shell.asked = f"watch {condition.text}" if condition else f"until! {claim.text}"
+        try:
+            is_so(shell.target, claim)
+        except (IndexError, KeyError):
+            raise Refused("NoSuch") from None
+        check_instructions(shell, condition)
 
 
 def check_instructions(shell: "Shell", condition: Optional[conditions.Condition]) -> None:
@@ -98,37 +76,24 @@ def check_instructions(shell: "Shell", condition: Optional[conditions.Condition]
         check_instruction(shell, condition.name, least)
 
 
-def goal_of(
-    shell: "Shell", words: Sequence[str], becoming: bool, word: str
-) -> Tuple[Goal, List[str]]:
-    """The goal that these words begin with, and the words behind it."""
-    if words and words[0] in GOALS:
-        goal, rest = own_goal(shell, words, becoming)
-    else:
-        goal, rest = condition_goal(shell, words, word)
-    return goal, list(rest)
-
-
 def run_to(shell: "Shell", words: Sequence[str], becoming: bool) -> None:
     """Runs to a goal."""
     if not words:
-        raise Unable("until what? `until! COND [COUNT]`, `until stuck`; help until! says more")
-    goal, rest = goal_of(shell, words, becoming, "until!" if becoming else "until")
-    count = count_of(rest)
-    if count is None:
-        raise Unable(f"'{' '.join(rest)}' is no COUNT: a number, 1 to {commands.MOST_COUNT}")
-    forwards(shell, goal, count)
+        raise Unable("until what? `until! COND [COUNT]`, `until asleep`; help until! says more")
+    goal, count = goal_of(shell, words, becoming)
+    forwards(shell, goal, DEFAULT_COUNT if count is None else count)
 
 
-def forwards(shell: "Shell", goal: Goal, count: int) -> None:
+def forwards(shell: "Shell", goal: Way, count: int) -> None:
     """Goes to the first place where a goal is met, or makes so many moves."""
     walk, lines = shell.walk, shell.target.lines
     with shell.wheel():
         learn_all(shell)
         start = shell.target.places().done
-        already = isinstance(goal, Lasting) and goal.becoming and goal.is_so(shell.target)
+        lasts = isinstance(goal, To) and goal.becoming and goal.goal.is_lasting
+        already = lasts and goal.is_so(shell.target)
         if already or not can_change(shell, goal):
-            text = goal.text if already else "stuck"
+            text = goal.text if already else ending(shell)
             shell.say(f"{text} already; `rc! {text}` goes back to where it became so")
             return
         walk.wall = ""
@@ -142,15 +107,16 @@ def forwards(shell: "Shell", goal: Goal, count: int) -> None:
         if place is not None:
             shell.tell_last()
             tell_why(shell, goal)
-        elif is_stuck(shell.target):
-            shell.say("the target is stuck: `rc! stuck` goes back to where it became so")
-        elif goal.text == "stuck":
-            tell_who_goes_on(shell)
+        elif ending(shell):
+            text = ending(shell)
+            shell.say(f"the target is {text}: `rc! {text}` goes back to where it became so")
+        elif isinstance(goal, To) and isinstance(goal.goal, Stuck):
+            tell_who_goes_on(shell, goal.text)
         if place is None and shell.target.place != start:
             shell.say(f"`goto {start}` goes back to where this began")
 
 
-def backwards(shell: "Shell", goal: Goal) -> None:
+def backwards(shell: "Shell", goal: Way) -> None:
     """Goes back to the last earlier place where a goal is met, or stays."""
     walk, lines = shell.walk, shell.target.lines
     with shell.wheel():
@@ -171,7 +137,7 @@ def backwards(shell: "Shell", goal: Goal) -> None:
             shell.tell_last()
 
 
-def became(shell: "Shell", goal: Goal) -> bool:
+def became(shell: "Shell", goal: Way) -> bool:
     """Whether the last move made so what a goal asks for."""
     place = shell.walk.place
     if not place or not goal.is_so(shell.target):
@@ -191,7 +157,7 @@ def gave_up(shell: "Shell", ended: Exception, start: int) -> None:
         shell.say(f"{ended}; back at {start}")
 
 
-def said(shell: "Shell", goal: Goal, how: str, start: int, lines: int) -> None:
+def said(shell: "Shell", goal: Way, how: str, start: int, lines: int) -> None:
     """Says where a goal was met, or that it wasn't, and how many lines that took."""
     asked = shell.target.lines - lines
     by = f"({asked} line{'' if asked == 1 else 's'} asked)"
@@ -199,7 +165,9 @@ def said(shell: "Shell", goal: Goal, how: str, start: int, lines: int) -> None:
     none = f"'{goal.text}' wasn't met" if goal.text else "no watch, failed or stuck was met"
     if how == "met":
         met = goal.met if isinstance(goal, AnyOf) and not goal.text else goal
-        shell.say(f"at {here} met: {met.text if met else ''} {by}")
+        text = met.text if met else ""
+        is_ending = isinstance(goal, AnyOf) and text == Stuck().text
+        shell.say(f"at {here} met: {ending(shell) if is_ending else text} {by}")
     elif how == "none":
         shell.say(f"at {start} still: {none} before {by}")
     else:
@@ -208,17 +176,26 @@ def said(shell: "Shell", goal: Goal, how: str, start: int, lines: int) -> None:
         shell.say(f"at {here} limit: {none} in {moves}{wall} {by}")
 
 
-def tell_why(shell: "Shell", goal: Goal) -> None:
-    """Says of a target that is stuck, or where a task has failed, where each task is."""
+def ending(shell: "Shell") -> str:
+    """What a target is where only ticks are left: `finished`, `asleep`, or `stuck`, where no task
+    waits and one has failed; empty elsewhere."""
+    if not is_stuck(shell.target):
+        return ""
+    look = shell.target.look(Stuck().names(shell.target.names))
+    return next(it.text for it in reading.ALONE.values() if it.is_so(look))
+
+
+def tell_why(shell: "Shell", goal: Way) -> None:
+    """Says where each task is, where something is met that is said of all of them."""
     met = goal.met if isinstance(goal, AnyOf) else goal
-    if isinstance(met, Lasting):
+    if isinstance(met, To) and any(isinstance(it, claims.OfAll) for it in met.goal.claims()):
         tasks = shell.look().tasks.values()
         text = "; ".join(f"{it.name} {phase_text(it)}" for it in tasks)
         shell.say("\n".join(textwrap.wrap(text, WIDTH)))
 
 
-def tell_who_goes_on(shell: "Shell") -> None:
-    """Says of a target that isn't stuck who keeps it so."""
+def tell_who_goes_on(shell: "Shell", goal: str) -> None:
+    """Says of a target that isn't `asleep`, or `stuck`, who keeps it so."""
     found = []
     for name, it in shell.look().tasks.items():
         if it.core is not None:
@@ -228,11 +205,11 @@ def tell_who_goes_on(shell: "Shell") -> None:
             found.append(f"{name} is busy on core {it.core}{never}")
         elif it.phase.deadline is not None:
             found.append(f"{name} {phase_text(it)}")
-    text = f"not stuck: {'; '.join(found)}"
+    text = f"not {goal}: {'; '.join(found)}"
     shell.say("\n".join(textwrap.wrap(text, WIDTH)))
     if any(never_waits(shell, name) for name in shell.target.names.tasks):
         shell.say(
-            "so `stuck` can't come; `until sleeps TASK` runs to where one task waits for ever"
+            f"so `{goal}` can't come; `until sleeps TASK` runs to where one task waits for ever"
         )
 
 
@@ -262,19 +239,19 @@ def learn_all(shell: "Shell") -> None:
 
 
 def until(shell: "Shell", words: Sequence[str]) -> None:
-    """`until` with a goal of sh's own, or with a condition, whose COUNT may be left out."""
-    if not words or words[0] in GOALS:
+    """`until` with a goal that rdbg has no line for, or with a condition whose COUNT is left out."""
+    if not is_rdbgs(words):
         run_to(shell, words, False)
-    else:
-        check_instructions(shell, conditions.read(words))
-        start = shell.target.place
-        shell.command(f"until {' '.join(words)} {DEFAULT_COUNT}")
-        if shell.is_terminal and shell.target.place == start + DEFAULT_COUNT:
-            shell.say(f"`goto {start}` goes back to where this began")
+        return
+    check_instructions(shell, conditions.read(words))
+    start = shell.target.place
+    shell.command(f"until {' '.join(words)} {DEFAULT_COUNT}")
+    if shell.is_terminal and shell.target.place == start + DEFAULT_COUNT:
+        shell.say(f"`goto {start}` goes back to where this began")
 
 
-def lacks_count(words: Sequence[str]) -> bool:
-    """Whether these words are a condition, or a watch, and nothing behind it."""
+def is_rdbgs(words: Sequence[str]) -> bool:
+    """Whether these words are a condition of rdbg's, or a watch, and nothing behind it."""
     is_watch = len(words) == 1 and commands.is_watch(words[0])
     return is_watch or conditions.read(words) is not None
 
@@ -285,17 +262,14 @@ def until_becomes(shell: "Shell", words: Sequence[str]) -> None:
 
 
 def back(shell: "Shell", words: Sequence[str]) -> None:
-    """`rc`: rdbg's `back until`, or with a goal of sh's own; without words to where a watch became
-    so."""
+    """`rc`: rdbg's `back until`, or with a goal that it has no line for; without words to where a
+    watch became so."""
     if not words:
         backwards(shell, events(shell))
-        return
-    if words[0] in GOALS:
-        goal, rest = own_goal(shell, words, False)
-        no_more(rest)
-        backwards(shell, goal)
-        return
-    shell.command(f"back until {' '.join(words)}")
+    elif is_rdbgs(words) or not is_goal(words, shell.scope()):
+        shell.command(f"{BACK} {' '.join(words)}")
+    else:
+        back_to(shell, words, False)
 
 
 def back_until(shell: "Shell", words: Sequence[str]) -> None:
@@ -306,37 +280,36 @@ def back_until(shell: "Shell", words: Sequence[str]) -> None:
 def back_becomes(shell: "Shell", words: Sequence[str]) -> None:
     """`rc!`."""
     if not words:
-        raise Unable("back to what? `rc! COND`, `rc! stuck`")
-    goal, rest = goal_of(shell, words, True, "rc!")
-    no_more(rest)
+        raise Unable("back to what? `rc! COND`, `rc! asleep`")
+    back_to(shell, words, True)
+
+
+def back_to(shell: "Shell", words: Sequence[str], becoming: bool) -> None:
+    """Goes back to a goal."""
+    goal, count = goal_of(shell, words, becoming)
+    if count is not None:
+        raise Unable(f"'{count}' is too much: a way back takes no COUNT")
     backwards(shell, goal)
 
 
-def no_more(words: Sequence[str]) -> None:
-    """Raises `Unable` where there are words too many."""
-    if words:
-        raise Unable(f"'{' '.join(words)}' is too much: a way back takes no COUNT")
-
-
-def events(shell: "Shell") -> Goal:
+def events(shell: "Shell") -> Way:
     """What a run without a goal ends at: a watch that becomes so, a task that fails, or that
     nothing goes on."""
-    goals: List[Goal] = []
+    goals: List[Way] = []
     for number in sorted(shell.target.watches):
-        goal, _ = condition_goal(shell, [f"w{number}"], "")
+        goal, _ = goal_of(shell, [f"w{number}"], True)
         goal.text = f"w{number}, {goal.text}"
         goals.append(goal)
-    return AnyOf("", [*goals, Lasting("failed", True), Lasting("stuck", True)])
+    return AnyOf("", [*goals, To(SomeFailed(), True), To(Stuck(), True)])
 
 
-def can_change(shell: "Shell", goal: Goal) -> bool:
+def can_change(shell: "Shell", goal: Way) -> bool:
     """Whether a run can meet a goal: of a target that is stuck only the tick changes."""
-    goals = goal.goals if isinstance(goal, AnyOf) else [goal]
-    ticks = [it for it in goals if isinstance(it, Becomes) and it.condition.kind == "tick"]
-    lasting = [it for it in goals if isinstance(it, Lasting) and not it.becoming]
-    if ticks or any(it.text == "stuck" or it.is_so(shell.target) for it in lasting):
-        return True
-    return not is_stuck(shell.target)
+    ways = goal.ways if isinstance(goal, AnyOf) else [goal]
+    asked = [it for it in ways if isinstance(it, To)]
+    ticks = [claim for it in asked for claim in it.goal.claims() if claim.text.startswith("tick ")]
+    is_met = any(not it.becoming and it.is_so(shell.target) for it in asked)
+    return bool(ticks) or is_met or not is_stuck(shell.target)
 
 
 def carry_on(shell: "Shell", words: Sequence[str]) -> None:

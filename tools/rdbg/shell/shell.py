@@ -1,22 +1,29 @@
 """What `rdbg sh` does with a line: rdbg's own go to rdbg as they are, its own words are done."""
 import contextlib
+import dataclasses
 import re
 import shutil
 import sys
 import time
-from typing import Iterator, Optional, Sequence
+from typing import Iterator, Optional, Sequence, Tuple
 
-from rdbg import commands
+from rdbg import commands, kinds, record
+from rdbg.application import Interrupt as Handler
 from rdbg.client import ROOM_ENDED
 from rdbg.looks import Look, Names
 from rdbg.replies import Cores, Refused
-from rdbg.shell import hints, needs, trail, views
-from rdbg.shell.interrupt import Interrupt, Interrupted
+from rdbg.goals.scope import Scope
+from rdbg.shell import hints, needs, views
+from rdbg.driving import trail
+from rdbg.driving.interrupt import Interrupt, Interrupted
 from rdbg.shell.notices import Notices, is_remark
+from rdbg.shell.reach import Reached
 from rdbg.shell.saved import Saved
-from rdbg.shell.target import SINGLE, Target, Unable, read
-from rdbg.shell.walk import Pieces, Walk
-from rdbg.source import Source
+from rdbg.driving.target import SINGLE, Target, Unable, read
+from rdbg.driving.walk import Pieces, Walk
+from rdbg.driving.pacing import TickPace
+from rdbg.goals.paced import PacedWalk
+from rdbg.files.source import Source
 
 # Of a run of more moves than these the last few are shown.
 MANY, FEW = 20, 5
@@ -36,14 +43,22 @@ class Shell:
         self.shows_moves = self.shows_lines = False
         self.is_terminal = self.told_of_breaks = self.is_done = False
         self.saved = Saved()
+        # The pace of runs, and the interrupts that come in them by themselves.
+        self.pace: Optional[TickPace] = None
+        self.coming: Tuple[Handler, ...] = ()
+        # What was asked last of what can still come.
+        self.reached: Optional[Reached] = None
         self.take(target, source)
 
     def take(self, target: Target, source: Optional[Source]) -> None:
         """Goes on with this target and its file."""
         self.target, self.source = target, source
-        self.walk = Walk(target, self.interrupt)
+        self.walk: Walk = Walk(target, self.interrupt)
         self.pieces = Pieces(self.walk)
+        if self.pace is not None:
+            self.walk = PacedWalk(target, self.interrupt, self.pace, self.coming)
         self.knows_tasks = False
+        self._named: Optional[Scope] = None
         self._seen: Optional[Look] = None
         self._seen_at = -1
         # (what was seen last, which may be old)
@@ -71,6 +86,13 @@ class Shell:
         if not notice.startswith(ROOM_ENDED):
             self._wipe()
             print(notice, flush=True)
+
+    def scope(self) -> Scope:
+        """What goals can name."""
+        target = self.target
+        if self._named is None:
+            self._named = Scope.of(self.source, target.application)
+        return dataclasses.replace(self._named, names=target.names, watches=target.watches)
 
     def progress(self, made: int, of: int, done: str) -> None:
         """Shows at a terminal how far something long is: it stands in one line, and goes away."""
@@ -107,7 +129,7 @@ class Shell:
     def in_its_names(self, text: str) -> str:
         """A text whose examples name a task and a queue that there are."""
         names = self.target.names
-        queues = [name for kind, name in names.objects if kind == "queue"]
+        queues = [name for kind, name in names.objects if kind == kinds.QUEUE.word]
         for word, there in (("worker", names.tasks), ("jobs", queues)):
             if there and word not in there:
                 text = re.sub(rf"\b{word}\b", there[0], text)
@@ -147,7 +169,9 @@ class Shell:
 
         names = self.target.names
         known = (*names.tasks, *(name for _, name in names.objects))
-        word = None if commands.read(stripped) else find(words, known)
+        application = self.target.application
+        interrupts = [it.name for it in application.interrupts] if application else []
+        word = None if commands.read(stripped) else find(words, known, self.scope, interrupts)
         try:
             if word is None:
                 self.command(stripped)
@@ -243,7 +267,7 @@ class Shell:
         if self.notices.is_room:
             return None
         is_single = command.form.word in SINGLE or command.count() == 1
-        if not self.shows_moves or not is_single or command.form.word == "back":
+        if not self.shows_moves or not is_single or command.form.word == record.BACK:
             if self.is_terminal or self.shows_moves:
                 self.target.places()  # (for the place that was said last)
             return None

@@ -1,12 +1,14 @@
 """Words that move the target by name, or by gdb's words: `step worker`, `s`, `rs`, `break`."""
 import pathlib
 import re
-from typing import TYPE_CHECKING, Optional, Sequence
+from typing import TYPE_CHECKING, List, Optional, Sequence
 
-from rdbg import commands, replies
+from rdbg import commands, record, replies
 from rdbg.looks import Names
-from rdbg.shell import conditions, seek, trail
-from rdbg.shell.target import Unable
+from rdbg.goals import conditions
+from rdbg.shell import seek
+from rdbg.driving import trail
+from rdbg.driving.target import Unable
 from rdbg.shell.views import check_instruction, check_name, phase_text
 
 if TYPE_CHECKING:
@@ -85,6 +87,18 @@ def tell_ticks(shell: "Shell", first: int, last: int) -> None:
         shell.say(f"{others} tick{'' if others == 1 else 's'} woke and turned nobody")
 
 
+def interrupt(shell: "Shell", words: Sequence[str]) -> None:
+    """`isr NAME`: an interrupt that the text names comes, with all calls of its handler."""
+    application = shell.target.application
+    found = application.interrupt(words[0]) if application else None
+    if found is None:
+        raise Unable(f"the text names no interrupt {words[0]}")
+    for line in found.lines():
+        shell.interrupt.check()
+        if not shell.command(line):
+            return
+
+
 def why_on_none(shell: "Shell", it: replies.Task) -> str:
     """Why a task is on no core, and who is."""
     cores = shell.target.ask("show cores", replies.Cores)
@@ -113,7 +127,7 @@ def back(shell: "Shell", words: Sequence[str]) -> None:
     """`rs [COUNT]`: takes moves back."""
     if len(words) > 1 or not all(commands.is_count(word) for word in words):
         raise Unable("`rs` takes the last move back, `rs 5` the last five, whosever they are")
-    shell.command(" ".join(["back", *(words or ["1"])]))
+    shell.command(" ".join([record.BACK, *(words or ["1"])]))
 
 
 def goto(shell: "Shell", words: Sequence[str]) -> None:
@@ -131,18 +145,24 @@ def goto(shell: "Shell", words: Sequence[str]) -> None:
     if place == there.done:
         shell.say(f"at {place} already")
         return
-    word = "back" if place < there.done else "redo"
-    shell.command(f"{word} {abs(place - there.done)}")
+    shell.command(record.way(there.done, place))
 
 
 def break_at(shell: "Shell", words: Sequence[str]) -> None:
     """`break TASK PC`, `break FILE:LINE`, `break COND`: a watch, to which `continue` goes."""
-    if words and words[0] in ("stuck", "failed", "wakes", "sleeps", "changes"):
+    if not seek.is_rdbgs(words) and seek.is_goal(words, shell.scope()):
         goal = " ".join(words)
         raise Unable(f"a watch is a condition; `until {goal}` runs there, `rc {goal}` goes back")
     line = re.fullmatch(r"(?:(.+):)?([0-9]{1,9})", " ".join(words))
     if line and line[1] not in shell.target.names.tasks and len(words) == 1:
-        words = at_line(shell, line[1], int(line[2]))
+        for place in at_line(shell, line[1], int(line[2])):
+            put_break(shell, place)
+    else:
+        put_break(shell, words)
+
+
+def put_break(shell: "Shell", words: Sequence[str]) -> None:
+    """A watch at `TASK PC`, or of a condition."""
     is_made = False
     parts = [part for word in words for part in word.split(":") if part]
     if len(parts) == 2 and commands.is_name(parts[0]) and commands.is_number(parts[1]):
@@ -160,29 +180,30 @@ def break_at(shell: "Shell", words: Sequence[str]) -> None:
         shell.say("`continue` runs to where a watch becomes so, `rc` goes back to where one did")
 
 
-def at_line(shell: "Shell", file: Optional[str], line: int) -> Sequence[str]:
-    """The task and the number of the first instruction at a line of the file, or behind it."""
+def at_line(shell: "Shell", file: Optional[str], line: int) -> List[Sequence[str]]:
+    """The task and the number of the first instruction at a line of the file, or behind it; of each
+    task whose script it is, where that is of several."""
     source, application = shell.source, shell.target.application
     if source is None or application is None:
         raise Unable("no file is known: `break TASK PC`")
     if file is not None and pathlib.Path(file).name != pathlib.Path(source.path).name:
         raise Unable(f"the file is {source.path}: `break {line}`, or `break TASK PC`")
     found = [
-        (it.place.line, task.name, number, it.written)
+        (it.place, task.name, number, it.written)
         for task in application.tasks
         for number, it in enumerate(task.code)
-        if it.place.line >= line
+        if it.place.line >= line and it.begins
     ]
     if not found:
         raise Unable(f"{source.path} has no instruction at line {line} or behind it")
-    first = min(at for at, *_ in found)
-    there = [(name, number, written) for at, name, number, written in found if at == first]
-    if len(there) > 1:
+    first = min(at.line for at, *_ in found)
+    there = [(name, number, written) for at, name, number, written in found if at.line == first]
+    if len({at for at, *_ in found if at.line == first}) > 1:
         texts = [f"`break {name} {number}` ({written})" for name, number, written in there]
         raise Unable(f"line {first} has {len(there)} instructions: {', '.join(texts)}")
-    name, number, written = there[0]
-    shell.say(f"{source.path}:{first}  {name} {number} {written}")
-    return [name, str(number)]
+    for name, number, written in there:
+        shell.say(f"{source.path}:{first}  {name} {number} {written}")
+    return [[name, str(number)] for name, number, _ in there]
 
 
 def delete(shell: "Shell", words: Sequence[str]) -> None:

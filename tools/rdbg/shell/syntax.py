@@ -2,7 +2,9 @@
 import re
 from typing import TYPE_CHECKING, Callable, List, Optional, Sequence, Tuple
 
-from rdbg import commands
+from rdbg import commands, kinds, record
+from rdbg.goals import words as goal_words
+from rdbg.goals.reading import NoGoal
 from rdbg.near import nearest
 from rdbg.shell.gdb import HINTS
 from rdbg.shell.glossary import GOALS
@@ -17,7 +19,7 @@ Words = List[str]
 Repair = Callable[["Shell", Words], Optional[Tuple[Words, str]]]
 
 
-COUNTS = {"forward": "100", "back": "1", "redo": "1"}
+COUNTS = {"forward": "100", record.BACK: "1", record.REDO: "1"}
 
 
 def small_letters(shell: "Shell", words: Words) -> Optional[Tuple[Words, str]]:
@@ -79,7 +81,7 @@ def kind(shell: "Shell", words: Words) -> Optional[Tuple[Words, str]]:
     if words[0] != "show" or len(words) < 2:
         return None
     word, names = words[1], shell.target.names
-    single = word[:-1] if word.endswith("s") and word[:-1] in commands.KIND_SYMBOLS else ""
+    single = word[:-1] if word.endswith("s") and word[:-1] in kinds.OF_WORD else ""
     if single and len(words) > 2:
         return ["show", single, *words[2:]], f"the kind is {single}"
     if len(words) == 2 and word in names.tasks:
@@ -106,8 +108,9 @@ def amounts(shell: "Shell", words: Words) -> Optional[Tuple[Words, str]]:
     name, behind = (words[at : at + 2] + ["", ""])[:2]
     names = shell.target.names
     for of_kind, other in names.objects:
-        if other == name and behind in commands.OPERATORS and of_kind in AMOUNTS:
-            return [*words[:at], AMOUNTS[of_kind], *words[at:]], AMOUNT_FIRST
+        amount = kinds.OF_WORD[of_kind].amount
+        if other == name and behind in commands.OPERATORS and amount:
+            return [*words[:at], amount, *words[at:]], AMOUNT_FIRST
     if name not in names.tasks:
         return None
     if behind in commands.PHASES:
@@ -117,9 +120,6 @@ def amounts(shell: "Shell", words: Words) -> Optional[Tuple[Words, str]]:
     if re.fullmatch("r[0-7]", behind):
         return [*words[:at], "reg", name, behind[1:], *words[at + 2 :]], AMOUNT_FIRST
     return None
-
-
-AMOUNTS = {"queue": "count", "stream": "bytes", "message": "msgs", "group": "bits"}
 
 
 AMOUNT_FIRST = "a condition begins with what is looked at"
@@ -161,28 +161,32 @@ def syntax(shell: "Shell", line: str) -> str:
         return "an empty line is no command"
     if words[0] == "show" and len(words) == 2 and words[1] in SHOWN:
         return SHOWN[words[1]]
-    return HINTS.get(words[0]) or joined(words[1:]) or mended(shell, line) or at_fault(shell, words)
+    told = HINTS.get(words[0]) or of_goal(shell, words) or joined(words[1:])
+    return told or mended(shell, line) or at_fault(shell, words)
 
 
 JOINING = ("and", "or", "not", "&&", "||", "&", "|", "!")
 
 
 def joined(words: Sequence[str]) -> str:
-    """That a condition isn't made of others, where these words are meant to be one; else empty."""
+    """That a watch isn't made of several conditions, where these words are meant to be one; else
+    empty."""
     found = next((word for word in words if word.lower() in JOINING), None)
     if found is None or not any(word in STARTS or commands.is_watch(word) for word in words):
         return ""
-    if found.lower() in ("or", "||", "|"):
-        return (
-            f"a condition has no `{found}`: `watch` each of them, and `continue` runs to where one"
-            " becomes so"
-        )
-    if found.lower() in ("not", "!"):
-        return f"a condition has no `{found}`: turn it round, `> 0` for not `= 0`, or another phase"
-    return (
-        f"a condition has no `{found}`: `until!` one of them, and look whether the other is so"
-        " (`info tasks`, `info objects`), then `until!` again"
-    )
+    return f"a watch is one condition, without `{found}`: `until! GOAL` and `rc! GOAL` take goals"
+
+
+def of_goal(shell: "Shell", words: Sequence[str]) -> str:
+    """Why the words behind `until` and `back until` are no goal; empty where none stand there."""
+    behind = words[2:] if words[:2] == ["back", "until"] else words[1:]
+    if not behind or (words[0] != "until" and len(behind) == len(words) - 1):
+        return ""
+    try:
+        goal_words.counted(behind, shell.scope())
+    except NoGoal as wrong:
+        return str(wrong)
+    return ""
 
 
 STARTS = tuple(form.word for form in commands.CONDITIONS)
@@ -195,7 +199,7 @@ SHOWN = {
     "all": "`info tasks` and `info objects` show all there is",
     "watch": "`show watches`, or `info watches` with their conditions",
     "core": "`show cores`, or `where`",
-    **{word: ALL for word in ("objects", "queues", "sets", "streams", "messages", "groups")},
+    **{word: ALL for word in ("objects", *(kind.key for kind in kinds.OBJECTS))},
 }
 
 
@@ -238,11 +242,8 @@ def at_fault(shell: "Shell", words: Sequence[str]) -> str:
         expected = [symbol for symbol in expected if symbol not in words_of_conditions]
         expected.insert(0, f"COND: {', '.join(words_of_conditions)}")
     wanted = " or ".join(describe(symbol) for symbol in expected)
-    near = nearest(words[1], GOALS) if words[0] in ("until", "back") and words[1:] else None
-    if near and most == 1:
-        wanted += f", or `{near}`"
     if list(words) == ["until"]:
-        wanted += ", or stuck, failed, wakes TASK, sleeps TASK, changes QUEUE"
+        wanted += ", or another goal: `help until`"
     behind = f"behind `{' '.join(words[:most])}`"
     if most == len(words):
         return f"{behind} comes {wanted}"

@@ -1,13 +1,13 @@
 """What there is, as tables and sentences: `info`, `where`, `list`, `print`."""
 import re
-from typing import TYPE_CHECKING, Callable, Dict, List, Optional, Sequence
+from typing import TYPE_CHECKING, Callable, Dict, Iterator, List, Optional, Sequence
 
-from rdbg import commands, replies
+from rdbg import commands, kinds, replies
 from rdbg.application import Instruction
 from rdbg.looks import Key, Object, hexadecimal, holding, time_of
 from rdbg.near import nearest
 from rdbg.operands import to_text
-from rdbg.shell.target import Unable
+from rdbg.driving.target import Unable
 
 if TYPE_CHECKING:
     from rdbg.shell.shell import Shell
@@ -64,7 +64,7 @@ def check_instruction(shell: "Shell", name: str, number: int) -> None:
 def written(shell: "Shell", name: str, pc: int) -> str:
     """An instruction as it is written; empty where it isn't known."""
     script = script_of(shell, name)
-    return script[pc].written if pc < len(script) else ""
+    return script[pc].told if pc < len(script) else ""
 
 
 def place_in_file(shell: "Shell", name: str, pc: int) -> str:
@@ -229,36 +229,45 @@ def listing(shell: "Shell", words: Sequence[str]) -> None:
         it = look.tasks[name]
         where = "" if shell.source is None else f"  {shell.source.path}"
         shell.say(f"{name}, {phase_text(it)}{where}")
-        rows = []
-        for number, instruction in enumerate(script):
-            line = "" if shell.source is None else str(instruction.place.line)
-            mark = "->" if number == it.pc else ""
-            rows.append([line.rjust(4), mark.ljust(2), str(number).rjust(3), instruction.written])
-        shell.say("\n".join(table(rows)))
+        shell.say("\n".join(table(list(listed(script, it.pc, shell.source is not None)))))
+
+
+def listed(script: Sequence[Instruction], pc: int, has_lines: bool) -> Iterator[List[str]]:
+    """The rows of a script, one for each line, which may be several instructions; that of the next
+    instruction is marked."""
+    for number, it in enumerate(script):
+        if not it.begins:
+            continue
+        count = it.part.count if it.part else 1
+        is_next = number <= pc < number + count
+        numbers = to_text(number, number + count - 1).replace(" to ", "-")
+        line = str(it.place.line) if has_lines else ""
+        text = script[pc].told if is_next else it.told
+        yield [line.rjust(4), "->" if is_next else "  ", numbers.rjust(3), text]
 
 
 def kinds_of(shell: "Shell", name: str) -> List[str]:
     """The kinds of which there is a thing of this name: `task`, `queue`, .."""
-    kinds = ["task"] if name in shell.target.names.tasks else []
-    return kinds + [kind for kind, other in shell.target.names.objects if other == name]
+    tasks = [kinds.TASK.word] if name in shell.target.names.tasks else []
+    return tasks + [kind for kind, other in shell.target.names.objects if other == name]
 
 
 def check_name(shell: "Shell", name: str, kind: str = "") -> str:
     """The kind of the thing of this name. Raises `Unable` where there is none (of `kind`)."""
     if shell.target.application is None and commands.is_name(name):
         # (rdbg may know of more than has been told)
-        asked = [kind] if kind else list(commands.KIND_SYMBOLS)
+        asked = [kind] if kind else list(kinds.OF_WORD)
         shell.target.tell_all([f"show {each} {name}" for each in asked])
-    kinds = kinds_of(shell, name)
-    if kind in kinds or (kinds and not kind):
-        return kind or kinds[0]
+    there = kinds_of(shell, name)
+    if kind in there or (there and not kind):
+        return kind or there[0]
     names = shell.target.names
     tasks_there = names.tasks if kind in ("", "task") else ()
     known = [*tasks_there, *(other for each, other in names.objects if kind in ("", each))]
     near = nearest(name, known)
     what = kind or "task or object"
-    if kinds:
-        raise Unable(f"there is no {what} '{name}': it is a {kinds[0]}")
+    if there:
+        raise Unable(f"there is no {what} '{name}': it is a {there[0]}")
     raise Unable(f"there is no {what} '{name}'" + (f"; near it is '{near}'" if near else ""))
 
 
@@ -341,7 +350,7 @@ def info(shell: "Shell", words: Sequence[str]) -> None:
     """A table, or all of a task or an object."""
     word = words[0] if words else ""
     singular = word[:-1] if word.endswith("s") else word
-    kind = singular if singular in commands.KIND_SYMBOLS and not kinds_of(shell, word) else ""
+    kind = singular if singular in kinds.OF_WORD and not kinds_of(shell, word) else ""
     if word in TABLES and not (kind and len(words) == 2):
         TABLES[word](shell)
     elif word == "registers":
@@ -364,7 +373,7 @@ TABLES: Dict[str, Callable[["Shell"], None]] = {
     "objects": objects,
     "watches": watches,
     "cores": lambda shell: where(shell, []),
-    "queues": objects,
+    kinds.QUEUE.key: objects,
     "break": watches,
     "breakpoints": watches,
     "watchpoints": watches,

@@ -3,7 +3,10 @@ import dataclasses
 from typing import TYPE_CHECKING, Callable, Container, Dict, List, Optional, Sequence, Tuple
 
 from rdbg import commands
-from rdbg.shell import basics, replay, seek, steps, views
+from rdbg.goals.scope import Scope
+from rdbg.looks import Names
+from rdbg.reaching import asking
+from rdbg.shell import basics, paces, reach, replay, seek, steps, views
 
 if TYPE_CHECKING:
     from rdbg.shell.shell import Shell
@@ -30,9 +33,11 @@ class Word:
 
 
 GOALS = (
-    "GOAL is COND, or stuck (no core is busy, and no task has a deadline), failed (a task has),\n"
-    "wakes TASK (it waited, and doesn't now), sleeps TASK (it begins to wait without a deadline),\n"
-    "changes QUEUE (or another object: what it holds). Without COUNT at most 10,000 moves.\n"
+    "GOAL is COND; bits G & MASK = N, note and reg so too; reg K R = reg K2 R2; at TASK N (or a\n"
+    "label); waits TASK [recv Q ..], sleeps TASK (without a deadline), runs, ended, failed TASK;\n"
+    "failed (some task), finished (all ended), asleep (some wait, and nothing goes on), stuck (either,\n"
+    "or all have ended or failed); these with and, or, not, ( ). Or of a move: wakes TASK, changes\n"
+    "QUEUE (or another object: what it holds). Without COUNT at most 10,000 moves.\n"
     "`(22 lines asked)`: so many lines of rdbg's it took to find the place.\n"
     "A run goes one order of many: one that doesn't meet a goal says nothing of the others."
 )
@@ -42,10 +47,27 @@ SAVE = (
     "at once. A file that is there and wasn't saved by this prompt stays: `save! FILE` writes it\n"
     "anew, but for one whose name doesn't end in .commands."
 )
+PACE = (
+    "`pace 5..20`: in go, until! and continue each busy core makes at least 5 moves between two ticks,\n"
+    "counted from where its task came to it, by lines step and tick; so a wait of 5 ticks is longer\n"
+    "than five instructions. `pace none` ends that. forward, s and until COND stay the program's own.\n"
+    "`interrupts ping` has it come in such runs at each tick where its line lets it; or none."
+)
 RELOAD = (
     "A new program begins with the file as it is now, and makes the same moves up to the first that\n"
     "does something else (another instruction, answer, or other tasks woken); `redo 1` makes that\n"
     "one. Watches are kept. Where the file is wrong, or after Ctrl-C, the target stays as it is."
+)
+
+QUESTION = (
+    "GOAL is one of places, as of `until`.\n"
+    "{}\n"
+    "The target stays as it is. Ctrl-C ends the search."
+)
+AGAIN = (
+    "For a mend: the file is read anew, the moves are made again as by `reload`, and the goal that\n"
+    "`reach` was asked for last is asked for again, from the same place, or from boot where the moves\n"
+    "up to it aren't the same any more."
 )
 
 WORDS: Tuple[Word, ...] = (
@@ -86,6 +108,15 @@ WORDS: Tuple[Word, ...] = (
         steps.back,
         ("rn", "rsi", "rni", "reverse-step", "reverse-stepi", "reverse-next", "undo"),
     ),
+    Word("isr NAME", "an interrupt of the text comes", steps.interrupt),
+    Word("pace M..N", "moves of each busy core between two ticks", paces.put, more=PACE),
+    Word("go COUNT [ticks]", "so many moves, or ticks, at the pace", paces.go, more=PACE),
+    Word(
+        "interrupts NAME ..",
+        "those of the text that come by themselves",
+        paces.interrupts,
+        more=PACE,
+    ),
     Word("until GOAL [COUNT]", "runs to where GOAL is so", seek.until, (), ("GOAL",), GOALS),
     Word(
         "until! GOAL [COUNT]",
@@ -106,7 +137,7 @@ WORDS: Tuple[Word, ...] = (
     Word("rc! GOAL", "back to where it became so", seek.back_becomes, (), ("GOAL!",), GOALS),
     Word(
         "continue [COUNT]",
-        "runs to a watch, a task that fails, or stuck",
+        "runs to a watch, a task that fails, or where nothing goes on",
         seek.carry_on,
         ("c", "cont"),
     ),
@@ -125,6 +156,11 @@ WORDS: Tuple[Word, ...] = (
         "save! FILE", "the same, onto a file that is there", replay.save_anew, (), ("FILE",), SAVE
     ),
     Word("reload", "the same moves on the edited file", replay.reload, more=RELOAD),
+    *(
+        Word(f"{it.word} GOAL", it.asks, reach.asks(it), (), ("GOAL!",), QUESTION.format(it.more))
+        for it in asking.QUESTIONS.values()
+    ),
+    Word("again", "reload, and what was asked by reach last", reach.again, more=AGAIN),
     Word(
         "set moves|echo on|off",
         "say what moves did; show lines to rdbg",
@@ -148,23 +184,31 @@ def names() -> List[str]:
     return list(BY_NAME)
 
 
-def find(words: Sequence[str], known: Container[str] = ()) -> Optional[Word]:
+def find(
+    words: Sequence[str],
+    known: Container[str] = (),
+    scope: Callable[[], Scope] = lambda: Scope(Names()),
+    interrupts: Container[str] = (),
+) -> Optional[Word]:
     """The word of sh's own that a line begins with, where it isn't one of rdbg's lines; the words
-    `step`, `until`, `back` and `show` are rdbg's too. `known` are the names that there are."""
+    `step`, `until`, `back`, `show` and `isr` are rdbg's too. `known` are the names that there are,
+    `scope` says what goals can name, and `interrupts` are the names of interrupts."""
     first, second = words[0], words[1] if len(words) > 1 else ""
     if first == "show":
         return SHOW if len(words) == 2 and second in known else None
     if first == "step":
         has_count = len(words) == 3 and commands.is_number(second) and commands.is_count(words[2])
         return BY_NAME["step"] if commands.is_name(second) or has_count else None
+    if first == "isr":
+        return BY_NAME["isr"] if len(words) == 2 and second in interrupts else None
     if first == "tick":
         return BY_NAME["tick"] if second else None
     if first == "until":
-        is_goal = second in seek.GOALS or seek.lacks_count(words[1:])
+        is_goal = seek.is_rdbgs(words[1:]) or seek.is_goal(words[1:], scope())
         return BY_NAME["until"] if is_goal else None
     if first == "back":
-        is_own = second == "until!" or (second == "until" and words[2:3] and words[2] in seek.GOALS)
-        return BACK if is_own else None
+        is_own = second == "until" and seek.is_goal(words[2:], scope())
+        return BACK if is_own or second == "until!" else None
     if first == "set" and second not in basics.SETTINGS:
         return None if len(words) > 1 else BY_NAME["set"]
     return BY_NAME.get(first)

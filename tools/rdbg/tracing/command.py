@@ -1,34 +1,40 @@
 """What `rdbg trace` does, once its words are read: a run is looked at, and written as rows, as events
 or as a page."""
 import argparse
+import dataclasses
 import functools
 import os
 import sys
 import time
 from typing import Callable, Dict, Iterable, Iterator, List, Optional, Sequence, Tuple
 
-from rdbg import commands
-from rdbg.checking.wording import shown
+from rdbg import commands, record
+from rdbg.wording import shown
 from rdbg.effects import Move
 from rdbg.failure import Failure
+from rdbg.goals.claims import Goal
+from rdbg.goals.reading import NoGoal
+from rdbg.goals.words import read
+from rdbg.goals.scope import Scope
 from rdbg.looks import Names
 from rdbg.near import nearest
 from rdbg.page.recorder import Recorder
 from rdbg.replies import Refused
-from rdbg.shell.opening import attach, builtin
-from rdbg.shell.target import Limits, Unable
-from rdbg.source import Source
+from rdbg.driving.opening import attach, builtin
+from rdbg.driving.target import Limits, Unable
+from rdbg.files.source import Source
 from rdbg.tracing.events import Events
 from rdbg.tracing.page import ways
 from rdbg.tracing.page.document import page
-from rdbg.tracing.run import AT_A_PORT, Line, Part, Plan, Run, Trim, part_at, parts, plan
+from rdbg.driving.parts import AT_A_PORT, Part, Trim, part_at
+from rdbg.tracing.run import Line, Plan, Run, parts, plan
 from rdbg.tracing.table import Row, Table, rows
 from rdbg.whole_file import written
 
 STANDARD_INPUT = "-"
 MOST_REFUSED = 10
 # What stands in place of a task where no task did it. So many names are said at the most.
-KINDS, FEW = ("tick", "edit", "isr", "trim"), 8
+KINDS, FEW = ("tick", "edit", "isr", record.TRIM), 8
 # Progress is said after so many seconds, and then as often.
 PATIENCE = 2.0
 # What leads to the places of a page, by what the page has.
@@ -119,16 +125,38 @@ def print_rows(found: Iterable[Row], table: Table, names: Optional[Sequence[str]
             print(table.row(row.cells))
 
 
-def moves_in(found: Iterable[Part]) -> Iterator[Move]:
-    """The moves of all parts."""
+def moves_in(found: Iterable[Part], goal: Optional[Goal]) -> Iterator[Move]:
+    """The moves of all parts, or those alone behind which a goal holds."""
     for part in found:
-        yield from part.moves
+        for move, look in zip(part.moves, part.looks):
+            if goal is None or goal.is_so(look):
+                yield move
+
+
+def goal_of(when: Optional[str], scope: Scope) -> Optional[Goal]:
+    """The goal that is to hold, if one is. Raises `Failure` where words are none."""
+    try:
+        return None if when is None else read(when.split(), scope)
+    except NoGoal as wrong:
+        raise Failure(f"--when: {wrong}", 2) from None
+
+
+def page_of(source: Source, told: Sequence[str], path: str) -> None:
+    """Writes the page of a run that these lines make, of an application that has no faults."""
+    assert source.application is not None
+    lines = tuple(Line(at, text) for at, text in enumerate(told, 1))
+    run = Run(source, lines, Limits(Limits.moves, commands.MOST_COUNT))
+    whole = plan(run)
+    seen = parts(run, whole.pieces, 1) if whole.pieces else [Part(whole.end, (), ())]
+    way = ways.of_run(source, whole.told, None, whole.base)
+    write_page(seen, whole.trims, path, Recorder(source.application), lambda _: way)
 
 
 def trace_run(given: argparse.Namespace, source: Optional[Source]) -> None:
     """Traces commands that are told to programs of their own."""
     application = (source and source.application) or builtin()
     names = wanted(given.only, Names.of(application), application.cores)
+    goal = goal_of(given.when, Scope.of(source, application))
     lines = commands_of(given.commands)
     run = Run(source, lines, Limits(given.moves or Limits.moves, commands.MOST_COUNT))
     whole = plan(run)
@@ -146,7 +174,7 @@ def trace_run(given: argparse.Namespace, source: Optional[Source]) -> None:
         return
     told = [it.text for it in lines]
     table = Table.of(application, whole.done, whole.end.cores.tick, told)
-    print_rows(rows(moves_in(seen), found.trims), table, names)
+    print_rows(rows(moves_in(seen, goal), found.trims), table, names)
 
 
 def trace_port(given: argparse.Namespace, source: Optional[Source]) -> None:
@@ -165,7 +193,8 @@ def trace_port(given: argparse.Namespace, source: Optional[Source]) -> None:
         way = functools.partial(ways.of_port, source, given.port, done)
         write_page([part], (), given.page, recorder, way)
         return
-    found = list(rows(part.moves))
+    scope = dataclasses.replace(Scope.of(source), names=target.names)
+    found = list(rows(moves_in([part], goal_of(given.when, scope))))
     names = wanted(given.only, target.names, len(part.before.cores.running))
     print_rows(found, Table.wide_enough(row.cells[:6] for row in found), names)
 

@@ -10,7 +10,7 @@ from typing import Callable, Dict, List, Optional, Sequence, Tuple
 from rdbg import replies
 from rdbg.effects import Effect, Move
 from rdbg.looks import Key, Look, Object
-from rdbg.tracing.run import Part, Trim
+from rdbg.driving.parts import Part, Trim
 
 MOVE = 1_000  # microseconds
 CORES, TASKS, OBJECTS = 1, 2, 3

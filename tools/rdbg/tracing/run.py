@@ -7,21 +7,19 @@ import dataclasses
 import functools
 from typing import Callable, Iterator, List, Optional, Sequence, Tuple
 
-from rdbg.effects import Move
+from rdbg import record
 from rdbg.failure import Failure
 from rdbg.looks import Look
-from rdbg.shell import trail
-from rdbg.shell.interrupt import Interrupt
-from rdbg.shell.opening import begin
-from rdbg.shell.target import RESERVE, Limits, Target
-from rdbg.shell.walk import LEAST_PIECE, Walk
-from rdbg.source import Source
+from rdbg.driving import trail
+from rdbg.driving.opening import begin
+from rdbg.driving.target import RESERVE, Limits, Target
+from rdbg.driving.parts import Part, Told, Trim, look_through
+from rdbg.driving.walk import LEAST_PIECE
+from rdbg.files.source import Source
 from rdbg.tracing.workers import side_by_side
 
 # So many moves are looked at by one program at the most.
 MOST_MOVES = 4_096
-# So many of the moves at a port are looked at where nothing is said: the history there is of all.
-AT_A_PORT = 1_000
 
 
 @dataclasses.dataclass(frozen=True)
@@ -30,22 +28,6 @@ class Line:
 
     number: int
     text: str
-
-
-@dataclasses.dataclass(frozen=True)
-class Told:
-    """A line that was accepted and is no view, and how many moves were done behind it."""
-
-    text: str
-    place: int
-
-
-@dataclasses.dataclass(frozen=True)
-class Trim:
-    """A trim that was made, and how many moves were done then."""
-
-    place: int
-    line: str
 
 
 @dataclasses.dataclass(frozen=True)
@@ -108,15 +90,6 @@ class Plan:
         return sum(it.last - it.first + 1 for it in self.pieces)
 
 
-@dataclasses.dataclass(frozen=True)
-class Part:
-    """Moves in order, the look before the first of them, and the look behind each."""
-
-    before: Look
-    moves: Tuple[Move, ...]
-    looks: Tuple[Look, ...]
-
-
 def room_for_moves(run: Run, target: Target, told: int) -> int:
     """How many moves the history has room to look at, once so many lines were told."""
     left = run.limits.history - told - RESERVE - run.ways - trail.lines_for(0, target.names)
@@ -153,36 +126,11 @@ def plan(run: Run) -> Plan:
                 refused.append((line, reply))
             elif word != "show":
                 told.append(Told(line.text, target.place))
-            if word == "trim" and not reply.startswith("no "):
+            if word == record.TRIM and not reply.startswith("no "):
                 trims.append(Trim(target.place, line.text))
         pieces += pieces_of(run, target, len(run.lines), seen + 1, target.place)
         accepted = (tuple(trims), tuple(refused), tuple(told))
         return Plan(tuple(pieces), *accepted, target.look(), target.base)
-
-
-def look_through(target: Target, first: int, last: int) -> Part:
-    """The moves to these places, with the looks, of a target that has come to them or further.
-    Stays where it is."""
-    walk = Walk(target, Interrupt())
-    here = walk.place
-    try:
-        return walk_through(walk, first, last)
-    finally:
-        walk.goto(here)
-
-
-def walk_through(walk: Walk, first: int, last: int) -> Part:
-    """The same; it ends at the last place."""
-    target = walk.target
-    walk.goto(first - 1)
-    before = target.look()
-    moves: List[Move] = []
-    looks: List[Look] = []
-    while walk.place < last:
-        for look in trail.again(target, min(trail.CHUNK, last - walk.place), target.names):
-            moves.append(trail.between(target, looks[-1] if looks else before, look))
-            looks.append(look)
-    return Part(before, tuple(moves), tuple(looks))
 
 
 class Looker:
@@ -232,21 +180,3 @@ def parts(run: Run, pieces: Sequence[Piece], workers: int) -> Iterator[Part]:
             yield from map(look, pieces)
     else:
         yield from side_by_side(functools.partial(Looker, run), pieces, workers)
-
-
-def part_at(target: Target, first: Optional[int], last: Optional[int]) -> Tuple[Part, int]:
-    """The moves that a target has done which others move too, the last of them where nothing says
-    from where on, and the first place from which one could look. Nobody else moves it meanwhile.
-    Raises `Refused` where another has the wheel."""
-    with target.wheel():
-        places = target.places()
-        base = places.done - places.kept
-        least = max(base + 1, places.done - AT_A_PORT + 1 if first is None else first)
-        most = places.done if last is None else min(last, places.done)
-        if least > most:
-            return Part(target.look(), (), ()), base + 1
-        part = look_through(target, least, most)
-        seen = part.before
-        if {*target.names.tasks, *target.names.objects} > {*seen.tasks, *seen.objects}:
-            part = look_through(target, least, most)  # (it told of more than was looked at)
-        return part, base + 1

@@ -2,10 +2,11 @@
 import dataclasses
 from typing import FrozenSet, Iterable, Iterator, Sequence, Tuple
 
+from rdbg import record
 from rdbg.application import Application
 from rdbg.digits import is_digits
 from rdbg.effects import Move
-from rdbg.tracing.run import Trim
+from rdbg.driving.parts import Trim
 
 HEADS = ("place", "tick", "core", "who", "pc", "does")
 WIDEST = 40
@@ -35,7 +36,7 @@ class Table:
         cls, application: Application, done: int, tick: int, lines: Sequence[str] = ()
     ) -> "Table":
         """A table for so many moves of an application, up to a tick, that these lines made."""
-        texts = [it.written for task in application.tasks for it in task.code]
+        texts = [it.told for task in application.tasks for it in task.code]
         # (an interrupt stands as its line, and has effects behind it, as an edit hasn't)
         texts += [line for line in lines if line.split()[0] == "isr"]
         widest = max(len(text) + len(" -> 1") for text in texts)
@@ -75,26 +76,29 @@ def about(move: Move) -> FrozenSet[str]:
         it.how for it in move.effects if it.kind == "turns"
     ]
     core = [] if move.core is None else [str(move.core)]
-    return frozenset([move.task or move.kind, *core, *named, *spoken])
+    return frozenset([move.who, *core, *named, *spoken])
 
 
 def row_of(move: Move) -> Row:
     """The row of a move."""
-    does = move.written or move.instruction or ""
-    if move.kind == "edit":
-        does = move.line or "by somebody else"
-    if move.answer is not None:
-        does += f" -> {move.answer}"
     numbers = ["" if it is None else str(it) for it in (move.place, move.tick, move.core)]
     pc = "" if move.pc is None else str(move.pc)
     effects = ", ".join(it.text(move.task) for it in move.effects)
-    return Row((*numbers, move.task or move.kind, pc, does, effects), about(move))
+    return Row((*numbers, move.who, pc, move.does, effects), about(move))
 
 
 def row_of_trim(trim: Trim) -> Row:
     """The row of a trim."""
-    cells = (str(trim.place), "", "", "trim", "", trim.line, "records of earlier moves given up")
-    return Row(cells, frozenset(["trim"]))
+    cells = (
+        str(trim.place),
+        "",
+        "",
+        record.TRIM,
+        "",
+        trim.line,
+        "records of earlier moves given up",
+    )
+    return Row(cells, frozenset([record.TRIM]))
 
 
 def rows(moves: Iterable[Move], trims: Sequence[Trim] = ()) -> Iterator[Row]:

@@ -4,13 +4,15 @@ from typing import Dict, List, Optional, Tuple
 
 from tests.reaching.clock import Clock, Rules, Schedule
 from tests.reaching.goals import Goal
-from tests.reaching.machine import Machine
+from tests.reaching.machine import Places
 
 # How many surprises, and how many moves.
 Cost = Tuple[int, int]
 # Where surprises aren't counted, so many may come.
 ANY_NUMBER = 1_000_000
 Place = Tuple[int, Clock]
+# Places by how many moves lead there.
+Level = Dict[int, List[Place]]
 
 
 def counting(schedule: Schedule) -> Rules:
@@ -21,32 +23,39 @@ def counting(schedule: Schedule) -> Rules:
 
 class Levels:
     """Goes through places by rising numbers of surprises, and among these of moves, of which there
-    are so many at the most. At a level are the places that orders of so many surprises lead to, and
-    that none of fewer surprises leads to with as few moves."""
+    are so many at the most, or any number. At a level are the places that orders of so many surprises
+    lead to, and that none of fewer surprises leads to with as few moves; with any number of moves,
+    those that none of fewer surprises leads to."""
 
-    def __init__(self, machine: Machine, rules: Rules, most_moves: int) -> None:
+    def __init__(self, machine: Places, rules: Rules, most_moves: Optional[int]) -> None:
         self.machine, self.rules, self.most = machine, rules, most_moves
         self.best: Dict[Place, int] = {}
         # of this number of surprises, by how many moves
-        self.level: List[List[Place]] = [[] for _ in range(most_moves + 1)]
-        self.level[0].append((0, self.rules.at_start(machine.states[0])))
+        self.level: Level = {0: [(0, self.rules.at_start(machine.states[0]))]}
 
     def fewest(self, goals: List[Goal]) -> List[Cost]:
         """With how few each of these goals comes, each of which does."""
         met: List[Optional[Cost]] = [None] * len(goals)
         surprises = 0
-        while None in met and any(self.level):
-            level, self.level = self.level, [[] for _ in range(self.most + 1)]
-            for moves in range(self.most + 1):
-                for place in level[moves]:
-                    if self.best.get(place, self.most + 1) <= moves:
+        while None in met and self.level:
+            level, self.level = self.level, {}
+            while level:
+                moves = min(level)
+                for place in level.pop(moves):
+                    if self._was_there(place, moves):
                         continue
                     self.best[place] = moves
                     self._judge(place, (surprises, moves), goals, met)
-                    if moves < self.most:
-                        self._go_on(place, level[moves + 1], self.level[moves + 1])
+                    if moves != self.most:
+                        self._go_on(place, moves + 1, level)
             surprises += 1
         return [cost or (ANY_NUMBER, 0) for cost in met]
+
+    def _was_there(self, place: Place, moves: int) -> bool:
+        """Whether nothing comes from a place that didn't come from it before, with as few surprises
+        and moves."""
+        before = self.best.get(place)
+        return before is not None and (self.most is None or before <= moves)
 
     def _judge(
         self, place: Place, cost: Cost, goals: List[Goal], met: List[Optional[Cost]]
@@ -55,11 +64,12 @@ class Levels:
             if met[at] is None and goal.holds(self.machine.states[place[0]]):
                 met[at] = cost
 
-    def _go_on(self, place: Place, level: List[Place], next_level: List[Place]) -> None:
+    def _go_on(self, place: Place, moves: int, level: Level) -> None:
         number, clock = place
         state = self.machine.states[number]
         choices = self.rules.choices(state, clock)
-        moves = [self.rules.lines(choice) for choice in choices]
-        for choice, later in zip(choices, self.machine.after(number, moves)):
+        lines = [self.rules.lines(choice) for choice in choices]
+        for choice, later in zip(choices, self.machine.after(number, lines)):
             after = self.rules.after(state, clock, choice, self.machine.states[later])
-            (next_level if after.spent else level).append((later, after._replace(spent=0)))
+            its_level = self.level if after.spent else level
+            its_level.setdefault(moves, []).append((later, after._replace(spent=0)))

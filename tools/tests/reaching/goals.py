@@ -2,6 +2,7 @@
 import random
 from typing import Any, Callable, Dict, List, NamedTuple
 
+from tests.reaching.clock import LAST_TICK
 from tests.reaching.states import State
 
 Holds = Callable[[State], bool]
@@ -23,10 +24,11 @@ PLACES = {
 
 
 class Goal(NamedTuple):
-    """A goal: its words, and whether it holds at a place."""
+    """A goal: its words, whether it holds at a place, and whether it speaks of the tick."""
 
     words: str
     holds: Holds
+    on_tick: bool = False
 
 
 def is_asleep(state: State) -> bool:
@@ -48,20 +50,22 @@ def has_failed(state: State) -> bool:
 ASLEEP = Goal("asleep", is_asleep)
 FINISHED = Goal("finished", is_finished)
 FAILED = Goal("failed", has_failed)
-# What holds nowhere that a search of some moves comes to, unless the tick is at its limit.
-NEVER = Goal("tick < 0", lambda state: False)
+# What holds nowhere, with and without a word of the tick.
+NEVER = Goal("tick < 0", lambda state: False, True)
+NOWHERE = Goal("failed and not failed", lambda state: False)
 
 
 def negated(goal: Goal) -> Goal:
     """Its opposite."""
-    return Goal(f"not ({goal.words})", lambda state: not goal.holds(state))
+    return Goal(f"not ({goal.words})", lambda state: not goal.holds(state), goal.on_tick)
 
 
 def joined(word: str, one: Goal, other: Goal) -> Goal:
     """Both, or one of both."""
     both: Holds = lambda state: one.holds(state) and other.holds(state)
     some: Holds = lambda state: one.holds(state) or other.holds(state)
-    return Goal(f"({one.words}) {word} ({other.words})", both if word == "and" else some)
+    words, on_tick = f"({one.words}) {word} ({other.words})", one.on_tick or other.on_tick
+    return Goal(words, both if word == "and" else some, on_tick)
 
 
 class Goals:
@@ -83,7 +87,7 @@ class Goals:
     def claim(self) -> Goal:
         """One that is joined of no others."""
         makers = [self._whole, self._phase, self._at, self._waits, self._place, self._note]
-        makers += [self._register, self._registers, self._runs]
+        makers += [self._register, self._registers, self._runs, self._tick]
         makers += [self._count] if self.application.get("queues") else []
         makers += [self._bits] if self.application.get("groups") else []
         return self.dice.choice(makers)()
@@ -149,6 +153,15 @@ class Goals:
             return COMPARED[compared](first, second)
 
         return Goal(f"reg {one} 0 {compared} reg {other} 1", holds)
+
+    def _tick(self) -> Goal:
+        compared = self._compared()
+        number = min(self.application.get("tick", 0) + self.dice.randint(0, 6), LAST_TICK)
+
+        def holds(state: State) -> bool:
+            return COMPARED[compared](state.tick, number)
+
+        return Goal(f"tick {compared} {number}", holds, True)
 
     def _note(self) -> Goal:
         name, number, mask = self._task()["name"], self.dice.randint(0, 3), self.dice.randint(1, 3)

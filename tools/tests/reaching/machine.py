@@ -3,7 +3,7 @@ import json
 import pathlib
 import subprocess
 from types import TracebackType
-from typing import Callable, Dict, List, Optional, Sequence, Tuple, Type
+from typing import Callable, Dict, List, Optional, Protocol, Sequence, Tuple, Type
 
 from tests.reaching.states import State, Views
 
@@ -17,6 +17,7 @@ KINDS = {
 }
 # So many lines go through one session; then another begins.
 MOST_LINES = 900_000
+LINES_AT_ONCE = 1_000
 # The lines of a move: one, but for an interrupt of several calls.
 Lines = Tuple[str, ...]
 
@@ -35,13 +36,17 @@ class Session:
         self.count = 0
 
     def ask(self, lines: Sequence[str]) -> List[str]:
-        """The answers to these lines, fewer than a pipe has room for."""
+        """The answers to these lines. They are written by so many as a pipe has room for."""
         assert self.process.stdin is not None and self.process.stdout is not None
         self.count += len(lines)
-        self.process.stdin.write("".join(f"{line}\n" for line in lines).encode())
-        self.process.stdin.flush()
         read = self.process.stdout.readline
-        return [read().decode().rstrip("\n") for _ in lines]
+        answers: List[str] = []
+        for at in range(0, len(lines), LINES_AT_ONCE):
+            some = lines[at : at + LINES_AT_ONCE]
+            self.process.stdin.write("".join(f"{line}\n" for line in some).encode())
+            self.process.stdin.flush()
+            answers += [read().decode().rstrip("\n") for _ in some]
+        return answers
 
     def close(self) -> None:
         """Ends it."""
@@ -56,25 +61,22 @@ def lines_taken(program: str, file: pathlib.Path, lines: Sequence[str]) -> Lines
     return taken
 
 
-def as_shown(views: Views) -> Views:
-    """What tells places apart where no law says that they are the same: all that is shown."""
-    return views
+class Places(Protocol):
+    """Places that moves lead to, each by its number: 0 is the start."""
+
+    states: List[State]
+
+    def after(self, place: int, moves: Sequence[Lines]) -> List[int]:
+        """The places that moves lead to, each of which can be made at that place."""
 
 
 class Machine:
-    """The places that moves lead to, each by its number: 0 is the start, behind these lines. Places
-    are the same where what they are is equal."""
+    """The places of a session that stands behind these lines at the start. Places are the same where
+    all that is shown of them is."""
 
-    def __init__(
-        self,
-        program: str,
-        file: pathlib.Path,
-        start: Sequence[str] = (),
-        is_what: Callable[[Views], Views] = as_shown,
-    ) -> None:
+    def __init__(self, program: str, file: pathlib.Path, start: Sequence[str] = ()) -> None:
         application = json.loads(file.read_text())
         self.program, self.file, self.start = program, file, tuple(start)
-        self.is_what = is_what
         self.shown = ["show cores"]
         for kind, word in KINDS.items():
             self.shown += [f"show {word} {it['name']}" for it in application.get(kind, [])]
@@ -112,7 +114,7 @@ class Machine:
         return session
 
     def _number(self, views: Sequence[str], seen_from: Tuple[int, Lines]) -> int:
-        number = self.numbers.setdefault(self.is_what(tuple(views)), len(self.states))
+        number = self.numbers.setdefault(tuple(views), len(self.states))
         if number == len(self.states):
             self.states.append(State(tuple(views)))
             self.seen_from.append(seen_from)
@@ -161,3 +163,25 @@ class Machine:
         for line, answer in zip(lines, answers):
             if not answer.startswith("ok "):
                 raise Answered(f"'{line}' was answered '{answer}'")
+
+
+class Alike:
+    """The places of others, of which those are one that are the same by what `is_what` says of them.
+    The first one that is seen stands for all."""
+
+    def __init__(self, places: Places, is_what: Callable[[State], Views]) -> None:
+        self.states = places.states
+        self._places, self._is_what = places, is_what
+        self._stands_for: Dict[int, int] = {}
+        self._first: Dict[Views, int] = {}
+        self.one_for(0)
+
+    def after(self, place: int, moves: Sequence[Lines]) -> List[int]:
+        """The places that moves lead to, each of which can be made at that place."""
+        return [*map(self.one_for, self._places.after(place, moves))]
+
+    def one_for(self, place: int) -> int:
+        if place not in self._stands_for:
+            one = self._first.setdefault(self._is_what(self.states[place]), place)
+            self._stands_for[place] = one
+        return self._stands_for[place]

@@ -8,9 +8,9 @@ from tests.reaching.applications import SmallMaker
 from tests.reaching.clock import Interrupt, Schedule
 from tests.reaching.goals import ASLEEP, Goal, Goals
 
-PACE, SURPRISES, ISR, FROM = "--pace", "--surprises", "--isr", "--from"
-# The options that a schedule and a start are asked by.
-OPTIONS = (PACE, SURPRISES, ISR, FROM)
+PACE, SURPRISES, ISR, FROM, EXACT = "--pace", "--surprises", "--isr", "--from", "--exact"
+# The options that a schedule and a start are asked by, and whether states are told apart exactly.
+OPTIONS = (PACE, SURPRISES, ISR, FROM, EXACT)
 ACTIONS = ("none", "bits", "inc", "inc", "set", "setif")
 GOALS = 3
 

@@ -4,7 +4,7 @@ import re
 from typing import Dict, NamedTuple, Optional, Sequence, Tuple
 
 Views = Tuple[str, ...]
-DEADLINE = re.compile(r"\b((?:wait:\S+|again):)(\d+)\b")
+DEADLINE = re.compile(r"\b((?:wait:\S+|again):)(\d+)(?!\S)")
 
 
 class Task(NamedTuple):
@@ -66,13 +66,19 @@ def task_of(words: Sequence[str]) -> Task:
     return Task(core, int(words[5]), phase, tuple(rest), registers, tuple(words[13].split(",")))
 
 
-def by_laws(views: Views) -> Views:
-    """What a place is by the laws of the turn and of the clock: without the turn, with the tick as
-    what is left of it by the number of cores, and each deadline as how far ahead it is."""
-    state = State(views)
+def by_clock(state: State) -> Views:
+    """What a place is by the law of the clock: with the tick as what is left of it by the number of
+    cores, and each deadline as how far ahead it is."""
     tick = state.tick
-    cores = " ".join(views[0].split()[:-4])
+    cores = " ".join(state.views[0].split()[:-4])
     ahead = (
-        DEADLINE.sub(lambda it: f"{it[1]}+{max(0, int(it[2]) - tick)}", it) for it in views[1:]
+        DEADLINE.sub(lambda it: f"{it[1]}+{max(0, int(it[2]) - tick)}", it)
+        for it in state.views[1:]
     )
-    return (f"{cores} tick {tick % len(state.cores)}", *ahead)
+    return (f"{cores} tick {tick % len(state.cores)} turn {state.turn}", *ahead)
+
+
+def by_laws(state: State) -> Views:
+    """The same by the law of the turn, too: without it."""
+    cores, *others = by_clock(state)
+    return (cores.rpartition(" turn ")[0], *others)

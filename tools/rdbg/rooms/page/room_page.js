@@ -7,7 +7,7 @@ const MOST_REFUSALS = 10;
 const BETWEEN = 250;
 // At first a move is so wide, that one sees those that come, and some before.
 const SCALE = 64;
-const LOOKS = /^\s*show(\s|$)/;
+const LOOKS = /^\s*(show|reach)(\s|$)/;
 const MOVES = ["run", "more", "now", "trims"];
 
 // The name by which this page was here before it was loaded anew, or by which somebody was in this
@@ -357,7 +357,7 @@ class RoomOnPage {
   async tell(line) {
     if (!this.isHere) return;
     const { reply, refused, ended } = await this.line.say("line", line);
-    const no = refused ?? ended ?? (reply.startsWith("no ") ? this.refusalWords(reply) : null);
+    const no = refused ?? ended ?? (/^no:? /.test(reply) ? this.refusalWords(reply) : null);
     if (no !== null) this.talk.say("refused", `${line} -> ${no}`);
     else if (LOOKS.test(line)) this.talk.say("reply", `${line} -> ${reply}`);
   }

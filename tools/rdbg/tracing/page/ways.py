@@ -3,9 +3,9 @@ import pathlib
 import shlex
 from typing import Dict, List, Optional, Sequence
 
-from rdbg.source import LINES, Source
+from rdbg.files.source import LINES, Source
 from rdbg.page.recorder import Recorder
-from rdbg.tracing.run import Told
+from rdbg.driving.parts import Told
 
 
 def settled(told: Sequence[Told]) -> List[List[object]]:

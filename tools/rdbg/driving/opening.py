@@ -1,0 +1,120 @@
+"""The beginning and the end of a session: a program of one's own, or a port that is attached to."""
+import contextlib
+import sys
+import threading
+from typing import Iterator, Optional
+
+from rdbg import scratch
+from rdbg.files import source as sources
+from rdbg.application import Application
+from rdbg.client import Session
+from rdbg.failure import Failure
+from rdbg.replies import Refused, Unreadable, read
+from rdbg.driving.target import Limits, Target
+from rdbg.files.source import LINES, Source
+
+# The application that rdbg has without a file.
+BUILTIN = b"""{"profile": 1, "cores": 1, "queues": [{"name": "q0", "length": 2, "item": 1}],
+"tasks": [{"name": "t0", "priority": 1,
+"code": ["data 41", "send q0 0", "send q0 0", "send q0 0", "end"]}]}"""
+# So many seconds pass before it is said that a server doesn't answer.
+PATIENCE = 3
+NOTE = "# the server doesn't answer: are as many attached as it was started for (--sessions)?"
+
+
+def builtin() -> Application:
+    """The application that rdbg has without a file."""
+    application = sources.source("built-in", BUILTIN).application
+    assert application is not None
+    return application
+
+
+def begin(source: Optional[Source], limits: Limits) -> Target:
+    """A program of its own with an application as it was read, or the built-in one. Raises
+    `Failure` where it can't be started, or refuses the application."""
+    if source is None:
+        session = Session.run(None, limits.words())
+        greet(session)
+        return Target(session, builtin(), limits)
+    with as_read(source) as path:
+        session = Session.run(path, limits.words())
+        greet(session)  # (once it has answered it has read the file)
+    return Target(session, source.application, limits)
+
+
+@contextlib.contextmanager
+def as_read(source: Source) -> Iterator[str]:
+    """The path of a file with an application as it was read, even if it was edited since."""
+    if source.path.endswith(LINES):
+        with source.as_json() as path:
+            yield path
+        return
+    with scratch.folder() as folder:
+        made = folder / "application.json"
+        made.write_bytes(source.text.encode("utf-8", "replace"))
+        yield str(made)
+
+
+def greet(session: Session) -> None:
+    """Waits until a session answers. An empty line is no command, and has no place in the
+    history."""
+    try:
+        reply = session.tell("")
+        try:
+            read(reply)
+        except Refused as refused:
+            if refused.name == "Syntax":
+                return
+            raise Failure(f"the server lets nobody else in: no {refused}") from None
+        raise Unreadable(reply)
+    except BaseException:
+        session.close()
+        raise
+
+
+def attach(port: int, source: Optional[Source], name: Optional[str] = None) -> Target:
+    """One more session at a server, at a room's by a name. Raises `Failure` where there is none,
+    where it lets nobody in, or where a file was given that isn't its application."""
+    timer = threading.Timer(PATIENCE, lambda: print(NOTE, file=sys.stderr, flush=True))
+    timer.daemon = True
+    timer.start()
+    try:
+        session = Session.attach(port, name)
+        if name is None:
+            greet(session)
+    finally:
+        timer.cancel()
+    application = source.application if source else None
+    target = Target(session, application, None)
+    try:
+        with session.looking():
+            target.places()
+            target.tell("show cores")
+            if source is not None and application is not None:
+                compare(target, application, source.path)
+    except BaseException:
+        session.close()
+        raise
+    return target
+
+
+def compare(target: Target, application: Application, path: str) -> None:
+    """Raises `Failure` where what the target has isn't what an application says."""
+    other = f"{path} isn't the application that the server has"
+    lines = target.names.lines()
+    for line, answer in zip(lines, target.tell_all(lines)):
+        if answer == "no NoSuch":
+            raise Failure(f"{other}: it has no {line[len('show '):]}", 2)
+    look = target.look()
+    if len(look.cores.running) != application.cores:
+        raise Failure(f"{other}: it has {len(look.cores.running)} cores", 2)
+    for task in application.tasks:
+        if look.tasks[task.name].pc >= len(task.code):
+            raise Failure(f"{other}: {task.name} is at {look.tasks[task.name].pc}", 2)
+
+
+def close(target: Target) -> None:
+    """Ends a session. Raises `Failure` where its program ends with another status than 0."""
+    status = target.session.close()
+    if status:
+        raise Failure(f"rdbg has ended, with status {status}")

@@ -1,0 +1,81 @@
+"""Moves that were made, with the look behind each."""
+import dataclasses
+from typing import List, Optional, Tuple
+
+from rdbg.driving import trail
+from rdbg.driving.interrupt import Interrupt
+from rdbg.driving.target import Target
+from rdbg.driving.walk import Walk
+from rdbg.effects import Move
+from rdbg.looks import Look
+
+# So many of the moves at a port are looked at where nothing is said: the history there is of all.
+AT_A_PORT = 1_000
+
+
+@dataclasses.dataclass(frozen=True)
+class Told:
+    """A line that was accepted and is no view, and how many moves were done behind it."""
+
+    text: str
+    place: int
+
+
+@dataclasses.dataclass(frozen=True)
+class Trim:
+    """A trim that was made, and how many moves were done then."""
+
+    place: int
+    line: str
+
+
+@dataclasses.dataclass(frozen=True)
+class Part:
+    """Moves in order, the look before the first of them, and the look behind each."""
+
+    before: Look
+    moves: Tuple[Move, ...]
+    looks: Tuple[Look, ...]
+
+
+def look_through(target: Target, first: int, last: int) -> Part:
+    """The moves to these places, with the looks, of a target that has come to them or further.
+    Stays where it is."""
+    walk = Walk(target, Interrupt())
+    here = walk.place
+    try:
+        return walk_through(walk, first, last)
+    finally:
+        walk.goto(here)
+
+
+def walk_through(walk: Walk, first: int, last: int) -> Part:
+    """The same; it ends at the last place."""
+    target = walk.target
+    walk.goto(first - 1)
+    before = target.look()
+    moves: List[Move] = []
+    looks: List[Look] = []
+    while walk.place < last:
+        for look in trail.again(target, min(trail.CHUNK, last - walk.place), target.names):
+            moves.append(trail.between(target, looks[-1] if looks else before, look))
+            looks.append(look)
+    return Part(before, tuple(moves), tuple(looks))
+
+
+def part_at(target: Target, first: Optional[int], last: Optional[int]) -> Tuple[Part, int]:
+    """The moves that a target has done which others move too, the last of them where nothing says
+    from where on, and the first place from which one could look. Nobody else moves it meanwhile.
+    Raises `Refused` where another has the wheel."""
+    with target.wheel():
+        places = target.places()
+        base = places.done - places.kept
+        least = max(base + 1, places.done - AT_A_PORT + 1 if first is None else first)
+        most = places.done if last is None else min(last, places.done)
+        if least > most:
+            return Part(target.look(), (), ()), base + 1
+        part = look_through(target, least, most)
+        seen = part.before
+        if {*target.names.tasks, *target.names.objects} > {*seen.tasks, *seen.objects}:
+            part = look_through(target, least, most)  # (it told of more than was looked at)
+        return part, base + 1

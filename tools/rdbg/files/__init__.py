@@ -1,0 +1,1 @@
+"""An application's file, in either form."""

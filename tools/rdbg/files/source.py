@@ -1,0 +1,130 @@
+"""An application's text, as JSON or in lines, with all its faults and what it says."""
+import contextlib
+import dataclasses
+import pathlib
+import sys
+from typing import TYPE_CHECKING, Iterator, List, Mapping, Optional, Sequence, Tuple
+
+from rdbg import scratch
+from rdbg.application import Application, Interrupt, application
+from rdbg.failure import Failure
+from rdbg.fault import Fault
+from rdbg.checking.faults import faults_of
+from rdbg.json_layout import json_of
+from rdbg.tree import Node, Object
+
+if TYPE_CHECKING:
+    from rdbg.firmware.reader import Named
+
+LINES = ".fw"
+# Consts by their names, which were given beside a text.
+Given = Mapping[str, int]
+
+
+@dataclasses.dataclass(frozen=True)
+class Source:
+    """A file: its text, its faults in the order in which rdbg looks for them, the application where
+    there is none; of a text in lines what there is to remark, what lines of objects become, and
+    which consts were given."""
+
+    path: str
+    text: str
+    root: Optional[Node]
+    faults: Tuple[Fault, ...]
+    application: Optional[Application]
+    remarks: Tuple[Fault, ...] = ()
+    made: Tuple[Tuple[int, str], ...] = ()
+    given: Given = dataclasses.field(default_factory=dict)
+
+    def lines(self) -> List[str]:
+        """The lines of the text."""
+        return self.text.split("\n")
+
+    def named(self) -> Optional["Named"]:
+        """What an accepted text in lines names besides tasks and objects; none of a JSON."""
+        if not self.path.endswith(LINES):
+            return None
+        from rdbg.firmware.reader import named
+
+        return named(self.text, self.given)
+
+    @contextlib.contextmanager
+    def as_json(self) -> Iterator[str]:
+        """The path of a JSON file of an accepted application: the file itself, or one that is made
+        for as long."""
+        if not self.path.endswith(LINES):
+            yield self.path
+            return
+        assert self.application is not None
+        with scratch.folder() as folder:
+            made = folder / "application.json"
+            made.write_text(json_of(self.application))
+            yield str(made)
+
+
+def load(path: str, given: Optional[Given] = None) -> Source:
+    """Reads a file, by its ending as JSON or in lines, of which consts of these names are these
+    numbers. Raises `Failure` where it can't be read."""
+    try:
+        content = pathlib.Path(path).read_bytes()
+    except OSError as error:
+        raise Failure(f"cannot read {path}: {error.strerror}", 2) from None
+    return source(path, content, given)
+
+
+def accepted(path: Optional[str], given: Optional[Given] = None) -> Optional[Source]:
+    """The application's file, if one is named; its faults end it with a line each. Raises `Failure`
+    where consts are given and no file."""
+    if path is None:
+        if given:
+            raise Failure("-D goes with a file: a text in lines (.fw)", 2)
+        return None
+    found = load(path, given)
+    if found.application is None:
+        for fault in found.faults:
+            print(f"{found.path}:{fault}", file=sys.stderr)
+        raise Failure(f"{path} is refused as {found.faults[0].kind}")
+    return found
+
+
+def source(path: str, content: bytes, given: Optional[Given] = None) -> Source:
+    """What a file of this content is, where consts of these names are these numbers."""
+    remarks: Sequence[Fault] = ()
+    made: Sequence[Tuple[int, str]] = ()
+    comments: Mapping[int, str] = {}
+    interrupts: Tuple[Interrupt, ...] = ()
+    if path.endswith(LINES):
+        from rdbg.firmware.reader import read as read_lines
+
+        text = read_lines(content, given or {})
+        remarks, made, comments = text.remarks, text.made, text.comments
+        interrupts = text.interrupts
+        root, faults = text.root, list(text.faults)
+    else:
+        from rdbg.json_text import read
+
+        check_none(given)
+        root, found = read(content)
+        faults = [*found, *(faults_of(root) if root is not None and not found else [])]
+    value = None if root is None or faults else root.value
+    said = application(value) if isinstance(value, Object) else None
+    if said is not None and (comments or interrupts):
+        from rdbg.firmware.comments import with_comments
+
+        said = dataclasses.replace(with_comments(said, comments), interrupts=interrupts)
+    return Source(
+        path=path,
+        text=content.decode("utf-8", "replace"),
+        root=root,
+        faults=tuple(faults),
+        application=said,
+        remarks=tuple(remarks),
+        made=tuple(made),
+        given=dict(given or {}),
+    )
+
+
+def check_none(given: Optional[Given]) -> None:
+    """Raises `Failure` where consts are given for a JSON, which has none."""
+    for name in given or {}:
+        raise Failure(f"-D {name}: a JSON has no consts; a text in lines (.fw) has", 2)

@@ -1,0 +1,220 @@
+"""Lines of a script that aren't instructions: `loop`, `while`, `if`, `else`, `end`, `break`.
+
+A block begins with `loop`, `while TEST` or `if TEST`, and ends with `end`. Where none is open, `end`
+is the instruction that ends the task, which inside of one is written `end task`.
+"""
+import dataclasses
+from typing import TYPE_CHECKING, Callable, Dict, List, Optional, Sequence, Tuple
+
+from rdbg.firmware.branches import Test, Tests
+from rdbg.firmware.tokens import Refusal, Token, shown
+
+if TYPE_CHECKING:
+    from rdbg.firmware.code import Script
+
+LOOP, WHILE, IF, ELSE, END = "loop", "while", "if", "else", "end"
+BREAK, CONTINUE = "break", "continue"
+GOTO = ("goto", "jump")
+TASK_ENDS = ("end", "task")
+WORDS = (LOOP, WHILE, IF, ELSE, BREAK, CONTINUE)
+NO_BRACES = "a block has no braces: it ends with end"
+# How a line is written that is one of these.
+FORMS = {
+    LOOP: "loop",
+    WHILE: "while TEST",
+    IF: "if TEST goto LABEL, or if TEST, and below it lines up to end",
+    ELSE: "else",
+    BREAK: "break",
+    CONTINUE: "continue",
+}
+
+
+@dataclasses.dataclass(eq=False)
+class Mark:
+    """An instruction that is known later, by its number; and whether one jumps there."""
+
+    at: Optional[int] = None
+    is_used: bool = False
+
+
+@dataclasses.dataclass
+class Block:
+    """A block that is open: its first word, the number of its first instruction, where it goes on
+    behind its end, and, of an `if`, where it does where the test fails. `has_lines` says whether
+    anything stands in it, `is_refused` whether its line is refused."""
+
+    word: Token
+    head: int
+    behind: Mark
+    otherwise: Optional[Mark] = None
+    has_lines: bool = False
+    is_refused: bool = False
+
+    @property
+    def is_loop(self) -> bool:
+        """Whether `break` can leave it."""
+        return self.word.text != IF
+
+    def put(self, at: int) -> None:
+        """Its end stands before the instruction of this number."""
+        self.behind.at = at
+        if self.otherwise is not None:
+            self.otherwise.at = at
+            self.behind.is_used |= self.otherwise.is_used
+
+
+def is_end_of_task(tokens: Sequence[Token]) -> bool:
+    """Whether a line is `end task`."""
+    return tuple(token.text for token in tokens) == TASK_ENDS
+
+
+class Blocks:
+    """The blocks of a script that are open."""
+
+    def __init__(self, script: "Script") -> None:
+        self._script = script
+        self._open: List[Block] = []
+        self._closed: List[Block] = []
+
+    def reads(self, tokens: Sequence[Token]) -> bool:
+        """Whether a line is of a block; then it is read. Raises `Refusal` where it is wrong."""
+        word, known = tokens[0].text, self._script.length
+        if is_end_of_task(tokens) or word not in READERS or (word == END and not self._open):
+            if self._open:
+                self._open[-1].has_lines = True
+            if is_end_of_task(tokens):
+                self._script.made(tokens, "end")
+            return is_end_of_task(tokens)
+        try:
+            READERS[word](self, tokens)
+        except Refusal:
+            if self._open and self._open[-1].word is tokens[0]:
+                self._open[-1].is_refused = True
+            if self._script.length == known and word != LOOP:
+                self._script.placeholder(tokens)
+            raise
+        return True
+
+    def close_all(self) -> None:
+        """Refuses blocks that are open at the end of a script, and those behind which it goes on
+        where there is no instruction."""
+        for block in self._open:
+            if not block.is_refused:
+                message = f"this {block.word.text} isn't closed: end is missing"
+                self._script.refuse(block.word, message)
+            block.put(self._script.length)
+        for block in () if self._open else self._closed:
+            if block.behind.is_used and block.behind.at == self._script.length:
+                word = block.word.text
+                message = f"behind the end of this {word} nothing stands: end or jump is missing"
+                self._script.refuse(block.word, message)
+        self._open = []
+
+    def _alone(self, tokens: Sequence[Token]) -> None:
+        """Refuses what stands behind a word that stands alone."""
+        if len(tokens) > 1:
+            said = NO_BRACES if tokens[1].text == "{" else f"{shown(tokens[1].text)} is too much"
+            raise Refusal(tokens[1].place, f"{FORMS.get(tokens[0].text, tokens[0].text)}: {said}")
+
+    def _begin(self, word: Token, behind: Mark, otherwise: Optional[Mark] = None) -> None:
+        """Opens a block."""
+        if self._open:
+            self._open[-1].has_lines = True
+        self._open.append(Block(word, self._script.length, behind, otherwise))
+
+    def _loop(self, tokens: Sequence[Token]) -> None:
+        self._begin(tokens[0], Mark())
+        self._alone(tokens)
+
+    def _while(self, tokens: Sequence[Token]) -> None:
+        behind = Mark()
+        self._begin(tokens[0], behind)
+        test, rest = self._test(tokens)
+        if rest:
+            said = NO_BRACES if rest[0].text == "{" else f"{shown(rest[0].text)} is too much"
+            raise Refusal(rest[0].place, f"{FORMS[WHILE]}: {said}")
+        self._script.jump(tokens, test.turned(), behind)
+
+    def _if(self, tokens: Sequence[Token]) -> None:
+        words = [token.text for token in tokens]
+        is_block = not any(it in words for it in (*GOTO, BREAK, CONTINUE))
+        otherwise = Mark()
+        if is_block:
+            self._begin(tokens[0], Mark(), otherwise)
+        elif self._open:
+            self._open[-1].has_lines = True
+        test, rest = self._test(tokens)
+        if not rest and is_block:
+            self._script.jump(tokens, test.turned(), otherwise)
+        elif rest and rest[0].text in GOTO and len(rest) == 2 and rest[1].is_word():
+            self._script.jump(tokens, test, rest[1])
+        elif rest and rest[0].text in (BREAK, CONTINUE) and len(rest) == 1:
+            self._script.jump(tokens, test, self._of_loop(rest[0]))
+        else:
+            token = rest[-1] if rest else tokens[-1]
+            said = NO_BRACES if token.text == "{" else f"{shown(token.text)} has no place here"
+            raise Refusal(token.place, f"{FORMS[IF]}: {said}")
+
+    def _test(self, tokens: Sequence[Token]) -> Tuple[Test, Sequence[Token]]:
+        """The test behind the first word of a line, and what stands behind it."""
+        if len(tokens) < 2:
+            raise Refusal(tokens[0].place, f"{FORMS[tokens[0].text]}: there is no test")
+        tests = Tests(tokens[1:], self._script.constants, self._script.refusals)
+        found = tests.test()
+        return found, tests.numbers.tokens[tests.numbers.at :]
+
+    def _of_loop(self, word: Token) -> Mark:
+        """Where `break` or `continue` goes on."""
+        loops = [block for block in self._open if block.is_loop]
+        if not loops:
+            raise Refusal(word.place, f"{word.text} stands in no loop and no while")
+        return loops[-1].behind if word.text == BREAK else Mark(loops[-1].head)
+
+    def _leave(self, tokens: Sequence[Token]) -> None:
+        self._alone(tokens)
+        target = self._of_loop(tokens[0])
+        self._open[-1].has_lines = True
+        self._script.plain_jump(tokens, target)
+
+    def _else(self, tokens: Sequence[Token]) -> None:
+        if tokens[1:] and tokens[1].text == IF:
+            message = "else stands alone: the if stands below it, with an end of its own"
+            raise Refusal(tokens[1].place, message)
+        self._alone(tokens)
+        block = self._open[-1] if self._open else None
+        if block is None or block.otherwise is None:
+            raise Refusal(tokens[0].place, "this else belongs to no if")
+        self._check_lines(block, tokens[0])
+        self._script.plain_jump(tokens, block.behind)
+        block.otherwise.at, block.otherwise = self._script.length, None
+        block.has_lines = False
+
+    def _end(self, tokens: Sequence[Token]) -> None:
+        block = self._open[-1]
+        if len(tokens) > 1 and tokens[1].text != block.word.text:
+            message = f"end closes the {block.word.text} of line {block.word.place.line}"
+            raise Refusal(tokens[1].place, f"{message}; the task ends by: end task")
+        self._alone(tokens[1:] if len(tokens) > 1 else tokens)
+        self._open.pop()
+        if block.is_loop:
+            self._script.plain_jump(tokens, Mark(block.head), block.word.text)
+        block.put(self._script.length)
+        self._closed.append(block)
+        self._check_lines(block, tokens[0])
+
+    def _check_lines(self, block: Block, end: Token) -> None:
+        """Refuses an `if` without a line in it, whose `end` was meant to end the task."""
+        if not block.has_lines and not block.is_loop:
+            message = f"nothing stands in the if of line {block.word.place.line}"
+            raise Refusal(end.place, f"{message}; the task ends by: end task")
+
+
+READERS: Dict[str, Callable[[Blocks, Sequence[Token]], None]] = {
+    LOOP: Blocks._loop,
+    WHILE: Blocks._while,
+    IF: Blocks._if,
+    ELSE: Blocks._else,
+    END: Blocks._end,
+    BREAK: Blocks._leave,
+    CONTINUE: Blocks._leave,
+}

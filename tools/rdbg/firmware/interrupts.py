@@ -1,0 +1,244 @@
+"""Interrupts that a text names: `interrupt ping: notify dsp 0 1 set`."""
+import dataclasses
+from typing import Callable, Dict, Iterator, List, Mapping, Optional, Sequence, Tuple
+
+from rdbg.application import ANY, MOST_APART, MOST_TIMES, Interrupt
+from rdbg.checking.freertos import FROM_ISR, called
+from rdbg.firmware.numbers import NAME, Constants, near_to
+from rdbg.firmware.operands import Operand, Operands
+from rdbg.firmware.semaphores import GIVE, Semaphore
+from rdbg.firmware.tokens import Refusal, Token, shown
+from rdbg.instructions import FORM_OF
+from rdbg.operands import KIND_OF
+
+WORD = "interrupt"
+FORM = "interrupt NAME after NAME apart N times N: CALL; CALL"
+COLON, SEMICOLON, ANY_TIMES = ":", ";", "any"
+CALLS = "send Q HEX, notify K I N ACTION, or give NAME"
+ROUND = "let a task of the highest priority play it, with wait for its time (docs/FROM_C.md)"
+NOTIFY, SEND = "notify", "send"
+
+
+@dataclasses.dataclass(frozen=True)
+class Call:
+    """A call of a handler: its words, and its tokens."""
+
+    words: Tuple[str, ...]
+    tokens: Tuple[Token, ...]
+
+    def text(self) -> str:
+        """It as rdbg reads it behind `isr`."""
+        return " ".join(self.words)
+
+
+@dataclasses.dataclass(frozen=True)
+class Read:
+    """An interrupt as it was read: its name, what is said of when it comes, and its calls."""
+
+    name: Token
+    times: int
+    after: Optional[Token]
+    apart: int
+    calls: Tuple[Call, ...]
+
+    def interrupt(self) -> Interrupt:
+        """It without the places of its words."""
+        after = self.after.text if self.after else None
+        calls = tuple(call.text() for call in self.calls)
+        return Interrupt(self.name.text, calls, self.times, after, self.apart)
+
+
+def is_line(tokens: Sequence[Token]) -> bool:
+    """Whether a line names an interrupt."""
+    return tokens[0].text == WORD
+
+
+class InterruptLine:
+    """Reads the line of one."""
+
+    def __init__(
+        self,
+        tokens: Sequence[Token],
+        constants: Constants,
+        refusals: List[Refusal],
+        semaphores: Mapping[str, Semaphore],
+    ) -> None:
+        self._tokens, self._constants, self._refusals = tokens, constants, refusals
+        self._semaphores = semaphores
+        self._after: Optional[Token] = None
+        self._apart, self._times = 0, 1
+
+    def read(self) -> Read:
+        """All of it. Raises `Refusal` where it is wrong."""
+        texts = [token.text for token in self._tokens]
+        if COLON not in texts:
+            raise Refusal(
+                self._tokens[-1].place, f"{FORM}: there is no colon, and no call behind it"
+            )
+        colon = texts.index(COLON)
+        head = self._tokens[1:colon]
+        if not head or not NAME.fullmatch(head[0].text):
+            raise Refusal(self._tokens[0].place, f"{FORM}: there is no name")
+        self._keys(head[1:])
+        calls = tuple(self._calls(self._tokens[colon:]))
+        return Read(head[0], self._times, self._after, self._apart, calls)
+
+    def _keys(self, tokens: Sequence[Token]) -> None:
+        """What is said of when it comes."""
+        reader = Operands(tokens, self._constants, self._refusals)
+        for token in iter(reader.next, None):
+            assert token is not None
+            reader.at += 1
+            if token.text not in KEYS:
+                raise Refusal(token.place, f"{shown(token.text)} is no key: {FORM}")
+            if reader.next() is None:
+                raise Refusal(token.place, f"{FORM}: nothing stands behind {token.text}")
+            KEYS[token.text](self, reader)
+
+    def _read_after(self, reader: Operands) -> None:
+        reader.word()
+        self._after = reader.tokens[reader.at - 1]
+
+    def _read_apart(self, reader: Operands) -> None:
+        self._apart = self._bounded(reader, "apart", 0, MOST_APART)
+
+    def _read_times(self, reader: Operands) -> None:
+        token = reader.next()
+        if token is not None and token.text == ANY_TIMES:
+            reader.at += 1
+            self._times = ANY
+        else:
+            self._times = self._bounded(reader, "times", 1, MOST_TIMES)
+
+    def _bounded(self, reader: Operands, key: str, least: int, most: int) -> int:
+        token, value = reader.next(), reader.number()
+        if token is not None and not least <= value <= most:
+            any_times = ", or any" if key == "times" else ""
+            message = f"{key} is {value}, and is to be {least} to {most}{any_times}"
+            self._refusals.append(Refusal(token.place, message))
+            return least
+        return value
+
+    def _calls(self, tokens: Sequence[Token]) -> Iterator[Call]:
+        """The calls behind the colon, with semicolons between them."""
+        part: List[Token] = []
+        for token in [*tokens[1:], dataclasses.replace(tokens[0], text=SEMICOLON)]:
+            if token.text != SEMICOLON:
+                part.append(token)
+                continue
+            if not part:
+                raise Refusal(tokens[0].place, f"{FORM}: a call is missing: {CALLS}")
+            yield Call(tuple(self._call(part)), tuple(part))
+            part = []
+
+    def _call(self, tokens: Sequence[Token]) -> List[str]:
+        """The words of a call. Raises `Refusal` where an interrupt makes no such call."""
+        word = tokens[0].text
+        if tokens[1:] and tokens[1].text == "(" and tokens[-1].text == ")":
+            tokens = [tokens[0], *tokens[2:-1]]
+        reader = Operands(tokens[1:], self._constants, self._refusals)
+        if word == GIVE:
+            return self._give(tokens)
+        if word not in (NOTIFY, SEND):
+            raise Refusal(tokens[0].place, why_no_call(word))
+        kinds: Tuple[Tuple[str, Callable[[Operands], Operand]], ...] = OPERANDS[word]
+        found = [word]
+        for symbol, read in kinds:
+            if reader.next() is None:
+                message = f"{form_of(word)} lacks its {KIND_OF[symbol].noun}"
+                raise Refusal(tokens[0].place, message)
+            found.append(read(reader).text)
+        behind = reader.next()
+        if behind is not None:
+            raise Refusal(behind.place, f"{form_of(word)}: {shown(behind.text)} is too much")
+        return found
+
+    def _give(self, tokens: Sequence[Token]) -> List[str]:
+        """The call that gives a semaphore."""
+        name = tokens[1].text if tokens[1:] else ""
+        it = self._semaphores.get(name)
+        if it is None or len(tokens) > 2:
+            raise Refusal(
+                tokens[-1].place, f"give NAME: {shown(name) or 'nothing'} is no semaphore"
+            )
+        if it.is_given:
+            message = f"{name} has an item while it is taken, and no interrupt takes one out"
+            raise Refusal(tokens[1].place, f"{message}: {ROUND}")
+        return [SEND, name, "00"]
+
+
+KEYS: Dict[str, Callable[[InterruptLine, Operands], None]] = {
+    "after": InterruptLine._read_after,
+    "apart": InterruptLine._read_apart,
+    "times": InterruptLine._read_times,
+}
+OPERANDS: Dict[str, Tuple[Tuple[str, Callable[[Operands], Operand]], ...]] = {
+    NOTIFY: (
+        ("K", Operands.task),
+        ("I", Operands.value),
+        ("N", Operands.value),
+        ("ACTION", Operands.word),
+    ),
+    SEND: (("Q", Operands.word), ("HEX", Operands.data)),
+}
+
+
+def form_of(word: str) -> str:
+    """How a call is written."""
+    return " ".join([word, *(symbol for symbol, _ in OPERANDS[word])])
+
+
+def why_no_call(word: str) -> str:
+    """What to say of a word that begins no call of an interrupt."""
+    name = called(word)
+    plain = name[: -len("FromISR")] if name.endswith("FromISR") else name
+    if plain.lower() in FROM_ISR:
+        return f"{name} is written {FROM_ISR[plain.lower()][len('isr ') :]}"
+    if plain.lower() == "xsemaphoregive":
+        return f"{name} is written give NAME"
+    if word in FORM_OF or plain != name:
+        return f"no interrupt makes {shown(name)} here, which makes {CALLS}: {ROUND}"
+    return f"{shown(word)} is no call of an interrupt{near_to(word, (NOTIFY, SEND, GIVE))}: {CALLS}"
+
+
+class Names:
+    """What there is that interrupts can name; of some interrupts the line is refused."""
+
+    def __init__(
+        self, tasks: Sequence[str], queues: Sequence[str], entries: int, refused: Sequence[str]
+    ) -> None:
+        self.tasks, self.queues, self.entries = tasks, queues, entries
+        self.refused = refused
+
+    def faults(self, it: Read, above: Sequence[Read]) -> Iterator[Refusal]:
+        """What is wrong with the names of an interrupt, where these stand above it."""
+        names = [other.name.text for other in above]
+        if it.name.text in names:
+            line = above[names.index(it.name.text)].name.place.line
+            message = f"interrupt {it.name.text} stands in line {line} already"
+            yield Refusal(it.name.place, message)
+        if it.after is not None and it.after.text not in (*names, *self.refused):
+            message = f"no interrupt {shown(it.after.text)} stands above"
+            yield Refusal(it.after.place, message + near_to(it.after.text, names))
+        elif it.after is not None and it.after.text in names:
+            other = above[names.index(it.after.text)]
+            if other.times == ANY and other.after is None:
+                message = f"{it.after.text} comes any number of times: what comes after it needs"
+                yield Refusal(it.after.place, f"{message} times N in the line of {it.after.text}")
+        for call in it.calls:
+            yield from self._of_call(call)
+
+    def _of_call(self, call: Call) -> Iterator[Refusal]:
+        word, name = call.words[:2]
+        noun, names = ("task", self.tasks) if word == NOTIFY else ("queue", self.queues)
+        place = call.tokens[1].place if call.tokens[1].text != "(" else call.tokens[2].place
+        if name not in names:
+            yield Refusal(place, f"{noun} {shown(name)} isn't there{near_to(name, names)}")
+        if word == NOTIFY:
+            if int(call.words[2]) >= self.entries:
+                has = "1 entry" if self.entries == 1 else f"{self.entries} entries"
+                message = f"there is no entry {call.words[2]}: each task has {has}, counted from 0"
+                yield Refusal(place, message)
+            if call.words[4] not in KIND_OF["ACTION"].words():
+                said = f"{shown(call.words[4])} is no action: {KIND_OF['ACTION'].choices}"
+                yield Refusal(call.tokens[-1].place, said)

@@ -1,0 +1,156 @@
+"""Semaphores and mutexes of a text: the queue that stands for each, and what takes and gives it.
+
+A semaphore that is there at the start by nobody's giving can't be a queue with items, since a queue
+is empty at boot. So what is given then is a queue of what is taken: an item stands in it as long as
+somebody has it. Else an item is what can be taken.
+"""
+import dataclasses
+from typing import Dict, List, Mapping, Optional, Sequence, Tuple
+
+from rdbg.firmware.numbers import Constants, Numbers
+from rdbg.firmware.objects import next_number
+from rdbg.firmware.operands import Operands
+from rdbg.firmware.tokens import Refusal, Token, shown
+from rdbg.operands import KIND_OF
+from rdbg.tree import Member, Node, Number
+
+SEMAPHORE, MUTEX = "semaphore", "mutex"
+FORMS = {SEMAPHORE: "semaphore NAME length N given", MUTEX: "mutex NAME"}
+GIVEN, LENGTH = "given", "length"
+TAKE, GIVE, COUNT = "take", "give", "count"
+# Instructions that would take or put an item by themselves.
+BY_ITSELF = ("send", "front", "recv", "peek", "over", "qreset", "spaces")
+OF_SETS = ("setadd", "setdel")
+NO_INHERITANCE = "no priority inheritance, and nobody owns it"
+
+
+@dataclasses.dataclass(frozen=True)
+class Semaphore:
+    """A semaphore or a mutex: what it is, its name, how often it can be taken, and whether it is
+    given at the start."""
+
+    word: Token
+    name: str
+    length: int
+    is_given: bool
+
+    def queue(self) -> str:
+        """The queue that stands for it, in words."""
+        full = "an item while it is taken" if self.is_given else "an item where it can be taken"
+        return f"queue {self.name} length {self.length} item 1, with {full}"
+
+    def takes(self, time: str) -> str:
+        """The instruction that takes it."""
+        return f"{'send' if self.is_given else 'recv'} {self.name} {time}"
+
+    def gives(self) -> str:
+        """The instruction that gives it. One that is a queue of what is taken loses the one item
+        that it can have, and the task's data stays; of more than one it takes one out."""
+        if not self.is_given:
+            return f"send {self.name} 0"
+        return f"qreset {self.name}" if self.length == 1 else f"recv {self.name} 0"
+
+    def counts(self) -> str:
+        """The instruction that counts how often it can be taken."""
+        return f"{'spaces' if self.is_given else 'count'} {self.name}"
+
+
+def is_line(tokens: Sequence[Token]) -> bool:
+    """Whether a line gives one."""
+    return tokens[0].text in FORMS
+
+
+class SemaphoreLine:
+    """Reads the line of one: its semaphore, and the members of its queue."""
+
+    def __init__(
+        self, tokens: Sequence[Token], constants: Constants, refusals: List[Refusal]
+    ) -> None:
+        self._numbers = Numbers(tokens, constants, refusals)
+        self._numbers.at = 1
+        self._word = tokens[0]
+        self.members: Tuple[Member, ...] = ()
+
+    def read(self) -> Semaphore:
+        """All of it. Raises `Refusal` where it is wrong."""
+        name = self._numbers.next()
+        form = FORMS[self._word.text]
+        if name is None or not name.is_word():
+            raise Refusal(self._word.place, f"{form}: there is no name")
+        self._numbers.at += 1
+        one = Node(Number("1"), self._word.place)
+        length, is_given = one, self._word.text == MUTEX
+        for token in iter(self._numbers.next, None):
+            assert token is not None
+            self._numbers.at += 1
+            if token.text == LENGTH and self._word.text == SEMAPHORE:
+                length = next_number(self._numbers)
+            elif token.text == GIVEN and self._word.text == SEMAPHORE:
+                is_given = True
+            else:
+                raise Refusal(token.place, f"{shown(token.text)} is no key: {form}")
+        values = (("name", Node(name.text, name.place)), ("length", length), ("item", one))
+        self.members = tuple(Member(key, node.place, node) for key, node in values)
+        assert isinstance(length.value, Number)
+        return Semaphore(self._word, name.text, int(length.value.text), is_given)
+
+
+def named(lines: Sequence[Sequence[Token]], constants: Constants) -> Dict[str, Semaphore]:
+    """All that lines give, by their names; those whose lines are wrong are as far as is known."""
+    found: Dict[str, Semaphore] = {}
+    for tokens in filter(is_line, lines):
+        try:
+            it = SemaphoreLine(tokens, constants, []).read()
+        except Refusal:
+            name = tokens[1].text if len(tokens) > 1 else ""
+            it = Semaphore(tokens[0], name, 1, tokens[0].text == MUTEX)
+        found.setdefault(it.name, it)
+    return found
+
+
+def instruction(
+    tokens: Sequence[Token],
+    known: Mapping[str, Semaphore],
+    constants: Constants,
+    refusals: List[Refusal],
+) -> Optional[str]:
+    """The instruction that a line is which takes, gives or counts one; none where it is another.
+    Raises `Refusal` where it is wrong. The tokens have no parentheses round the operands."""
+    word = tokens[0].text
+    name = tokens[1].text if len(tokens) > 1 else ""
+    it = known.get(name)
+    if word == GIVE and it is None:
+        there = f"; there is {', '.join(known)}" if known else ""
+        message = f"give NAME: {shown(name) or 'nothing'} is no semaphore and no mutex{there}"
+        raise Refusal(tokens[-1].place, message)
+    if it is None or word not in (TAKE, GIVE, COUNT):
+        return None
+    if word != TAKE:
+        if len(tokens) > 2:
+            raise Refusal(tokens[2].place, f"{word} NAME: {shown(tokens[2].text)} is too much")
+        return it.gives() if word == GIVE else it.counts()
+    reader = Operands(tokens[2:], constants, refusals)
+    if reader.next() is None:
+        choices = KIND_OF["T"].choices
+        raise Refusal(tokens[0].place, f"take NAME T lacks its block time ({choices})")
+    time = reader.time().text
+    behind = reader.next()
+    if behind is not None:
+        raise Refusal(behind.place, f"take NAME T: {shown(behind.text)} is too much")
+    return it.takes(time)
+
+
+def why_not(word: str, name: str, known: Mapping[str, Semaphore]) -> str:
+    """Why an instruction can't name one; empty where it can."""
+    it = known.get(name)
+    if it is None or not (word in BY_ITSELF or word in OF_SETS and it.is_given):
+        return ""
+    if word in OF_SETS:
+        return f"{not_in_sets(it)}"
+    return f"{name} is a {it.word.text}: take {name} T, give {name}"
+
+
+def not_in_sets(it: Semaphore) -> str:
+    """Why one that is given at the start can be in no set."""
+    has = "is given at the start, and has an item while it is taken"
+    return f"{it.name} {has}: in a set it would be seen as it is taken, not as it is given"

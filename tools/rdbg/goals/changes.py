@@ -1,0 +1,123 @@
+"""The goal `changes`: a move after which an object holds something else than before it."""
+from typing import Dict, List, Optional, Tuple, cast
+
+from rdbg import kinds, record, replies
+from rdbg.looks import KINDS, Object, content_of
+from rdbg.goals.conditions import AMOUNTS, Condition
+from rdbg.goals.ways import Way, latest, nearest
+from rdbg.driving.target import Target
+from rdbg.driving.walk import Walk
+
+# So many places are looked at one by one at first, and twice as many each time, up to this.
+FIRST_CHUNK, MOST_CHUNK = 8, 256
+# Of each kind of object what its reply is.
+REPLY_OF = {kind: reply for reply, kind in KINDS.items()}
+# The instructions that can change an object and leave how much it holds.
+HIDING: Dict[str, Tuple[str, ...]] = {
+    kinds.QUEUE.word: ("over", "setadd", "setdel"),
+    kinds.STREAM.word: ("strig",),
+    kinds.MESSAGE.word: (),
+    kinds.GROUP.word: (),
+}
+
+
+class Changes(Way):
+    """What an object holds changes, whoever waits at it."""
+
+    def __init__(self, target: Target, kind: str, name: str) -> None:
+        self.kind, self.name, self.view = kind, name, f"show {kind} {name}"
+        self.text = f"changes {name}"
+        self.target = target
+        self.hides = self._hides()
+
+    def _hides(self) -> bool:
+        """Whether a move of a script can change it and leave how much it holds."""
+        words = HIDING.get(self.kind)
+        application = self.target.application
+        if application is None or words is None:
+            return words != ()
+        texts = (it.words() for task in application.tasks for it in task.code)
+        return any(text[0] in words and text[1] == self.name for text in texts)
+
+    def _amounts(self, content: Object) -> List[Condition]:
+        """The conditions of which one holds wherever there is more or less in it."""
+        amount = kinds.OF_WORD[self.kind].amount
+        if not amount:
+            return []
+        number = AMOUNTS[amount](content, 0)
+        return Condition(amount, self.name, number=number).others(earlier=False)
+
+    def _look(self, walk: Walk) -> Object:
+        return self._read(walk.target.tell(self.view))
+
+    def next(self, walk: Walk, limit: int) -> Optional[int]:
+        start = walk.place
+        found = nearest(walk, self._amounts(self._look(walk)), limit)
+        if not self.hides:
+            return found
+        most = limit if found is None else found - start - 1
+        scanned = self._scan(walk, most)
+        return found if scanned is None else scanned
+
+    def _scan(self, walk: Walk, limit: int) -> Optional[int]:
+        """The first place within so many moves where it isn't as it is here, by a look at each."""
+        content, chunk, left = content_of(self._look(walk)), FIRST_CHUNK, limit
+        while left > 0:
+            walk.interrupt.check()
+            size = min(chunk, left)
+            walk.target.afford(2 * size)
+            start = walk.place
+            answers = walk.target.tell_all(["forward 1", self.view] * size)
+            for step in range(size):
+                if answers[2 * step].startswith("no "):
+                    walk.wall = answers[2 * step][3:]
+                    return None
+                if content_of(self._read(answers[2 * step + 1])) != content:
+                    return start + step + 1
+            left, chunk = left - size, min(2 * chunk, MOST_CHUNK)
+        return None
+
+    def _read(self, answer: str) -> Object:
+        found = replies.read(answer)
+        if not isinstance(found, REPLY_OF[self.kind]):
+            raise replies.Unreadable(answer)
+        return cast(Object, found)
+
+    def last(self, walk: Walk) -> Optional[int]:
+        if walk.place == 0:
+            return None
+        walk.goto(walk.place - 1)
+        place, content = walk.place, self._look(walk)
+        amounts = self._amounts(content)
+        other = latest(walk, amounts) if amounts else None
+        first = 0 if other is None else other + 1
+        if self.hides or self._was_edited(first, place):
+            scanned = self._scan_back(walk, first)
+            if scanned is not None:
+                return scanned
+        return None if other is None else other + 1
+
+    def _was_edited(self, first: int, last: int) -> bool:
+        """Whether an edit between these places may have changed it and left its amount."""
+        if self.kind in (kinds.MESSAGE.word, kinds.GROUP.word):
+            return False
+        if not self.target.is_own:
+            return True
+        made = self.target.by_hand.items()
+        return any(it.line.split()[2] == self.name for place, it in made if first < place <= last)
+
+    def _scan_back(self, walk: Walk, first: int) -> Optional[int]:
+        """The last place above `first` up to this one where it isn't as it was before the move, by
+        a look at each."""
+        content, chunk = content_of(self._look(walk)), FIRST_CHUNK
+        while walk.place > first:
+            walk.interrupt.check()
+            size = min(chunk, walk.place - first)
+            walk.target.afford(2 * size)
+            start = walk.place
+            answers = walk.target.tell_all([record.back(1), self.view] * size)
+            for step in range(size):
+                if content_of(self._read(answers[2 * step + 1])) != content:
+                    return start - step
+            chunk = min(2 * chunk, MOST_CHUNK)
+        return None

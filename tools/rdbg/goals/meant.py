@@ -1,0 +1,148 @@
+"""What would be right where words are no goal: they are mended from the first wrong one on."""
+import re
+from typing import Iterable, List, Optional, Sequence
+
+from rdbg import commands, kinds
+from rdbg.goals import reading
+from rdbg.goals.reading import NoGoal
+from rdbg.goals.scope import Scope
+from rdbg.near import nearest
+
+# So many words are mended at the most, and so many names are said.
+MOST_MENDED, MOST_SAID = 8, 8
+OTHERS = {"&&": "and", "||": "or", "!": "not", "&": "and", "|": "or"}
+QUOTES = re.compile(r"^[\"'`]+|[\"'`;,]+$")
+APART = re.compile(r"([<>=!]=?)")
+
+
+def with_meant(wrong: NoGoal, scope: Scope) -> NoGoal:
+    """The same refusal, which says what would be right, too."""
+    found = mended(wrong, scope)
+    more = f"; `{' '.join(found)}` would be right" if found else there_are(wrong.wanted, scope)
+    return Meant(wrong, more) if more else wrong
+
+
+class Meant(NoGoal):
+    """A refusal with what would be right."""
+
+    def __init__(self, wrong: NoGoal, more: str) -> None:
+        super().__init__(wrong.words, wrong.at, wrong.wanted)
+        self.args = (f"{wrong}{more}",)
+
+
+def there_are(wanted: str, scope: Scope) -> str:
+    """Which names there are where one is wanted."""
+    kind = next((word for word, what in reading.NAME.items() if what == wanted), None)
+    names = [] if kind is None else scope.of_kind(kind)
+    shown = ", ".join(names[:MOST_SAID]) + (", .." if len(names) > MOST_SAID else "")
+    if kind is None or scope.application is None:
+        return ""
+    return f"; these are there: {shown}" if shown else "; there are none"
+
+
+def mended(wrong: NoGoal, scope: Scope) -> Optional[List[str]]:
+    """The words as they may have been meant; none where that isn't known."""
+    words = list(wrong.words)
+    for _ in range(MOST_MENDED):
+        if wrong.at is None or wrong.at < 0:
+            return None
+        if wrong.wanted == reading.JOIN and words[wrong.at :] == words[-1:] != words:
+            if commands.is_count(words[-1]):
+                return words[:-1]  # (it is how many moves a run makes)
+        found = repaired(words, wrong.at, wrong.wanted, scope)
+        if found is None or found == words:
+            return None
+        words = found
+        try:
+            reading.plain(words, scope)
+            return words
+        except NoGoal as still:
+            wrong = still
+    return None
+
+
+def repaired(words: List[str], at: int, wanted: str, scope: Scope) -> Optional[List[str]]:
+    """The words with the wrong one mended."""
+    word = words[at]
+    bare = QUOTES.sub("", word)
+    if bare != word:
+        return [*words[:at], *([bare] if bare else []), *words[at + 1 :]]
+    if APART.search(word) and not APART.fullmatch(word):
+        return [*words[:at], *(it for it in APART.split(word) if it), *words[at + 1 :]]
+    if word in OTHERS and wanted in (reading.CLAIM, reading.JOIN):
+        return [*words[:at], OTHERS[word], *words[at + 1 :]]
+    if wanted == reading.CLAIM:
+        return as_claim(words, at, scope)
+    if wanted == reading.COMPARISON:
+        return as_comparison(words, at)
+    other = single(word, wanted, scope)
+    return None if other is None else [*words[:at], *other.split(), *words[at + 1 :]]
+
+
+def single(word: str, wanted: str, scope: Scope) -> Optional[str]:
+    """What stands in place of one word."""
+    small = word.lower()
+    if wanted == reading.PHASE and word == "=":
+        return ""
+    if wanted == reading.NUMBER:
+        return as_number(small)
+    if wanted == reading.REGISTER:
+        return small[1:] if re.fullmatch("r[0-7]", small) else None
+    if wanted == reading.PHASE:
+        return nearest(small, commands.PHASES)
+    if wanted == reading.PLACE:
+        return nearest(small, (*reading.PLACES, *reading.SIDES, reading.NOTE))
+    kind = next((it for it, what in reading.NAME.items() if what == wanted), None)
+    return None if kind is None else near(small, scope.of_kind(kind))
+
+
+def near(word: str, others: Iterable[str]) -> Optional[str]:
+    """The one of some words that this is, or is near to."""
+    known = list(others)
+    return word if word in known else nearest(word, known)
+
+
+def as_number(word: str) -> Optional[str]:
+    """The decimal number that a word is in another language."""
+    if re.fullmatch("0x[0-9a-f]{1,8}|0b[01]{1,32}", word):
+        return str(int(word, 0))
+    if re.fullmatch(r"[0-9]{1,3}([,_'][0-9]{3})+", word):
+        return re.sub(r"[,_']", "", word)
+    return str(commands.MOST_NUMBER) if word in ("max", "portmax_delay") else None
+
+
+def as_claim(words: List[str], at: int, scope: Scope) -> Optional[List[str]]:
+    """A claim that begins with this word: one that is near, or what a name lacks before it."""
+    word, behind = words[at].lower(), (words[at + 1] if at + 1 < len(words) else "")
+    for kind in scope.kinds_of(word):
+        amount = kinds.OF_WORD[kind].amount
+        if amount and behind[:1] in ("=", "<", ">", "!", "&"):
+            return [*words[:at], amount, word, *words[at + 1 :]]
+        if kind == kinds.TASK.word and behind in commands.PHASES:
+            return [*words[:at], "phase", word, *words[at + 1 :]]
+        if kind == kinds.TASK.word and behind in ("pc", "phase", *reading.OF_TASKS):
+            return [*words[:at], behind, word, *words[at + 2 :]]
+        if kind == kinds.TASK.word and re.fullmatch("r[0-7]", behind):
+            return [*words[:at], "reg", word, behind[1:], *words[at + 2 :]]
+    meant = near(word, (*reading.CLAIMS, *reading.JOINING))
+    return None if meant is None else [*words[:at], meant, *words[at + 1 :]]
+
+
+def as_comparison(words: List[str], at: int) -> Optional[List[str]]:
+    """An operator of another language as one that there is."""
+    word, number = words[at], (words[at + 1] if at + 1 < len(words) else "")
+    if word == "==":
+        return [*words[:at], "=", *words[at + 1 :]]
+    if word in (">=", "<=") and commands.is_number(number):
+        value = int(number) + (1 if word == "<=" else -1)
+        if value >= 0:
+            return [*words[:at], word[0], str(value), *words[at + 2 :]]
+    first = claim_before(words, at)
+    if word == "!=" and first is not None:
+        return [*words[:first], "not", *words[first:at], "=", *words[at + 1 :]]
+    return None
+
+
+def claim_before(words: Sequence[str], at: int) -> Optional[int]:
+    """Where the condition begins whose operator stands at a place."""
+    return next((it for it in range(at - 1, -1, -1) if words[it] in reading.CONDITIONS), None)

@@ -1,0 +1,287 @@
+"""The reader of goals: words that are claims, joined by `not`, `and` and `or`, of which the first binds
+most and the last least, and by parentheses, each of which is a word. What is refused is told as the
+program that searches tells it.
+"""
+import re
+from typing import Callable, Dict, List, Mapping, Optional, Sequence, Tuple
+
+from rdbg import commands, kinds
+from rdbg.failure import Failure
+from rdbg.goals import claims
+from rdbg.goals.claims import Goal
+from rdbg.goals.conditions import Condition, read as read_condition
+from rdbg.goals.scope import REGISTERS, Scope
+from rdbg.wording import with_article
+
+# What is wanted where another word stands, or none.
+CLAIM = "a claim, 'not' or '(' is wanted there, as 'count QUEUE = 2' or 'asleep'"
+NUMBER = f"a number of at most {commands.MOST_NUMBER} is wanted there"
+REGISTER = "a register is wanted there, 0 to 7"
+INDEX = "the index of a notification entry is wanted there"
+INSTRUCTION = "the number of an instruction of the task is wanted there"
+COMPARISON = "'=', '<' or '>' is wanted there"
+PHASE = "the name of a phase is wanted there: run, wait, again, given, ended, failed"
+PLACE = (
+    "a place where a task waits is wanted there: recv QUEUE, send QUEUE, select SET, read BUFFER,"
+    " write BUFFER, note INDEX or group GROUP"
+)
+JOIN = "'and', 'or', ')' or the end is wanted there"
+NAME: Dict[str, str] = {
+    it.word: f"the name of {with_article(it.noun)} is wanted there" for it in kinds.ALL
+}
+OF_A_MOVE = "this is said of a move, and stands by itself where a run is to go: until!, rc!"
+EITHER = "a stream buffer and a message buffer have this name: say sread, swrite, mread or mwrite"
+# Claims, and what joins them, are so many at the most.
+MOST = 64
+NOT, AND, OR, OPEN, CLOSE = JOINING = ("not", "and", "or", "(", ")")
+# The claims that are no conditions; those of a move, and where one of a place stands by itself.
+OF_MOVES = ("wakes", "changes")
+ALONE: Dict[str, Goal] = {it.text: it for it in (claims.Finished(), claims.ASLEEP, claims.Stuck())}
+CONDITIONS = tuple(form.word for form in commands.CONDITIONS)
+# The places where a task waits: the kind of object, and how its phase names the place.
+PLACES: Dict[str, Tuple[kinds.Kind, str]] = {
+    "recv": (kinds.QUEUE, "recv"),
+    "send": (kinds.QUEUE, "send"),
+    "select": (kinds.QUEUE_SET, "set"),
+    "sread": (kinds.STREAM, "sread"),
+    "swrite": (kinds.STREAM, "swrite"),
+    "mread": (kinds.MESSAGE, "mread"),
+    "mwrite": (kinds.MESSAGE, "mwrite"),
+    "group": (kinds.GROUP, "group"),
+}
+# The sides of a buffer of whichever kind.
+SIDES = {"read": ("sread", "mread"), "write": ("swrite", "mwrite")}
+NOTE = "note"
+
+
+class NoGoal(Failure):
+    """Why words are no goal: which of them is wrong, none at the end, and what is wanted there."""
+
+    def __init__(self, words: Sequence[str], at: Optional[int], wanted: str) -> None:
+        self.words, self.at, self.wanted = words, at, wanted
+        super().__init__(said(words, at, wanted), 2)
+
+
+def said(words: Sequence[str], at: Optional[int], wanted: str) -> str:
+    """Why words are no goal, in a sentence."""
+    if at is None:
+        return f"it ends too early: {wanted}"
+    return f"word {at + 1}, '{words[at]}': {wanted}" if at >= 0 else wanted
+
+
+def words_of(text: str) -> List[str]:
+    """The words of a text."""
+    return re.findall(r"[()]|[^\s()]+", text)
+
+
+class Reader:
+    """Reads the words of a goal one after another."""
+
+    def __init__(self, words: Sequence[str], scope: Scope) -> None:
+        self.words, self.scope, self.at = words, scope, 0
+        self._count = 0
+
+    def goal(self) -> Goal:
+        """The goal that all the words are. Raises `NoGoal`."""
+        found = self._formula()
+        if self.at < len(self.words):
+            if self.words[self.at] == CLOSE:
+                raise NoGoal(self.words, self.at, "this parenthesis isn't open")
+            self.at += 1
+            raise self._wanted(JOIN)
+        return found
+
+    def _formula(self, depth: int = 0) -> Goal:
+        found = self._conjunction(depth)
+        while self._takes(OR):
+            found = self._counted(claims.Joined(OR, found, self._conjunction(depth)))
+        return found
+
+    def _conjunction(self, depth: int) -> Goal:
+        found = self._single(depth)
+        while self._takes(AND):
+            found = self._counted(claims.Joined(AND, found, self._single(depth)))
+        return found
+
+    def _single(self, depth: int) -> Goal:
+        if depth >= MOST:
+            raise self._too_long()
+        if self._takes(NOT):
+            return self._counted(claims.Not(self._single(depth + 1)))
+        if not self._takes(OPEN):
+            return self._counted(self._claim())
+        found = self._formula(depth + 1)
+        if self.at == len(self.words):
+            raise NoGoal(self.words, -1, "a parenthesis isn't closed")
+        if not self._takes(CLOSE):
+            self.at += 1
+            raise self._wanted(JOIN)
+        return found
+
+    def _counted(self, goal: Goal) -> Goal:
+        self._count += 1
+        if self._count > MOST:
+            raise self._too_long()
+        return goal
+
+    def _too_long(self) -> NoGoal:
+        return NoGoal(self.words, -1, "the goal is too long")
+
+    def _takes(self, word: str) -> bool:
+        """Whether this word comes next; it is read then."""
+        if self.words[self.at : self.at + 1] != [word]:
+            return False
+        self.at += 1
+        return True
+
+    def _wanted(self, what: str) -> NoGoal:
+        """That something else is wanted than the word that was read last."""
+        return NoGoal(self.words, self.at - 1, what)
+
+    def _next(self, what: str) -> str:
+        if self.at == len(self.words):
+            raise NoGoal(self.words, None, what)
+        self.at += 1
+        return self.words[self.at - 1]
+
+    def _is_at_operand(self) -> bool:
+        """Whether the next word belongs to the claim that is being read."""
+        return self.at < len(self.words) and self.words[self.at] not in (AND, OR, CLOSE)
+
+    def _number(self, named: Optional[Mapping[str, int]] = None) -> int:
+        value = self.scope.number(self._next(NUMBER), named)
+        if value is None:
+            raise self._wanted(NUMBER)
+        return value
+
+    def _below(self, most: Optional[int], what: str, task: str = "") -> int:
+        """A number below a bound."""
+        value = self.scope.number(self._next(what), self.scope.labels.get(task))
+        if value is None or (most is not None and value >= most):
+            raise self._wanted(what)
+        return value
+
+    def _named(self, kind: kinds.Kind) -> str:
+        """A name of a kind; whatever has the form of one where the application isn't known."""
+        word = self._next(NAME[kind.word])
+        is_there = word in self.scope.of_kind(kind.word)
+        if not is_there and (self.scope.application is not None or not commands.is_name(word)):
+            raise self._wanted(NAME[kind.word])
+        return word
+
+    def _comparison(self) -> str:
+        if self._next(COMPARISON) not in commands.OPERATORS:
+            raise self._wanted(COMPARISON)
+        return self.words[self.at - 1]
+
+    def _claim(self) -> Goal:
+        word = self._next(CLAIM)
+        if word in ALONE:
+            return ALONE[word]
+        if word in OF_TASKS:
+            return OF_TASKS[word](self)
+        if word in CONDITIONS:
+            return self._condition(word)
+        if word in OF_MOVES:
+            raise self._wanted(OF_A_MOVE)
+        if commands.is_watch(word) and int(word[1:]) in self.scope.watches:
+            condition = read_condition(self.scope.watches[int(word[1:])].split())
+            if condition is not None:
+                return claims.Holds(condition)
+        raise self._wanted(CLAIM)
+
+    def _amount(self, word: str) -> Condition:
+        """What stands before an operator."""
+        kind = kinds.OF_AMOUNT.get(word)
+        if kind is not None:
+            return Condition(word, self._named(kind))
+        if word == "tick":
+            return Condition(word)
+        task = self._named(kinds.TASK)
+        bounds = {"reg": (REGISTERS, REGISTER), NOTE: (self.scope.entries, INDEX)}
+        return Condition(word, task, self._below(*bounds[word]) if word in bounds else 0)
+
+    def _condition(self, word: str) -> Goal:
+        if word == "phase":
+            task = self._named(kinds.TASK)
+            if self._next(PHASE) not in commands.PHASES:
+                raise self._wanted(PHASE)
+            return claims.Holds(Condition(word, task, phase=self.words[self.at - 1]))
+        amount = self._amount(word)
+        if word in ("bits", "reg", NOTE) and self._takes("&"):
+            mask = self._number()
+            return claims.Masked(amount, mask, self._comparison(), self._number())
+        operator = self._comparison()
+        if word == "reg" and self._takes(word):
+            return claims.Among(amount, operator, self._amount(word))
+        labels = self.scope.labels.get(amount.name) if word == "pc" else None
+        number = self._number(labels)
+        return claims.Holds(Condition(word, amount.name, amount.index, operator, number))
+
+    def in_phase(self, word: str) -> Goal:
+        """That a task is in a phase."""
+        return claims.Holds(Condition("phase", self._named(kinds.TASK), phase=word))
+
+    def failed(self) -> Goal:
+        """That this task has failed, or some task."""
+        return self.in_phase("failed") if self._is_at_operand() else claims.SomeFailed()
+
+    def runs(self) -> Goal:
+        """That a task is on a core."""
+        return claims.Runs(self._named(kinds.TASK))
+
+    def sleeps(self) -> Goal:
+        """That a task waits without a deadline."""
+        return claims.Waits(self._named(kinds.TASK), is_endless=True)
+
+    def stands(self) -> Goal:
+        """That a task is at an instruction."""
+        task = self._named(kinds.TASK)
+        return claims.At(task, self._below(self.scope.instructions(task), INSTRUCTION, task))
+
+    def waits(self) -> Goal:
+        """That a task waits, wherever or at one place."""
+        task = self._named(kinds.TASK)
+        if not self._is_at_operand():
+            return claims.Waits(task)
+        first = self.at
+        place = self._place(self._next(PLACE))
+        return claims.Waits(task, " ".join(self.words[first : self.at]), place)
+
+    def _place(self, word: str) -> str:
+        """The place that begins with this word, as a phase has it."""
+        if word == NOTE:
+            return f"{NOTE}:{self._below(self.scope.entries, INDEX)}"
+        if word in SIDES:
+            word = SIDES[word][self._is_message()]
+        if word not in PLACES:
+            raise self._wanted(PLACE)
+        kind, place = PLACES[word]
+        return f"{place}:{self._named(kind)}"
+
+    def _is_message(self) -> bool:
+        """Whether the next word is the name of a message buffer, and of no stream buffer."""
+        word = self.words[self.at] if self.at < len(self.words) else ""
+        is_stream = word in self.scope.of_kind(kinds.STREAM.word)
+        is_message = word in self.scope.of_kind(kinds.MESSAGE.word)
+        if is_stream and is_message:
+            self.at += 1
+            raise self._wanted(EITHER)
+        return is_message
+
+
+# The claims of tasks that are no conditions, by their first word.
+OF_TASKS: Dict[str, Callable[[Reader], Goal]] = {
+    "at": Reader.stands,
+    "waits": Reader.waits,
+    "sleeps": Reader.sleeps,
+    "runs": Reader.runs,
+    "ended": lambda reader: reader.in_phase("ended"),
+    "failed": Reader.failed,
+}
+CLAIMS = (*CONDITIONS, *OF_TASKS, *ALONE)
+
+
+def plain(words: Sequence[str], scope: Scope) -> Goal:
+    """The goal that these words are. Raises `NoGoal`."""
+    return Reader(words_of(" ".join(words)), scope).goal()

@@ -1,0 +1,83 @@
+"""What a goal can name: tasks and objects, entries and instructions, and of a text in lines its labels
+and constants."""
+import dataclasses
+from typing import Dict, List, Mapping, Optional, Sequence
+
+from rdbg.application import Application
+from rdbg.commands import MOST_NUMBER
+from rdbg.digits import number
+from rdbg.files.source import Source
+from rdbg.looks import Names
+
+REGISTERS = 8
+
+
+@dataclasses.dataclass(frozen=True)
+class Scope:
+    """What there is. Where the application isn't known, whatever has the form of a name may be there.
+    `constants` are none but of a text in lines; `watches` are conditions by their numbers."""
+
+    names: Names
+    application: Optional[Application] = None
+    constants: Optional[Mapping[str, int]] = None
+    labels: Mapping[str, Mapping[str, int]] = dataclasses.field(default_factory=dict)
+    watches: Mapping[int, str] = dataclasses.field(default_factory=dict)
+
+    @classmethod
+    def of(cls, source: Optional[Source], application: Optional[Application] = None) -> "Scope":
+        """What a file has; the application is another where there is no file."""
+        found = application if source is None else source.application
+        named = None if source is None else source.named()
+        names = Names() if found is None else Names.of(found)
+        if named is None:
+            return cls(names, found)
+        return cls(names, found, named.constants, named.labels)
+
+    def of_kind(self, kind: str) -> List[str]:
+        """The names of a kind, as `show` has it."""
+        if kind == "task":
+            return list(self.names.tasks)
+        return [name for other, name in self.names.objects if other == kind]
+
+    def kinds_of(self, name: str) -> List[str]:
+        """The kinds of which there is a thing of this name."""
+        tasks = ["task"] if name in self.names.tasks else []
+        return tasks + [kind for kind, other in self.names.objects if other == name]
+
+    @property
+    def entries(self) -> int:
+        """How many notification entries each task has, or may have."""
+        return 4 if self.application is None else self.application.notes
+
+    def instructions(self, task: str) -> Optional[int]:
+        """How many instructions the script of a task has; none where it isn't known."""
+        found = None if self.application is None else self.application.task(task)
+        return None if found is None else len(found.code)
+
+    def number(self, word: str, named: Optional[Mapping[str, int]] = None) -> Optional[int]:
+        """The number that a word is: digits, or what a text in lines has for it. `named` are words
+        that are numbers there besides."""
+        if self.constants is None:
+            return number(word, MOST_NUMBER)
+        known: Dict[str, int] = {**self.constants, **(named or {})}
+        return joined([part_of(part, known) for part in word.split("|")])
+
+
+def part_of(word: str, known: Mapping[str, int]) -> Optional[int]:
+    """A number of a text in lines: decimal, hexadecimal, or by name."""
+    if word in known:
+        return known[word]
+    digits = word[2:] if word[:2] in ("0x", "0X") else ""
+    if 0 < len(digits) <= 8 and all(sign in "0123456789abcdefABCDEF" for sign in digits):
+        return int(digits, 16)
+    return number(word, MOST_NUMBER)
+
+
+def joined(parts: Sequence[Optional[int]]) -> Optional[int]:
+    """Numbers as one that has the bits of all."""
+    value = 0
+    for part in parts:
+        if part is None:
+            return None
+        value |= part
+    return value

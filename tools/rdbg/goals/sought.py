@@ -1,0 +1,55 @@
+"""What a run is to go to, read from words: a goal of places, or of moves, as `wakes K`."""
+from typing import Optional, Sequence, Tuple
+
+from rdbg import commands, kinds
+from rdbg.driving.target import Target
+from rdbg.goals import reading
+from rdbg.goals.changes import Changes
+from rdbg.goals.meant import with_meant
+from rdbg.goals.reading import NoGoal
+from rdbg.goals.scope import Scope
+from rdbg.goals.words import counted
+from rdbg.goals.ways import To, Wakes, Way
+
+WAKES, CHANGES = reading.OF_MOVES
+OBJECTS = tuple(kind.word for kind in kinds.OBJECTS)
+
+
+def way(
+    words: Sequence[str], target: Target, scope: Scope, becoming: bool
+) -> Tuple[Way, Optional[int]]:
+    """The way to what these words name, and the COUNT behind them, if one stands there. Raises
+    `NoGoal`."""
+    if words and words[0] in reading.OF_MOVES:
+        found, at = of_move(words, target, scope)
+        if at == len(words):
+            return found, None
+        if at == len(words) - 1 and commands.is_count(words[at]):
+            return found, int(words[at])
+        raise NoGoal(words, at, "a COUNT or the end is wanted there")
+    goal, count = counted(words, scope)
+    return To(goal, becoming), count
+
+
+def of_move(words: Sequence[str], target: Target, scope: Scope) -> Tuple[Way, int]:
+    """What is said of a move, and where it ends. Raises `NoGoal`."""
+    if words[0] == WAKES:
+        return Wakes(named(words, 1, scope, kinds.TASK.word)), 2
+    if words[2:] and words[1] in OBJECTS and not commands.is_count(words[2]):
+        return Changes(target, words[1], named(words, 2, scope, words[1])), 3
+    name = words[1] if words[1:] else ""
+    there = [kind for kind in scope.kinds_of(name) if kind != kinds.TASK.word]
+    if not there:
+        raise NoGoal(words, 1 if words[1:] else None, "the name of an object is wanted there")
+    return Changes(target, there[0], name), 2
+
+
+def named(words: Sequence[str], at: int, scope: Scope, kind: str) -> str:
+    """The name of a kind that stands there. Raises `NoGoal`."""
+    wanted = reading.NAME[kind]
+    if at >= len(words):
+        raise NoGoal(words, None, wanted)
+    is_there = words[at] in scope.of_kind(kind)
+    if not is_there and (scope.application is not None or not commands.is_name(words[at])):
+        raise with_meant(NoGoal(words, at, wanted), scope)
+    return words[at]

@@ -1,0 +1,300 @@
+"""The ways to a goal: what a run goes to, and a way back.
+
+A goal is found by small runs and looks between. A way says the place of the very move, and may leave
+the target anywhere that a run from where it began came through.
+"""
+import dataclasses
+from typing import List, Optional, Sequence
+
+from rdbg import record, replies
+from rdbg.by_hand import INTERRUPT
+from rdbg.driving.target import Target, read
+from rdbg.driving.walk import Walk
+from rdbg.goals.claims import Goal, Holds, Not, Stuck, Waits
+from rdbg.goals.conditions import Condition
+from rdbg.looks import Look, Names
+
+# What lasts is looked for after so many moves, and then after twice as many.
+FIRST_STRIDE, MOST_STRIDE = 32, 8_192
+# So many places are looked at one by one at first, and twice as many each time, up to this: where
+# conditions don't say how far it is, or it was less than so far so many times.
+FIRST_CHUNK, MOST_CHUNK = 8, 256
+NEAR, TURNS = 8, 4
+# The first of several goals is looked for within so many moves, and then within so many times more.
+FIRST_WINDOW, WIDER = 64, 8
+
+
+def nearest(walk: Walk, conditions: Sequence[Condition], limit: int) -> Optional[int]:
+    """The first place of a run where one of these conditions holds. Stays where it is."""
+    start, left = walk.place, limit
+    found: Optional[int] = None
+    for condition in conditions:
+        if left < 1:
+            break
+        met = walk.until(condition.text, left)
+        if met is not None:
+            found, left = met, met - start - 1
+        walk.reach(start)
+    return found
+
+
+def latest(walk: Walk, conditions: Sequence[Condition]) -> Optional[int]:
+    """The last earlier place where one of these conditions holds. Stays where it is."""
+    start = walk.place
+    met: List[int] = []
+    for condition in conditions:
+        place = walk.back_until(condition.text)
+        if place is not None:
+            met.append(place)
+        walk.goto(start)
+    return max(met) if met else None
+
+
+def look_at(walk: Walk, goal: Goal) -> Look:
+    """A look at what a goal speaks of."""
+    return walk.target.look(goal.names(walk.target.names))
+
+
+def is_so(target: Target, goal: Goal) -> bool:
+    """Whether a goal holds where the target stands."""
+    if isinstance(goal, Holds):
+        return goal.condition.holds(read(target.tell(goal.condition.view)))
+    # (mostly it is seen by one line that something goes on)
+    if isinstance(goal, Stuck) and any(target.ask("show cores", replies.Cores).running):
+        return False
+    return goal.is_so(target.look(goal.names(target.names)))
+
+
+def is_stuck(target: Target) -> bool:
+    """Whether no run changes more than the tick."""
+    return is_so(target, Stuck())
+
+
+@dataclasses.dataclass
+class Search:
+    """A search for places where a goal holds: by conditions from one that can be it to the next, or
+    by looks at all of them, where these are near to each other."""
+
+    walk: Walk
+    goal: Goal
+
+    def __post_init__(self) -> None:
+        self._chunk, self._short = FIRST_CHUNK, 0
+        self._names: Names = self.goal.names(self.walk.target.names)
+
+    def first(self, limit: int) -> Optional[int]:
+        """The first place behind this one, at most so many moves on."""
+        walk = self.walk
+        if isinstance(self.goal, Holds):
+            return walk.until(self.goal.text, limit) if limit > 0 else None
+        if self.goal.is_lasting and not is_so(walk.target, self.goal):
+            return self._begun(limit)
+        end = walk.place + limit
+        while walk.place < end:
+            walk.interrupt.check()
+            look, here = look_at(walk, self.goal), walk.place
+            turns = None if self.goal.is_so(look) else self.goal.turns(look, earlier=False)
+            if turns is None or self._short >= TURNS:
+                place = self._scan(end, "forward 1")
+                if place is not None or walk.place == here:
+                    return place
+                continue
+            place = nearest(walk, turns, end - here)
+            if place is None:
+                return None
+            walk.reach(place)
+            self._went(place - here)
+            if is_so(walk.target, self.goal):
+                return place
+        return None
+
+    def last(self) -> Optional[int]:
+        """The last place before this one, as far as records lead."""
+        walk, base = self.walk, self.walk.target.base
+        if isinstance(self.goal, Holds):
+            return walk.back_until(self.goal.text)
+        while walk.place > base:
+            walk.interrupt.check()
+            walk.goto(walk.place - 1)
+            look, here = look_at(walk, self.goal), walk.place
+            if self.goal.is_so(look):
+                return here
+            if self.goal.is_lasting and only_runs(walk.target):
+                return None
+            if isinstance(self.goal, Not) and self.goal.goal.is_lasting and only_runs(walk.target):
+                return self._before(base, here)
+            turns = self.goal.turns(look, earlier=True)
+            if turns is None or self._short >= TURNS:
+                place = self._scan(base, record.back(1))
+                if place is not None:
+                    return place
+                continue
+            place = latest(walk, turns)
+            if place is None:
+                return None
+            walk.goto(place)
+            self._went(here - place)
+            if is_so(walk.target, self.goal):
+                return place
+        return None
+
+    def _went(self, count: int) -> None:
+        """Takes note of how far it was to a place that could have been it."""
+        self._short = self._short + 1 if count < NEAR else 0
+
+    def _scan(self, end: int, line: str) -> Optional[int]:
+        """Looks at some of the places up to one, or back to one, one by one. The first of them where
+        the goal holds; the target ends behind the last."""
+        walk, target = self.walk, self.walk.target
+        start, sign = walk.place, 1 if end > walk.place else -1
+        size = min(self._chunk, abs(end - start))
+        self._chunk, self._short = min(2 * self._chunk, MOST_CHUNK), self._short // 2
+        views = self._names.lines()
+        width = len(views) + 1
+        target.afford(width * size)
+        answers = target.tell_all([line, *views] * size)
+        for step in range(size):
+            moved, *seen = answers[step * width : (step + 1) * width]
+            if moved.startswith("no "):
+                walk.wall = moved[3:]
+                return None
+            place = start + sign * (step + 1)
+            if self.goal.is_so(Look.of(place, [read(each) for each in seen])):
+                return place
+        return None
+
+    def _begun(self, limit: int) -> Optional[int]:
+        """The first place of so many moves where what lasts is so, which it isn't here."""
+        walk = self.walk
+        start, stride = walk.place, FIRST_STRIDE
+        while walk.place - start < limit:
+            low = walk.place
+            asked = min(stride, limit - (low - start))
+            made = walk.forward(asked)
+            if is_so(walk.target, self.goal):
+                return self._between(low, walk.place)
+            if made < asked:
+                break
+            stride = min(stride * 2, MOST_STRIDE)
+        return None
+
+    def _between(self, low: int, high: int) -> int:
+        """The first place where what lasts is so, above one where it isn't, at most one where it
+        is."""
+        while high - low > 1:
+            middle = (low + high) // 2
+            self.walk.goto(middle)
+            if is_so(self.walk.target, self.goal):
+                high = middle
+            else:
+                low = middle
+        return high
+
+    def _before(self, low: int, high: int) -> Optional[int]:
+        """The last place from `low` up to `high`, where what lasts is so, at which it isn't."""
+        self.walk.goto(low)
+        if not is_so(self.walk.target, self.goal):
+            return None
+        assert isinstance(self.goal, Not)
+        return Search(self.walk, self.goal.goal)._between(low, high) - 1
+
+
+def only_runs(target: Target) -> bool:
+    """Whether tasks and ticks alone have moved the target, as far as is known."""
+    made = target.by_hand.values()
+    return target.is_own and not any(it.line.split(" ")[0] == INTERRUPT for it in made)
+
+
+class Way:
+    """A way to a goal. `text` names it as it is typed."""
+
+    text = ""
+
+    def next(self, walk: Walk, limit: int) -> Optional[int]:
+        """The first place behind this one, at most `limit` moves on, where it is met; none where
+        there is none."""
+        raise NotImplementedError
+
+    def last(self, walk: Walk) -> Optional[int]:
+        """The last place before this one where it is met, or none."""
+        raise NotImplementedError
+
+    def is_so(self, target: Target) -> Optional[bool]:
+        """Whether what the goal asks for is so here; none where it asks for a change."""
+        return None
+
+
+class To(Way):
+    """Places where a goal holds, or (`becoming`) where it does behind a move, and didn't before."""
+
+    def __init__(self, goal: Goal, becoming: bool, text: str = "") -> None:
+        self.goal, self.becoming, self.text = goal, becoming, text or goal.text
+
+    def is_so(self, target: Target) -> bool:
+        return is_so(target, self.goal)
+
+    def next(self, walk: Walk, limit: int) -> Optional[int]:
+        start = walk.place
+        if self.becoming and self.is_so(walk.target):
+            gone = None if self.goal.is_lasting else Search(walk, Not(self.goal)).first(limit)
+            if gone is None:
+                return None
+            walk.reach(gone)
+        return Search(walk, self.goal).first(limit - (walk.place - start))
+
+    def last(self, walk: Walk) -> Optional[int]:
+        place = Search(walk, self.goal).last()
+        if place is None or not self.becoming:
+            return place
+        walk.goto(place)
+        other = Search(walk, Not(self.goal)).last()
+        return None if other is None else other + 1
+
+
+class Wakes(To):
+    """A task is woken, or its time is up: it waited before a move, and doesn't after it."""
+
+    def __init__(self, task: str) -> None:
+        super().__init__(Not(Waits(task)), True, f"wakes {task}")
+
+
+class AnyOf(Way):
+    """The first of several. `met` is the one that was met."""
+
+    def __init__(self, text: str, ways: Sequence[Way]) -> None:
+        self.text, self.ways = text, ways
+        self.met: Optional[Way] = None
+
+    def next(self, walk: Walk, limit: int) -> Optional[int]:
+        start, window = walk.place, FIRST_WINDOW if len(self.ways) > 1 else limit
+        while True:
+            here = walk.place
+            left = limit - (here - start)
+            found = self._first(walk, min(window, left))
+            if found is not None or left <= window or walk.wall:
+                return found
+            walk.reach(here + window)
+            window *= WIDER
+
+    def _first(self, walk: Walk, limit: int) -> Optional[int]:
+        """The first place of so many moves. Stays where it is."""
+        start, left = walk.place, limit
+        found: Optional[int] = None
+        for way in self.ways:
+            if left < 1:
+                break
+            place = way.next(walk, left)
+            if place is not None:
+                found, left, self.met = place, place - start - 1, way
+            walk.reach(start)
+        return found
+
+    def last(self, walk: Walk) -> Optional[int]:
+        start = walk.place
+        found: Optional[int] = None
+        for way in self.ways:
+            place = way.last(walk)
+            if place is not None and (found is None or place > found):
+                found, self.met = place, way
+            walk.goto(start)
+        return found

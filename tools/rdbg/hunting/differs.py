@@ -1,0 +1,248 @@
+"""Two orders that end otherwise: `forward`'s own, and one that is found.
+
+Where `forward` comes to rest, so that no core is busy and no task has a deadline, an order differs that
+comes to rest otherwise. Where it goes on for ever, tasks of it may be at rest, and an order differs
+behind which one of them can't come to rest as it does there any more, whatever comes next.
+
+Interrupts come to `forward`'s own order where nothing else is left to do, each as often as it may; so
+that one came is no difference by itself.
+"""
+import dataclasses
+import itertools
+import re
+from typing import Dict, Iterator, List, Optional, Sequence, Set, Tuple
+
+from rdbg.application import Task
+from rdbg.driving.target import read
+from rdbg.goals.ways import To
+from rdbg.hunting.ends import claims
+from rdbg.hunting.goals import STUCK, is_stuck
+from rdbg.hunting.orders import FORWARD, TICK, Order, choice
+from rdbg.hunting.search import Search
+from rdbg.hunting.stage import Find, Stage
+from rdbg.reaching.said import Answer, Bound, Kind
+from rdbg.replies import Cores
+
+# So many moves does `forward` make at the most, if nothing else is asked.
+MOVES = 100
+# A core is let so many moves ahead where an order leaves `forward`'s.
+AHEAD = 4
+# In so many ways interrupts come to `forward`'s own order at the most.
+MOST_WAYS = 32
+TIMES = re.compile(r"((?:wait:\w+:\w+|again):)(\d+)\b")
+AWAKE = ("run", "again", "given")
+
+
+@dataclasses.dataclass(frozen=True)
+class Own:
+    """`forward`'s own order, what it comes to in each way in which interrupts come at its end, and
+    the tasks that are at rest there, where not all is."""
+
+    find: Find
+    ends: Tuple[Find, ...]
+    resting: Tuple[str, ...]
+
+
+@dataclasses.dataclass(frozen=True)
+class Difference:
+    """An order that differs, and the tasks that are compared; none: all is."""
+
+    find: Find
+    tasks: Tuple[str, ...] = ()
+
+
+def ways(stage: Stage) -> Iterator[Tuple[Tuple[str, ...], ...]]:
+    """The ways in which interrupts may come at the end, each as often as it may: their calls."""
+    counts = [range(it.times + 1) for it in stage.handlers]
+    for chosen in itertools.islice(itertools.product(*counts), MOST_WAYS):
+        pairs = zip(chosen, stage.handlers)
+        yield tuple(it.calls for count, it in pairs for _ in range(count))
+
+
+def rests(stage: Stage, task: str) -> bool:
+    """Whether a task has ended or failed, or waited without a deadline for the second half."""
+    it = stage.target.look().tasks[task]
+    if it.phase.word in ("ended", "failed"):
+        return True
+    if it.phase.word != "wait" or it.phase.deadline is not None:
+        return False
+    here = stage.walk.place
+    for phase in AWAKE:
+        last = stage.walk.back_until(f"phase {task} {phase}")
+        stage.walk.goto(here)
+        if last is not None and last > here // 2:
+            return False
+    return True
+
+
+class Differs:
+    """A search for orders that end otherwise."""
+
+    def __init__(self, search: Search) -> None:
+        self.search, self.stage = search, search.stage
+        self._moves = MOVES if search.bound.moves is None else search.bound.moves
+        self._ends: Set[Tuple[str, ...]] = set()
+        self.own = self._own()
+
+    def _own(self) -> Own:
+        """`forward`'s own order."""
+        whole = self._run(())
+        resting = () if is_stuck(whole.look) else self._resting()
+        ends = [self._run(way) for way in ways(self.stage)]
+        self._ends = {it.views for it in ends}
+        return Own(whole, tuple(ends), resting)
+
+    def _resting(self) -> Tuple[str, ...]:
+        return tuple(it for it in self.stage.names.tasks if rests(self.stage, it))
+
+    def _run(self, way: Sequence[Tuple[str, ...]]) -> Find:
+        """What `forward` comes to, with these interrupts behind it, each where all rests again."""
+        self.stage.at_boot()
+        walk = self.stage.walk
+        lines = self._to_rest()
+        for calls in way:
+            walk.target.tell_all(calls)
+            lines += [*calls, *self._to_rest()]
+        return self.stage.here(Order(tuple(lines), place=walk.place, length=walk.place))
+
+    def _to_rest(self) -> List[str]:
+        """Goes on as `forward` does until all rests, or so many moves are made: the lines of it."""
+        walk, start = self.stage.walk, self.stage.walk.place
+        if is_stuck(walk.target.look()):
+            return []
+        met = To(STUCK, becoming=False).next(walk, self._moves)
+        if met is None:
+            walk.forward(self._moves - (walk.place - start))
+        else:
+            walk.reach(met)
+        made = walk.place - start
+        return [f"{FORWARD} {made}"] if made else []
+
+    def find(self, wanted: int) -> List[Difference]:
+        """So many that differ, at the most; those with fewer surprises first."""
+        if self.own.resting:
+            return self._by_leaving(wanted)[:wanted]
+        if not is_stuck(self.own.find.look):
+            why = f"nothing is at rest in forward's order of {self._moves} moves: name a goal"
+            self.search.none.append(Answer(Kind.UNTOLD, why=why))
+            return []
+        found = self.search.different(wanted, self.search.ask, self._is_new)
+        differing = [Difference(it) for it in found]
+        if len(found) < wanted:
+            # (which bytes there are no goal can say)
+            differing += self._by_leaving(wanted - len(found))
+        return sorted(differing, key=lambda it: it.find.size)[:wanted]
+
+    def _is_new(self, find: Find) -> bool:
+        if find.views in self._ends:
+            return False
+        self._ends.add(find.views)
+        return True
+
+    def _by_leaving(self, wanted: int) -> List[Difference]:
+        """Those that leave `forward`'s order at one place, those with fewer surprises first; the first
+        that there is, where one is wanted."""
+        found: List[Difference] = []
+        if self.search.bound.surprises == 0:
+            return found
+        for leaving, come in self._leavings():
+            if self.search.is_stopped():
+                break
+            it = self._behind(leaving, come)
+            if it is not None and self._is_new(it.find):
+                found.append(it)
+            if len(found) == wanted == 1:
+                return found
+        if self.own.resting and not self.search.is_stopped():
+            why = "orders that leave forward's at one place were asked of alone"
+            self.search.none.append(Answer(Kind.UNTOLD, why=why))
+        return sorted(found, key=lambda it: it.find.size)
+
+    def _leavings(self) -> Iterator[Tuple[List[str], List[Tuple[str, ...]]]]:
+        """The orders that leave `forward`'s once, by their moves, at each place from boot up to where
+        a state comes again; and which interrupts have come."""
+        seen: Set[Tuple[object, ...]] = set()
+        before: List[str] = []
+        while len(before) < self.own.find.order.place:
+            self._stand(before)
+            cores, *views = self.stage.target.tell_all(self.stage.names.lines())
+            look = read(cores)
+            assert isinstance(look, Cores)
+            state = self._state(look, views)
+            if state in seen:
+                return
+            seen.add(state)
+            next_core = choice(look)
+            for core, task in enumerate(look.running):
+                if task is not None and core != next_core:
+                    for count in range(1, AHEAD + 1):
+                        yield [*before, *[f"step {core}"] * count], []
+            if next_core is not None:
+                yield [*before, TICK], []
+            yield from (([*before, *it.calls], [it.calls]) for it in self.stage.handlers)
+            before.append(TICK if next_core is None else f"step {next_core}")
+
+    def _stand(self, lines: Sequence[str]) -> bool:
+        """Goes to where these moves lead, if all of them can be made."""
+        answers = self.stage.at_boot().tell_all(lines)
+        return not any(it.startswith("no ") for it in answers)
+
+    def _state(self, cores: Cores, views: Sequence[str]) -> Tuple[object, ...]:
+        """What is the same where all goes on alike, whatever the tick."""
+        left = (
+            TIMES.sub(lambda it: f"{it[1]}+{max(0, int(it[2]) - cores.tick)}", view)
+            for view in views
+        )
+        tick = cores.tick % len(cores.running)
+        return (cores.running, cores.ready, tick, choice(cores), *left)
+
+    def _bound(self, moves: int) -> Bound:
+        """Of which orders is asked behind one with a surprise and so many moves."""
+        bound = self.search.bound
+        surprises = None if bound.surprises is None else bound.surprises - 1
+        return Bound(None if bound.moves is None else max(0, bound.moves - moves), surprises)
+
+    def _behind(
+        self, leaving: Sequence[str], come: Sequence[Tuple[str, ...]]
+    ) -> Optional[Difference]:
+        """What differs behind an order that has left `forward`'s."""
+        if not self._stand(leaving):
+            return None
+        bound = self._bound(len(leaving))
+        if not self.own.resting:
+            found = self.search.ask(self.search.goal.asked, bound, leaving, come, keeps=False)
+            return None if found is None else Difference(found)
+        for name in self.own.resting:
+            ends = {claims(it.look, self.stage.application)[name] for it in self.own.ends}
+            goal = " or ".join(f"( {it} )" for it in sorted(ends))
+            if not self._is_lost(goal, leaving, come):
+                continue
+            task = self.stage.application.task(name)
+            assert task is not None
+            found = self.search.ask(at_rest(task), bound, leaving, come, keeps=False)
+            return Difference(found or self.stage.find(leaving), (name,))
+        return None
+
+    def _is_lost(self, goal: str, leaving: Sequence[str], come: Sequence[Tuple[str, ...]]) -> bool:
+        """Whether no order, of whatever length, leads to a goal from where these moves lead."""
+        more = self.search.interrupts(come)
+        answer = self.search.asker.ask(goal, Bound(), leaving, more, self.search.question)
+        return answer.kind is Kind.NONE
+
+
+def at_rest(task: Task) -> str:
+    """That a task has ended or failed, or waits in a call without a deadline."""
+    endless = (at for at, it in enumerate(task.code) if it.words()[-1] == "max")
+    waiting = (f"waits {task.name} and at {task.name} {at}" for at in endless)
+    return " or ".join([f"ended {task.name}", f"failed {task.name}", *waiting])
+
+
+def compared(own: Own, difference: Difference) -> Dict[str, Tuple[str, str]]:
+    """What ends otherwise in two orders, thing by thing."""
+    pairs = zip(own.find.views, difference.find.views)
+    named = {" ".join(one.split()[1:3]): (one, other) for one, other in pairs if one != other}
+    return {
+        thing: pair
+        for thing, pair in named.items()
+        if not difference.tasks or pair[0].split()[1] in difference.tasks
+    }

@@ -1,0 +1,99 @@
+"""A program of a hunt's own, in which what is found is made again, and looked at."""
+import dataclasses
+from typing import Callable, Iterator, List, Optional, Sequence, Tuple
+
+from rdbg import commands
+from rdbg.driving.interrupt import Interrupt
+from rdbg.driving.opening import begin
+from rdbg.driving.parts import look_through
+from rdbg.driving.target import Limits, Target, read
+from rdbg.driving.walk import Walk
+from rdbg.files.source import Source
+from rdbg.hunting.interrupts import Handler
+from rdbg.hunting.orders import Order, make
+from rdbg.looks import Look, Names
+from rdbg.tracing.table import Table, rows
+
+# So many rows of a table are shown at the most.
+MOST_ROWS = 60
+# So many places of a history are left before a new program is begun.
+LEFT = 100_000
+
+
+@dataclasses.dataclass(frozen=True)
+class Find:
+    """An order, and what there is at its end: as a look, and as the program's views of tasks and
+    objects."""
+
+    order: Order
+    look: Look
+    views: Tuple[str, ...]
+
+    @property
+    def size(self) -> Tuple[int, int]:
+        """How many surprises it has, and how many moves."""
+        return len(self.order.told), self.order.length
+
+
+class Stage:
+    """Makes orders of an application, in which these handlers may come."""
+
+    def __init__(self, source: Source, handlers: Sequence[Handler]) -> None:
+        assert source.application is not None
+        self.source, self.handlers, self.application = source, handlers, source.application
+        self.names = Names.of(self.application)
+        self._walk: Optional[Walk] = None
+
+    def close(self) -> None:
+        """Ends the program."""
+        if self._walk is not None:
+            self._walk.target.session.kill()
+            self._walk = None
+
+    @property
+    def walk(self) -> Walk:
+        """The program, as it is."""
+        if self._walk is None:
+            limits = Limits(commands.MOST_COUNT, commands.MOST_COUNT)
+            self._walk = Walk(begin(self.source, limits), Interrupt())
+        return self._walk
+
+    @property
+    def target(self) -> Target:
+        """What is told of it."""
+        return self.walk.target
+
+    def at_boot(self) -> Target:
+        """The program at boot."""
+        if self._walk is not None and not self.target.can_afford(LEFT):
+            self.close()
+        self.walk.goto(0)
+        return self.target
+
+    def find(self, moves: Sequence[str]) -> Find:
+        """The order of these moves. Raises `Failure` where it can't be made."""
+        return self.here(make(self.at_boot(), moves, self.handlers))
+
+    def here(self, order: Order) -> Find:
+        """An order whose moves are done, with what there is."""
+        views = self.target.tell_all(self.names.lines())
+        look = Look.of(self.walk.place, [read(view) for view in views])
+        return Find(order, look, tuple(views[1:]))
+
+    def table(self, find: Find, is_so: Callable[[Look], bool]) -> Tuple[List[str], bool]:
+        """Who did what in an order, as `rdbg trace` says it, and whether something is so at its end,
+        when it is made once more."""
+        self.at_boot().tell_all(find.order.lines)
+        return [*self._rows()], self.walk.place == find.order.place and is_so(self.target.look())
+
+    def _rows(self) -> Iterator[str]:
+        """The head and the rows of a table of the moves that are done, if there are any."""
+        done, tick = self.walk.place, self.target.look().cores.tick
+        if not done:
+            return
+        table = Table.of(self.application, done, tick)
+        yield table.head()
+        part = look_through(self.target, 1, min(done, MOST_ROWS))
+        yield from (table.row(row.cells) for row in rows(part.moves))
+        if done > MOST_ROWS:
+            yield f"(and {done - MOST_ROWS} more)"

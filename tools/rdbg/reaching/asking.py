@@ -1,0 +1,134 @@
+"""Questions to the program that searches, each answered by one that is started for it."""
+import dataclasses
+import os
+import tempfile
+import time
+from typing import Dict, NamedTuple, Optional, Sequence, Tuple
+
+from rdbg.client import built_by_wrapper
+from rdbg.failure import Failure
+from rdbg.reaching import answer, running, said
+from rdbg.reaching.said import Answer, Bound, Kind
+
+# What names the program.
+PROGRAM, NAME = "RDBG_REACH", "rdreach"
+# What it answers to a line that changes something, and before why it refuses one.
+DONE, REFUSED = "ok", "no: "
+TIME, CTRL_C, STOPPED = "the time was up", "Ctrl-C came", "it was stopped"
+
+
+class Question(NamedTuple):
+    """A question that the program has: the word that stands before the goal, whether the goal holds
+    behind the order that is its answer, and what it asks, with more on it."""
+
+    word: str
+    is_met: bool
+    asks: str = ""
+    more: str = ""
+
+
+REACH = Question(
+    "reach",
+    True,
+    "whether some order leads there from here",
+    "It is asked of every order of moves behind this place, of whatever length: found, with the\n"
+    "order, or never, which is a theorem, or full where the room has ended.",
+)
+LOST = Question(
+    "lost",
+    False,
+    "at which move it was lost, if it was",
+    "Of the moves that are done: the last place from which an order leads there, with the order, and\n"
+    "the move behind it, behind which none does, of whatever length; or still, with an order from here.",
+)
+DOOMED = Question(
+    "doomed",
+    False,
+    "whether an order leads to where it is lost",
+    "Found, with an order to a place from which none leads there any more, of whatever length; or never:\n"
+    "from every place that an order leads to some order leads there.",
+)
+# Each is one row; what its answer begins with is a row of `said.HEADS`.
+QUESTIONS: Dict[str, Question] = {it.word: it for it in (REACH, LOST, DOOMED)}
+
+
+class NoQuestion(Failure):
+    """The program refuses what it is asked."""
+
+
+def program() -> str:
+    """The program that searches: the one that the environment names, or that of `./rdbg`."""
+    return os.environ.get(PROGRAM) or built_by_wrapper(NAME)
+
+
+@dataclasses.dataclass(frozen=True)
+class Asker:
+    """What is asked of: an application's file, with these options of the program; and when the time
+    is up."""
+
+    file: str
+    options: Tuple[str, ...] = ()
+    end: Optional[float] = None
+
+    def left(self) -> Optional[float]:
+        """How many seconds are left."""
+        return None if self.end is None else max(0.001, self.end - time.monotonic())
+
+    def ask(
+        self,
+        goal: str,
+        bound: Bound = Bound(),
+        begin: Sequence[str] = (),
+        more: Sequence[str] = (),
+        question: Question = REACH,
+    ) -> Answer:
+        """The answer to a question about a goal, behind these command lines, and of orders within a
+        bound; `more` are further lines of the program, before the question. Raises `NoQuestion` where
+        it is refused, `Failure` where the program ends otherwise than by an answer."""
+        lines = [
+            *more,
+            *(f"line {it}" for it in begin),
+            *bound_lines(bound),
+            f"{question.word} {goal}",
+        ]
+        words = [program(), "--progress", *self.options, "--", self.file]
+        with tempfile.TemporaryFile() as file:
+            file.write("".join(f"{line}\n" for line in lines).encode())
+            file.seek(0)
+            outcome = running.run(words, self.left(), file)
+        if outcome.is_stopped:
+            return self._stopped(outcome, bound)
+        return answered(outcome, bound)
+
+    def _stopped(self, outcome: running.Outcome, bound: Bound) -> Answer:
+        """What is known where the search was ended in the midst of it."""
+        is_time = self.end is not None and time.monotonic() >= self.end
+        why = TIME if is_time else CTRL_C
+        last = outcome.last
+        if last is None:
+            return Answer(Kind.UNTOLD, why=why)
+        most = bound.surprises if last.surprises is None else last.surprises
+        counts = last.states, last.moves, last.deepest
+        return Answer(Kind.UNTOLD, Bound(last.within, most), why=why, counts=counts)
+
+
+def bound_lines(bound: Bound) -> Sequence[str]:
+    """The lines that say of which orders a question is."""
+    bounds = (("moves", bound.moves), ("surprises", bound.surprises))
+    return [f"{word} {count}" for word, count in bounds if count is not None]
+
+
+def answered(outcome: running.Outcome, bound: Bound) -> Answer:
+    """The answer that a program has given."""
+    known = "" if outcome.last is None else Bound(outcome.last.within, bound.surprises).text()
+    if outcome.status == answer.UNTOLD and not outcome.output:
+        raise NoQuestion("", answer.UNTOLD)  # (which has said why)
+    replies = [it.splitlines() for it in outcome.output.split("\n\n") if it]
+    for reply in replies:
+        if reply[0].startswith(REFUSED):
+            raise NoQuestion(reply[0][len(REFUSED) :], answer.UNTOLD)
+    if outcome.status != 0:
+        answer.check("", outcome.status or 1, known)
+    if not replies or replies[-1] == [DONE]:
+        raise Failure("the program ended before its answer", answer.UNTOLD)
+    return said.read(replies[-1])

@@ -1,0 +1,74 @@
+"""Interrupts as the program that searches takes them: those of a text by name, others by their calls."""
+import dataclasses
+from typing import Dict, List, Optional, Sequence, Tuple
+
+from rdbg.application import ANY, Application, Interrupt
+from rdbg.failure import Failure
+from rdbg.near import nearest
+
+OPTION, BETWEEN = "--isr", "; "
+TIMES, EVER = "times", "any"
+
+
+@dataclasses.dataclass(frozen=True)
+class Handler:
+    """An interrupt that may come: its calls, as they are typed, and when it comes, by the names that
+    the program's options have, of one that is given by name."""
+
+    calls: str
+    when: Tuple[Tuple[str, str], ...] = ()
+
+    def options(self) -> List[str]:
+        """The words of a command line."""
+        return [OPTION, self.calls, *(word for key, it in self.when for word in (f"--{key}", it))]
+
+    def line(self) -> str:
+        """The line to the program where it answers lines."""
+        return " ".join(["isr", self.calls, *(f"{key} {it}" for key, it in self.when)])
+
+
+def handlers(texts: Sequence[str], application: Optional[Application]) -> List[Handler]:
+    """Those that are named, or given by their calls, in their order, and then those that end waits.
+    One that comes after another stands behind that. Raises `Failure` where it doesn't."""
+    found: List[Handler] = []
+    numbers: Dict[str, int] = {}
+    for text in texts:
+        it = application.interrupt(text.strip()) if application else None
+        if it is None:
+            check_name(text, application)
+            found.append(Handler(text))
+            continue
+        if it.after is not None and it.after not in numbers:
+            why = f"it comes after {it.after}, so {OPTION} {it.after} stands before it"
+            raise Failure(f"{OPTION} {it.name}: {why}", 2)
+        if it.name in numbers:
+            raise Failure(f"{OPTION} {it.name} stands twice; how often it comes its line says", 2)
+        numbers[it.name] = len(found)
+        others = application.interrupts if application else ()
+        found.append(named(it, numbers, {other.name: other for other in others}))
+    ends = [it for it in application.interrupts if it.is_of_wait] if application else []
+    return found + [named(it, numbers, {}) for it in ends if it.name not in numbers]
+
+
+def times_of(it: Interrupt, others: Dict[str, Interrupt]) -> int:
+    """How often one comes at the most: one that comes after another no more often than that."""
+    bounds = [it.times] + ([times_of(others[it.after], others)] if it.after else [])
+    return min((bound for bound in bounds if bound != ANY), default=ANY)
+
+
+def named(it: Interrupt, numbers: Dict[str, int], others: Dict[str, Interrupt]) -> Handler:
+    """One of a text, where these have these numbers, and those are there."""
+    times = times_of(it, others)
+    when = [(TIMES, EVER if times == ANY else str(times))]
+    when += [("after", str(numbers[it.after]))] if it.after is not None else []
+    when += [("apart", str(it.apart))] if it.apart else []
+    return Handler(BETWEEN.join(it.calls), tuple(when))
+
+
+def check_name(text: str, application: Optional[Application]) -> None:
+    """Raises `Failure` where a word was meant to be the name of an interrupt."""
+    names = [it.name for it in application.interrupts] if application else []
+    if names and len(text.split()) == 1:
+        near = nearest(text.strip(), names)
+        hint = f"{near} is near" if near else f"there is {', '.join(names)}"
+        raise Failure(f"{OPTION}: the text names no interrupt {text.strip()}; {hint}", 2)

@@ -1,0 +1,169 @@
+"""What an answer of the program that searches says, as a value; and what several say together."""
+import dataclasses
+import enum
+import re
+from typing import Dict, Iterable, Iterator, Optional, Sequence, Tuple
+
+from rdbg.failure import Failure
+from rdbg.reaching.answer import COUNTS, NONE, REACHED, UNTOLD
+
+
+class Kind(enum.Enum):
+    """What comes of a question: the value is the exit status."""
+
+    NONE = NONE
+    REACHED = REACHED
+    UNTOLD = UNTOLD
+
+
+# How the first line of an answer begins, and what is said by it.
+HEADS: Tuple[Tuple[str, Kind], ...] = (
+    ("found", Kind.REACHED),
+    ("still", Kind.REACHED),
+    ("lost at", Kind.NONE),
+    ("never", Kind.NONE),
+    ("not within", Kind.NONE),
+    ("full", Kind.UNTOLD),
+)
+# What else is told of what was lost: an order stands behind it.
+TITLE = re.compile(r"still|lost at \d+", re.ASCII)
+# What may stand in the first line of an answer, and how often: of which orders it is said, and of
+# which part of a search.
+WITHIN = re.compile(r"not within(?: (\d+) moves)?(?:(?: and)? (\d+) surprises)?", re.ASCII)
+PART = re.compile(r", part (\d+) of (\d+)$", re.ASCII)
+MISSED = re.compile(r"no order came to (\S+)((?: \d+)+)", re.ASCII)
+
+
+@dataclasses.dataclass(frozen=True)
+class Bound:
+    """Of which orders something is said: of so many moves at the most, of so many surprises; none:
+    of any number."""
+
+    moves: Optional[int] = None
+    surprises: Optional[int] = None
+
+    def text(self) -> str:
+        """It in the words of an answer."""
+        counted = ((self.moves, "moves"), (self.surprises, "surprises"))
+        bounds = [f"{count} {what}" for count, what in counted if count is not None]
+        return f"not within {' and '.join(bounds)}" if bounds else "never"
+
+    def least(self, other: "Bound") -> "Bound":
+        """What is said of these orders and of those of another bound, is said of those of both."""
+        return Bound(
+            fewer(self.moves, other.moves),
+            fewer(self.surprises, other.surprises),
+        )
+
+
+def fewer(one: Optional[int], other: Optional[int]) -> Optional[int]:
+    """The lower one of two bounds; none is no bound."""
+    return min((it for it in (one, other) if it is not None), default=None)
+
+
+@dataclasses.dataclass(frozen=True)
+class Answer:
+    """An answer: the order where there is one, else of which orders it is said that the goal comes
+    behind none; why it isn't said of all that were asked for; what was gone through, and to which
+    instructions of which tasks no order came; which part of how many it is of a search; and the first
+    line of it, where that says of a goal whether it was lost."""
+
+    kind: Kind
+    bound: Bound = Bound()
+    order: Tuple[str, ...] = ()
+    why: str = ""
+    counts: Tuple[int, int, int] = (0, 0, 0)
+    missed: Tuple[Tuple[str, Tuple[int, ...]], ...] = ()
+    part: Optional[Tuple[int, int]] = None
+    title: str = ""
+
+    def head(self) -> str:
+        """The first line of it."""
+        if self.title:
+            return self.title
+        if self.kind is Kind.REACHED:
+            return "found"
+        if self.kind is Kind.NONE:
+            return self.bound.text()
+        return "full" if self.bound == Bound() else f"full: {self.bound.text()}"
+
+
+def kind_of(head: str) -> Kind:
+    """What the first line of an answer says. Raises `Failure` where it is none of one."""
+    for word, kind in HEADS:
+        if re.match(rf"{word}\b", head):
+            return kind
+    raise Failure(f"'{head}' is no answer of rdreach", UNTOLD)
+
+
+def number(text: Optional[str]) -> Optional[int]:
+    """The number that stands there, if one does."""
+    return None if text is None else int(text)
+
+
+def read(lines: Sequence[str]) -> Answer:
+    """The answer in these lines. Raises `Failure` where there is none in them."""
+    first, *rest = lines or [""]
+    kind = kind_of(first)
+    within, part = WITHIN.search(first), PART.search(first)
+    bound = Bound(number(within[1]), number(within[2])) if within else Bound()
+    at = next((at for at, line in enumerate(rest) if COUNTS.fullmatch(line)), None)
+    if at is None:
+        raise Failure("the answer of rdreach has no end", UNTOLD)
+    states, moves, deepest = map(int, rest[at].split()[1::2])
+    title = TITLE.fullmatch(first)
+    has_order = kind is Kind.REACHED or title is not None
+    missed = [it for it in map(MISSED.fullmatch, rest[at + 1 :]) if it]
+    return Answer(
+        kind,
+        bound,
+        tuple(rest[:at]) if has_order else (),
+        "" if has_order else " ".join(rest[:at]),
+        (states, moves, deepest),
+        tuple((it[1], tuple(map(int, it[2].split()))) for it in missed),
+        (int(part[1]), int(part[2])) if part else None,
+        title[0] if title else "",
+    )
+
+
+def both(one: Answer, other: Answer) -> Answer:
+    """What two answers say together of which none has an order: what both say, of their orders."""
+    kinds = {one.kind, other.kind}
+    missed: Dict[str, Tuple[int, ...]] = {}
+    others = dict(other.missed)
+    for task, instructions in one.missed:
+        common = tuple(it for it in instructions if it in others.get(task, ()))
+        if common:
+            missed[task] = common
+    unknown = [it for it in (one, other) if it.kind is Kind.UNTOLD and it.bound == Bound()]
+    return Answer(
+        Kind.UNTOLD if Kind.UNTOLD in kinds else Kind.NONE,
+        Bound() if unknown else one.bound.least(other.bound),
+        why=one.why or other.why,
+        counts=summed(one.counts, other.counts),
+        missed=tuple(missed.items()),
+    )
+
+
+def summed(one: Tuple[int, int, int], other: Tuple[int, int, int]) -> Tuple[int, int, int]:
+    """What was gone through in two searches: states and moves, and the longest order."""
+    return one[0] + other[0], one[1] + other[1], max(one[2], other[2])
+
+
+def together(answers: Iterable[Answer]) -> Answer:
+    """What answers say together, of which there is one at the least, and none has an order."""
+    first, *rest = answers
+    for it in rest:
+        first = both(first, it)
+    return first
+
+
+def lines(answer: Answer) -> Iterator[str]:
+    """An answer as the program gives it."""
+    yield answer.head()
+    yield from answer.order
+    yield from [answer.why] if answer.why else []
+    states, moves, deepest = answer.counts
+    yield f"states {states} moves {moves} deepest {deepest}"
+    for task, instructions in answer.missed:
+        yield f"no order came to {task} {' '.join(map(str, instructions))}"

@@ -1,0 +1,102 @@
+"""`pace`, `go` and `interrupts`: runs in which each busy core makes enough moves between two ticks."""
+from typing import TYPE_CHECKING, Dict, List, Optional, Sequence
+
+from rdbg import commands
+from rdbg.application import Interrupt
+from rdbg.driving.interrupt import Interrupted
+from rdbg.driving.pacing import IS, NONE, TickPace, pace
+from rdbg.driving.target import Unable
+from rdbg.driving.walk import Walk
+from rdbg.goals.paced import PacedWalk
+from rdbg.near import nearest
+
+if TYPE_CHECKING:
+    from rdbg.shell.shell import Shell
+
+TICKS = ("tick", "ticks")
+
+
+def put(shell: "Shell", words: Sequence[str]) -> None:
+    """`pace M..N`, `pace none`, or which one it is."""
+    if len(words) > 1:
+        raise Unable(f"`pace 5..20`, or `pace none`: {IS}")
+    if words:
+        found = pace(words[0])
+        if found is None and words[0] != NONE:
+            raise Unable(f"'{words[0]}' is none: {IS}")
+        take(shell, found, shell.coming if found else ())
+    shell.say(said(shell))
+
+
+def said(shell: "Shell") -> str:
+    """Which pace there is, and which interrupts come by themselves."""
+    if shell.pace is None:
+        return "no pace: runs are the program's own, one instruction of each busy core a tick"
+    most = "" if shell.pace.most is None else f", at most {shell.pace.most}"
+    text = f"pace {shell.pace.text}: each busy core makes at least {max(1, shell.pace.least)}"
+    coming = "".join(f"; {it.name} comes" for it in shell.coming)
+    return f"{text}{most} between two ticks, in go, until! and continue{coming}"
+
+
+def take(shell: "Shell", found: Optional[TickPace], coming: Sequence[Interrupt]) -> None:
+    """Goes on at a pace, or at none, with interrupts that come by themselves."""
+    if isinstance(shell.walk, PacedWalk):
+        shell.walk.end()
+    shell.pace, shell.coming = found, tuple(coming)
+    if found is None:
+        shell.walk = Walk(shell.target, shell.interrupt)
+    else:
+        shell.walk = PacedWalk(shell.target, shell.interrupt, found, shell.coming)
+
+
+def interrupts(shell: "Shell", words: Sequence[str]) -> None:
+    """`interrupts NAME ..`, `interrupts none`: which come by themselves, at each tick where they
+    may."""
+    application = shell.target.application
+    there = {it.name: it for it in application.interrupts} if application else {}
+    if [*words] == [NONE]:
+        take(shell, shell.pace, ())
+    elif words:
+        take(shell, shell.pace or TickPace(1), chosen(words, there))
+    shell.say(said(shell))
+
+
+def chosen(words: Sequence[str], there: Dict[str, Interrupt]) -> List[Interrupt]:
+    """The interrupts of these names. Raises `Unable` where one isn't there, or where one comes after
+    another that isn't among them."""
+    for name in words:
+        if name not in there:
+            near = nearest(name, there)
+            hint = f"; {near} is near" if near else f"; there is {', '.join(there) or 'none'}"
+            raise Unable(f"the text names no interrupt {name}{hint}")
+        after = there[name].after
+        if after is not None and after not in words:
+            raise Unable(f"{name} comes after {after}: `interrupts {after} {name}`")
+    return [it for it in there.values() if it.name in words]
+
+
+def go(shell: "Shell", words: Sequence[str]) -> None:
+    """`go COUNT`: so many moves at the pace; `go COUNT ticks`: up to so many ticks."""
+    is_ticks = len(words) == 2 and words[1] in TICKS
+    if not words or not commands.is_count(words[0]) or len(words) > 1 + is_ticks:
+        raise Unable("`go 10` makes ten moves at the pace, `go 10 ticks` goes on up to ten ticks")
+    count, walk = int(words[0]), shell.walk
+    if not isinstance(walk, PacedWalk):
+        if is_ticks:
+            raise Unable("`go 10 ticks` goes at a pace: `pace 5..20` says one")
+        shell.command(f"forward {count}")
+        return
+    with shell.wheel():
+        start = shell.target.places().done
+        before = shell.look() if shell.shows_moves else None
+        walk.wall = ""
+        try:
+            made = walk.ticks(count) if is_ticks else walk.forward(count)
+        except Interrupted:
+            shell.stopped(f"at {shell.target.place}")
+            made = 0
+        if walk.wall:
+            shell.answer(f"no {walk.wall}")
+        shell.answer(f"ok at {shell.target.place}")
+        if made or shell.target.place != start:
+            shell.after(start, before)

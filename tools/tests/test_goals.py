@@ -1,0 +1,160 @@
+"""The reader of goals: held against the program that searches, and against what views show."""
+import json
+import os
+import pathlib
+import random
+import tempfile
+import unittest
+from typing import List
+
+from rdbg.driving.opening import begin
+from rdbg.driving.target import Limits
+from rdbg.files.source import load, source
+from rdbg.goals import reading
+from rdbg.goals import words as goal_words
+from rdbg.goals.reading import NoGoal
+from rdbg.goals.scope import Scope
+from tests.made import Maker
+from tests.paths import EXAMPLES
+from tests.reaching.engine import talk
+from tests.reaching.goals import Goals
+from tests.reaching.states import State
+
+# Applications and goals of each, for each of two tests.
+SEEDS, COUNT, PLACES = range(6), 40, 30
+# A word of a goal becomes one of these.
+OTHERS = (
+    "and", "or", "not", "(", ")", "=", "<", ">", "&", "==", "0", "7", "8", "255", "4294967295",
+    "4294967296", "01", "-1", "reg", "note", "pc", "phase", "tick", "count", "bits", "bytes",
+    "msgs", "at", "waits", "runs", "ended", "failed", "finished", "asleep", "wait", "run", "recv",
+    "send", "select", "read", "write", "sread", "mwrite", "group", "nobody", "x",
+)  # fmt: skip
+LINES = """
+cores 1
+const STOP 1 << 0
+const FULL 1 << 1
+group flags
+queue jobs length 1 item 1
+task logger priority 2
+again:
+    recv jobs 10
+    jumpz r0 again
+    gset flags STOP|FULL
+    end
+task button priority 1
+    data 0x01
+    send jobs max
+    end
+"""
+
+
+def scope_of(path: str) -> Scope:
+    """What goals of an application can name."""
+    return Scope.of(load(path))
+
+
+class Refusals(unittest.TestCase):
+    """What is refused, as the program refuses it."""
+
+    def check(self, path: str, goals: List[str]) -> None:
+        """Each goal, by both."""
+        words = [os.environ["RDBG_REACH"], "--moves", "0", "--states", "10", path]
+        ended = talk(words, "".join(f"reach {it}\n" for it in goals).encode())
+        self.assertEqual(len(goals), len(ended.answers))
+        scope = scope_of(path)
+        for goal, answer in zip(goals, ended.answers):
+            with self.subTest(goal):
+                try:
+                    goal_words.read(goal.split(), scope)
+                    self.assertFalse(answer.startswith("no: goal"), answer)
+                except NoGoal as wrong:
+                    why = answer[len("no: goal: ") :]
+                    self.assertEqual(f"no: goal: {str(wrong)[: len(why)]}", answer)
+
+    def test_words_at_random(self) -> None:
+        if "RDBG_REACH" not in os.environ:
+            self.skipTest("RDBG_REACH names no program")
+        with tempfile.TemporaryDirectory() as folder:
+            for seed in SEEDS:
+                dice, values = random.Random(seed), Maker(seed).application()
+                path = pathlib.Path(folder) / f"made{seed}.json"
+                path.write_text(json.dumps(values))
+                maker = Goals(dice, values)
+                goals = []
+                for _ in range(COUNT):
+                    words = reading.words_of(maker.goal().words)
+                    for _ in range(dice.choice([0, 1, 1, 2])):
+                        at = dice.randrange(len(words) + 1)
+                        words[at : at + dice.randint(0, 1)] = [dice.choice(OTHERS)]
+                    goals.append(" ".join(words) or "x")
+                self.check(str(path), goals)
+
+    def test_what_would_be_right(self) -> None:
+        scope = scope_of(str(EXAMPLES / "lost_item.json"))
+        for goal, meant in (
+            ("stuk", "`stuck` would be right"),
+            ("jobs > 0", "`count jobs > 0` would be right"),
+            ("count jobs>=1 && !asleep", "`count jobs > 0 and not asleep` would be right"),
+            ("worker r1 = 0x10", "`reg worker 1 = 16` would be right"),
+            ("count job = 1", "`count jobs = 1` would be right"),
+            ("at nobody 0", "; these are there: worker, producer, poller"),
+            ("wakes worker", "this is said of a move, and stands by itself"),
+        ):
+            with self.subTest(goal), self.assertRaises(NoGoal) as refused:
+                goal_words.read(goal.split(), scope)
+            self.assertIn(meant, str(refused.exception))
+
+    def test_long_ones(self) -> None:
+        scope = scope_of(str(EXAMPLES / "lost_item.json"))
+        for goal in (" and ".join(["asleep"] * 33), "not " * 64 + "asleep", "( " * 65 + "asleep"):
+            with self.assertRaises(NoGoal) as refused:
+                goal_words.read(goal.split(), scope)
+            self.assertEqual("the goal is too long", str(refused.exception))
+
+
+class Truth(unittest.TestCase):
+    """What goals say of places."""
+
+    def test_random_goals(self) -> None:
+        with tempfile.TemporaryDirectory() as folder:
+            for seed in SEEDS:
+                dice, values = random.Random(seed), Maker(seed).application()
+                path = pathlib.Path(folder) / f"made{seed}.json"
+                path.write_text(json.dumps(values))
+                scope = scope_of(str(path))
+                goals = [Goals(dice, values).goal() for _ in range(COUNT)]
+                read = [goal_words.read(it.words.split(), scope) for it in goals]
+                target = begin(load(str(path)), Limits())
+                with target.session:
+                    for _ in range(PLACES):
+                        target.tell("forward 1")
+                        state = State(tuple(target.tell_all(target.names.lines())))
+                        look = target.look()
+                        for goal, known in zip(read, goals):
+                            self.assertEqual(known.holds(state), goal.is_so(look), known.words)
+                for goal, known in zip(read, goals):
+                    again = goal_words.read(goal.text.split(), scope)
+                    self.assertEqual(goal, again, known.words)
+                    self.assertEqual(goal.text, goal.asked(target.names.tasks))
+
+    def test_a_text_in_lines(self) -> None:
+        scope = Scope.of(source("logger.fw", LINES.encode()))
+        for goal, text in (
+            ("at logger again", "at logger 0"),
+            ("pc logger = again", "pc logger = 0"),
+            ("bits flags & STOP|FULL = FULL", "bits flags & 3 = 2"),
+            ("bits flags & 0x3 > STOP", "bits flags & 3 > 1"),
+            ("sleeps logger or stuck", "sleeps logger or stuck"),
+        ):
+            with self.subTest(goal):
+                self.assertEqual(text, goal_words.read(goal.split(), scope).text)
+        stuck = goal_words.read(["stuck"], scope).asked(scope.names.tasks)
+        over = "(ended logger or failed logger) and (ended button or failed button)"
+        self.assertEqual(f"(asleep or {over})", stuck)
+        for goal in ("at button again", "bits flags & STOPP = 1", "at logger nowhere"):
+            with self.subTest(goal), self.assertRaises(NoGoal):
+                goal_words.read(goal.split(), scope)
+
+
+if __name__ == "__main__":
+    unittest.main()

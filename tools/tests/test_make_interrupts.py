@@ -1,0 +1,314 @@
+"""Interrupts that a text in lines names: read, refused, searched with, and made at the prompt."""
+import os
+import pathlib
+import subprocess
+import sys
+import tempfile
+import unittest
+from typing import List, Tuple
+
+from rdbg.application import ANY, Interrupt
+from rdbg.failure import Failure
+from rdbg.files.source import load, source
+from rdbg.reaching.handlers import handlers
+from tests import shell_talk
+from tests.paths import COMPANION
+from tests.test_make_faults import faults
+from tests.test_make_several import application
+
+TEXT = """cores 2
+notes 2
+const BIT 1 << 1
+queue rx length 2 item 1
+semaphore done
+mutex lock
+interrupt ping apart 10 times 3: notify dsp 0 1 set
+interrupt pong after ping times any: notify(dsp, 1, BIT|1, bits); send rx "A" 0x42; give done
+task dsp priority 2
+loop
+    nwait 0 0 0 portMAX_DELAY
+    add r2 1
+end
+"""
+
+
+class Reads(unittest.TestCase):
+    """What a text says of them."""
+
+    def test_what_they_are(self) -> None:
+        found = application(TEXT)
+        self.assertEqual(2, found.profile)
+        self.assertEqual(
+            (
+                Interrupt("ping", ("notify dsp 0 1 set",), 3, None, 10),
+                Interrupt(
+                    "pong", ("notify dsp 1 3 bits", "send rx 4142", "send done 00"), ANY, "ping", 0
+                ),
+            ),
+            found.interrupts,
+        )
+        self.assertEqual(("isr notify dsp 0 1 set",), found.interrupts[0].lines())
+
+    def test_one_of_several_tasks(self) -> None:
+        text = "cores 1\ninterrupt go: notify w[1] 0 0 inc\ntask w[2] priority 1\nend\n"
+        self.assertEqual(("notify w1 0 0 inc",), application(text).interrupts[0].calls)
+
+    def test_its_entry_is_used(self) -> None:
+        text = "cores 1\nnotes 2\ninterrupt go: notify t 1 0 inc\ntask t priority 1\n"
+        code = application(text + "if r1 & 1 goto x\nx: end\n").tasks[0].code
+        self.assertEqual("notify t 0 r1 set", code[1].text)
+
+    def test_a_label_of_that_name(self) -> None:
+        self.assertEqual([], faults(b"cores 1\ntask t priority 1\ninterrupt: jump interrupt\n"))
+
+    LINES = {
+        "ping": "interrupt NAME after NAME apart N times N: CALL; CALL: there is no colon, and no"
+        " call behind it",
+        "ping:": "interrupt NAME after NAME apart N times N: CALL; CALL: a call is missing:"
+        " send Q HEX, notify K I N ACTION, or give NAME",
+        "ping soon: send rx 41": "soon is no key: interrupt NAME after NAME apart N times N: CALL;"
+        " CALL",
+        "ping times 0: send rx 41": "times is 0, and is to be 1 to 255, or any",
+        "ping apart 256: send rx 41": "apart is 256, and is to be 0 to 255",
+        "ping times: send rx 41": "interrupt NAME after NAME apart N times N: CALL; CALL:"
+        " nothing stands behind times",
+        "ping after pang: send rx 41": "no interrupt pang stands above",
+        "ping: notify dps 0 1 set": "task dps isn't there; dsp is near",
+        "ping: send xr 41": "queue xr isn't there",
+        "ping: notify dsp 2 1 set": "there is no entry 2: each task has 2 entries, counted from 0",
+        "ping: notify dsp 0 1 sett": "sett is no action: none, bits, inc, set or setif",
+        "ping: notify dsp 0 1": "notify K I N ACTION lacks its action",
+        "ping: send rx": "send Q HEX lacks its bytes",
+        "ping: sned rx 41": "sned is no call of an interrupt; send is near: send Q HEX,"
+        " notify K I N ACTION, or give NAME",
+        "ping: vTaskNotifyGiveFromISR(dsp, &woken)": "vTaskNotifyGiveFromISR is written"
+        " notify K 0 0 inc",
+        "ping: xSemaphoreGiveFromISR(done)": "xSemaphoreGiveFromISR is written give NAME",
+        "ping: give dome": "give NAME: dome is no semaphore",
+        "ping: give lock": "lock has an item while it is taken, and no interrupt takes one out: let a"
+        " task of the highest priority play it, with wait for its time (docs/FROM_C.md)",
+    }
+    ROUND = ("recv rx 0", "swrite s 0", "gset g 1", "xStreamBufferSendFromISR(s)")
+
+    def told(self, line: str) -> List[str]:
+        """The faults of a text with another first interrupt."""
+        text = TEXT.replace(TEXT.split("\n")[6], f"interrupt {line}")
+        return [it.split(": ", 1)[1] for it in faults(text.encode())]
+
+    def test_what_is_refused(self) -> None:
+        for line, said in self.LINES.items():
+            with self.subTest(line):
+                self.assertEqual([said], self.told(line))
+        for call in self.ROUND:
+            name = call.split(" ")[0].split("(")[0]
+            said = (
+                f"no interrupt makes {name} here, which makes send Q HEX, notify K I N ACTION, or"
+            )
+            said += " give NAME: let a task of the highest priority play it, with wait for its time"
+            self.assertEqual([f"{said} (docs/FROM_C.md)"], self.told(f"ping: {call}"))
+
+    def test_names_and_a_profile(self) -> None:
+        again = TEXT + "interrupt ping: send rx 41\n"
+        self.assertEqual(["14:11: interrupt ping stands in line 7 already"], faults(again.encode()))
+        found = faults((TEXT + "profile 1\n").encode())
+        self.assertEqual(["14:9: profile 1 has no interrupts: profile 2 has"], found)
+        found = self.told("ping times any: send rx 41")
+        said = (
+            "ping comes any number of times: what comes after it needs times N in the line of ping"
+        )
+        self.assertEqual([said], found)
+
+
+class Searched(unittest.TestCase):
+    """`rdbg reach` takes them by name."""
+
+    def setUp(self) -> None:
+        folder = tempfile.TemporaryDirectory()
+        self.addCleanup(folder.cleanup)
+        self.path = os.path.join(folder.name, "x.fw")
+        pathlib.Path(self.path).write_text(TEXT)
+
+    def test_the_options_of_each(self) -> None:
+        found = handlers(["ping", "send rx 41", "pong"], application(TEXT))
+        self.assertEqual(
+            [
+                ["--isr", "notify dsp 0 1 set", "--times", "3", "--apart", "10"],
+                ["--isr", "send rx 41"],
+                ["--isr", "notify dsp 1 3 bits; send rx 4142; send done 00"]
+                + ["--times", "3", "--after", "0"],
+            ],
+            [it.options() for it in found],
+        )
+        self.assertEqual("isr notify dsp 0 1 set times 3 apart 10", found[0].line())
+
+    def test_what_is_refused(self) -> None:
+        for texts, said in (
+            (["pong"], "--isr pong: it comes after ping, so --isr ping stands before it"),
+            (["pign"], "--isr: the text names no interrupt pign; ping is near"),
+            (["ping", "ping"], "--isr ping stands twice; how often it comes its line says"),
+        ):
+            with self.assertRaises(Failure) as caught:
+                handlers(texts, application(TEXT))
+            self.assertEqual(said, str(caught.exception))
+
+    def reach(self, *words: str) -> Tuple[int, List[str], List[str]]:
+        """The status of a search, and the lines of its two outputs."""
+        done = subprocess.run(
+            [sys.executable, "-B", str(COMPANION), "reach", self.path, *words],
+            stdin=subprocess.PIPE,
+            stdout=subprocess.PIPE,
+            stderr=subprocess.PIPE,
+            timeout=100,
+        )
+        return done.returncode, done.stdout.decode().split("\n"), done.stderr.decode().split("\n")
+
+    def test_a_text_in_lines_is_searched_with_them(self) -> None:
+        status, said, _ = self.reach("reg dsp 2 = 3", "--isr", "ping", "--isr=pong")
+        self.assertEqual((1, "found"), (status, said[0]))
+        self.assertEqual(3, said.count("isr notify dsp 0 1 set"))
+        self.assertGreaterEqual(said.count("tick"), 20)
+        status, said, _ = self.reach("reg dsp 2 = 4", "--isr", "ping")
+        self.assertEqual((0, "never"), (status, said[0]))
+        self.assertEqual("never", self.reach("reg dsp 2 = 1")[1][0])
+
+    def test_faults_and_consts(self) -> None:
+        status, _, errors = self.reach("stuck", "-D", "BITT=3")
+        self.assertEqual(
+            (2, "rdbg reach: -D BITT: no line has a const BITT; BIT is near"), (status, errors[0])
+        )
+        self.assertEqual(0, self.reach("reg dsp 2 = 1", "-DBIT=8")[0])
+        pathlib.Path(self.path).write_text(TEXT.replace("nwait", "nwiat"))
+        status, _, errors = self.reach("stuck")
+        self.assertEqual(2, status)
+        self.assertIn("nwiat", errors[0])
+
+    def test_as_an_engine(self) -> None:
+        words = [sys.executable, "-B", str(COMPANION), "reach", self.path, "--isr", "ping"]
+        done = subprocess.run(
+            words, input=b"reach reg dsp 2 = 1\n", stdout=subprocess.PIPE, timeout=100
+        )
+        self.assertEqual((0, b"found"), (done.returncode, done.stdout.split(b"\n")[0]))
+
+
+class AtThePrompt(unittest.TestCase):
+    """`isr NAME`."""
+
+    def said(self, *lines: str) -> Tuple[List[str], List[str]]:
+        """What a prompt says."""
+        with tempfile.TemporaryDirectory() as folder:
+            path = pathlib.Path(folder) / "x.fw"
+            path.write_text(TEXT)
+            with shell_talk.opened(load(str(path))) as shell:
+                return shell_talk.both(shell, *lines)
+
+    def test_all_calls_are_made(self) -> None:
+        said, _ = self.said("isr pong", "show queue rx", "show moves")
+        self.assertEqual(["ok at 1 isr 1", "ok at 2 isr 1", "ok at 3 isr 1"], said[:3])
+        self.assertEqual("queue rx 1/2 items 41 recv - send - set -", said[3])
+
+    def test_another_word_is_rdbgs(self) -> None:
+        said, hints = self.said("isr pang", "isr")
+        self.assertEqual((["no Syntax"] * 2, 2), (said, len(hints)))
+
+
+WAITS = """cores 1
+notes 2
+const LONG 6
+task t[2] priority 1
+    wait 3..LONG
+    if r0 & 1 goto out
+    add r2 1
+out:
+    wait(2);
+    end
+"""
+
+
+class Waits(unittest.TestCase):
+    """`wait N` and `wait M..N`."""
+
+    def test_what_they_become(self) -> None:
+        found = application(WAITS)
+        code = [it.text for it in found.tasks[1].code]
+        self.assertEqual(["recv never 3", "take 1 clear 3", "move r7 r0"], code[:3])
+        self.assertEqual(["notify t1 0 r0 set", "recv never 2"], [code[3], code[-2]])
+        self.assertEqual([("never", 1, 1)], [(it.name, it.length, it.item) for it in found.queues])
+        self.assertEqual(2, found.profile)
+        calls = [(it.name, it.calls, it.times) for it in found.interrupts]
+        wanted = [(f"t{at}_wait", (f"notify t{at} 1 1 set",), ANY) for at in range(2)]
+        self.assertEqual(wanted, calls)
+
+    def test_others(self) -> None:
+        def code(line: str) -> List[str]:
+            found = application(f"cores 1\nconst A 2\ntask t priority 1\n{line}\nend\n")
+            return [it.text for it in found.tasks[0].code[:-1]]
+
+        self.assertEqual(["take 0 clear 5"], code("wait 0..5"))
+        self.assertEqual(["recv never 2", "take 0 clear 1"], code("wait A..3"))
+        self.assertEqual(["recv never 1", "take 0 clear max"], code("wait 1..max"))
+        self.assertEqual(["recv never max"], code("wait portMAX_DELAY"))
+        self.assertEqual(["recv never r3"], code("wait r3"))
+        self.assertEqual(1, application("cores 1\ntask t priority 1\nwait 3\nend\n").profile)
+
+    def test_a_queue_that_is_there_already(self) -> None:
+        text = "cores 1\nqueue never length 2 item 3\nqueue q length 1 item 1\ntask t priority 1\nwait 3\n"
+        self.assertEqual(["never", "q"], [it.name for it in application(text + "end\n").queues])
+        found = faults((text + "send never 0\nend\n").encode())
+        said = "queue never is what wait receives from, and nothing may fill it"
+        self.assertEqual([f"6:1: {said}"], found)
+        found = faults((text + "end\ninterrupt x: send never 41\n").encode())
+        self.assertEqual([f"7:14: {said}"], found)
+
+    REFUSED = {
+        "wait": "wait N, or wait M..N, in ticks: there is no number",
+        "wait 3..": "wait N, or wait M..N, in ticks: a number is missing at 3..",
+        "wait ..3": "wait N, or wait M..N, in ticks: a number is missing at ..3",
+        "wait 5..5": "5..5 has no end to choose: the second number is the larger one",
+        "wait 5 6": "wait N, or wait M..N, in ticks: 6 is too much",
+        "wait 1..2 6": "wait N, or wait M..N, in ticks: 6 is too much",
+        "wait 1..B": "B is no number and no const",
+        "vTaskDelay(5)": "vTaskDelay is written wait T",
+    }
+
+    def test_refused(self) -> None:
+        for line, said in self.REFUSED.items():
+            with self.subTest(line):
+                found = faults(f"cores 1\ntask t priority 1\n{line}\nend\n".encode())
+                self.assertEqual([said], [it.split(": ", 1)[1] for it in found])
+        text = "cores 1\ntask t priority 1\nwait 1..3\nif r1 & 1 goto x\nx: end\n"
+        self.assertIn("needs a notification entry", faults(text.encode())[0])
+        text = "cores 1\nprofile 1\ntask t priority 1\nwait 1..3\nend\n"
+        self.assertIn("profile 1 has no interrupts", faults(text.encode())[0])
+
+    def test_a_search_chooses_its_end(self) -> None:
+        text = "cores 1\ntask t priority 1\nwait 3..6\nend\n"
+        with tempfile.TemporaryDirectory() as folder:
+            path = pathlib.Path(folder) / "x.fw"
+            path.write_text(text)
+            words = [sys.executable, "-B", str(COMPANION), "reach", str(path), "--pace", "2.."]
+            for tick, wanted in ((2, "never"), (3, "found"), (5, "found"), (6, "found")):
+                goal = f"ended t and tick = {tick}"
+                done = subprocess.run([*words, goal, "--moves", "40"], stdout=subprocess.PIPE)
+                said = done.stdout.decode().split("\n")[0]
+                self.assertEqual("not within 40 moves" if wanted == "never" else wanted, said, tick)
+
+    def test_what_check_says(self) -> None:
+        found = source("x.fw", WAITS.encode())
+        ends = "the interrupts t0_wait to t1_wait may end it, which reach and hunt let come"
+        said = f"5:5: note: 4 moves, 3 where its end has come before; {ends}"
+        self.assertEqual(said, str(found.remarks[0]))
+
+    def test_at_the_prompt(self) -> None:
+        with tempfile.TemporaryDirectory() as folder:
+            path = pathlib.Path(folder) / "x.fw"
+            path.write_text(WAITS)
+            with shell_talk.opened(load(str(path))) as shell:
+                said = shell_talk.said(
+                    shell, "list t0", "until pc t0 = 1", "isr t0_wait", "step t0"
+                )
+                self.assertIn("#    5  ->  0-1  wait 3..LONG", said)
+                self.assertEqual(1, shell.look().tasks["t0"].registers[0])
+
+
+if __name__ == "__main__":
+    unittest.main()

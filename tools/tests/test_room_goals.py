@@ -1,0 +1,52 @@
+"""Goals at a room's page: what can still come from where the target stands, and what is no goal."""
+import unittest
+from typing import List
+
+from rdbg.files.source import load
+from rdbg.rooms.room import Room
+from rdbg.rooms.web_pages import Pages
+from tests.paths import EXAMPLES
+from tests.rooms import LOST
+from tests.searches import real
+
+
+class Goals(unittest.TestCase):
+    """Lines of a page."""
+
+    def said(self, file: str, *lines: str) -> List[str]:
+        """The replies to lines that somebody types at a page."""
+        room = Room.open(load(file), sessions=4)
+        try:
+            pages = Pages(room)
+            page = pages.open("ada")
+            try:
+                return [page.ask(line) for line in lines]
+            finally:
+                pages.close(page)
+        finally:
+            room.close()
+
+    @unittest.skipUnless(real(), "no program that searches")
+    def test_what_can_still_come(self) -> None:
+        lines = ("reach asleep", "forward 3", "trim 1", "reach failed", "reach reg poller 0 = 1")
+        meeting, *_ = self.said(str(EXAMPLES / "meeting.json"), "reach asleep")
+        self.assertRegex(meeting, "^found: step 0; .*step [01]$")
+        first, _, _, never, found = self.said(LOST, *lines)
+        self.assertEqual(("never", "never"), (first, never))
+        self.assertRegex(found, "^found: ")
+
+    def test_what_is_no_goal(self) -> None:
+        for line, why in (
+            ("reach asleap", "no: word 1, 'asleap': a claim, .*; `asleep` would be right"),
+            ("reach sleeps worker", "no: the search through orders has no word for `sleeps`"),
+            ("until count jobs>0 9", "no Syntax: word 2, .jobs>0.: .*; `count jobs > 0` would be"),
+            ("back until count jobs == 0", "no Syntax: word 3, '==': .*; `count jobs = 0` would"),
+            ("until asleep 9", "no Syntax: a line of rdbg's has one condition"),
+            ("fly", "no Syntax$"),
+        ):
+            with self.subTest(line):
+                self.assertRegex(self.said(LOST, line)[0], f"^{why}")
+
+
+if __name__ == "__main__":
+    unittest.main()

@@ -1,0 +1,98 @@
+"""`reach` and `again`: what can still come from where the prompt is, and what a mend has changed."""
+import pathlib
+import shutil
+import tempfile
+import unittest
+
+from tests import searches
+from tests.paths import EXAMPLES
+from tests.shell_talk import both, example, file, opened, said
+
+
+class Reach(unittest.TestCase):
+    """`reach GOAL`."""
+
+    def test_it_is_asked_from_here(self) -> None:
+        with example("lost_item") as shell:
+            answers = said(shell, "reach reg poller 0 = 1")
+            self.assertEqual(["# found", *["#   step 1"] * 4], answers)
+            # (the place stays; and where the worker has the item no order gives it to the poller)
+            self.assertEqual(["moves 0 undone 0 kept 0"], said(shell, "show moves"))
+            answers = said(shell, "forward 7", "reach reg poller 0 = 1")
+            self.assertEqual(["ok at 7", "# never"], answers)
+
+    def test_goals_of_the_search(self) -> None:
+        with example("meeting") as shell:
+            self.assertEqual("# found", said(shell, "reach stuck")[0])
+            self.assertEqual(said(shell, "reach stuck"), said(shell, "reach asleep"))
+            self.assertEqual("# found", said(shell, "reach waits left group there")[0])
+            self.assertEqual("# never", said(shell, "reach failed or reg left 7 = 1")[0])
+
+    def test_what_cant_be_asked(self) -> None:
+        with example("lost_item") as shell:
+            self.assertIn("`reach asleep`", said(shell, "reach")[0])
+            self.assertIn("word 1, 'stuk'", said(shell, "reach stuk")[0])
+            with searches.program("", end=searches.KILLED):
+                self.assertIn("was ended by SIGKILL", said(shell, "reach stuck")[0])
+        with opened(None) as shell:
+            self.assertIn("`rdbg sh FILE`", said(shell, "reach stuck")[0])
+
+    def test_after_an_edit(self) -> None:
+        # (an edit belongs to where it is asked from)
+        with example("early_count_mended") as shell:
+            self.assertEqual("# never", said(shell, "reach stuck")[0])
+            answers = said(shell, "forward 2", "poke note worker 0 1", "reach stuck")
+            self.assertIn(answers[2], ("# never", "# found"))
+            self.assertNotIn("refused", " ".join(answers))
+
+
+class Again(unittest.TestCase):
+    """`again`, once the file has another text."""
+
+    def setUp(self) -> None:
+        folder = tempfile.TemporaryDirectory()
+        self.addCleanup(folder.cleanup)
+        self.file = pathlib.Path(folder.name) / "meeting.json"
+        shutil.copy(EXAMPLES / "meeting.json", self.file)
+
+    def mend(self, name: str = "meeting_mended") -> None:
+        """The file has the text of another example."""
+        shutil.copy(EXAMPLES / f"{name}.json", self.file)
+
+    def test_a_mend(self) -> None:
+        with file(self.file) as shell:
+            self.assertEqual("# found", said(shell, "reach stuck")[0])
+            self.mend()
+            answers = said(shell, "again")
+            self.assertEqual("# all 0 moves are the same", answers[0][:26])
+            self.assertEqual("# stuck, from boot on: it was found, and is never", answers[1])
+            self.assertEqual("# never", answers[2])
+            # (the next time it is held against this)
+            self.mend("meeting")
+            answers = said(shell, "again")
+            self.assertEqual("# stuck, from boot on: it was never, and is found", answers[1])
+
+    def test_from_a_place(self) -> None:
+        with file(self.file) as shell:
+            said(shell, "step 1", "reach stuck", "forward 3")
+            answers = said(shell, "again")
+            self.assertIn("# stuck, from 1 on: it was found, and is found", answers)
+            self.mend()
+            # (the first moves of both are others)
+            answers = said(shell, "again")
+            self.assertIn("# stuck, from boot on: it was found, and is never", answers)
+
+    def test_what_cant_be(self) -> None:
+        with file(self.file) as shell:
+            self.assertIn("what `reach GOAL` asked last", said(shell, "again")[0])
+            said(shell, "reach stuck")
+            self.assertIn("what `reach GOAL` asked last", said(shell, "again stuck")[0])
+            self.file.write_text("{}")
+            answers, _ = both(shell, "again")
+            self.assertIn("the target stays as it is", " ".join(answers))
+            self.mend("lost_item")
+            self.assertIn("it was found, and is never", " ".join(said(shell, "again")))
+
+
+if __name__ == "__main__":
+    unittest.main()
