@@ -16,6 +16,7 @@ from rdbg.failure import Failure
 from rdbg.rooms import web, web_guard, web_pages
 from rdbg.rooms.room import Room
 from rdbg.rooms.web import Served
+from rdbg.rooms.web_follower import Follower
 from rdbg.files.source import load
 from tests.paths import COMPANION
 from tests.rooms import LOST, free_port
@@ -42,7 +43,7 @@ class Raw:
     def __init__(self, here: Served) -> None:
         self.connection = socket.create_connection((LOCAL, here.port))
         self.connection.settimeout(PATIENCE)
-        self._read = b""
+        self._read, self._end = b"", time.monotonic() + PATIENCE
 
     def __enter__(self) -> "Raw":
         return self
@@ -66,24 +67,29 @@ class Raw:
         return self._read
 
     def event(self) -> Tuple[str, Any]:
-        """The next event that comes."""
-        while b"\n\n" not in self._read:
-            more = self.connection.recv(65_536)
-            if not more:
-                raise AssertionError(f"no event, but the end behind {self._read!r}")
-            self._read += more
-        text, self._read = self._read.split(b"\n\n", 1)
-        lines = text.decode().split("\n")
-        if not lines[-1].startswith("data: "):
-            return self.event()
-        return lines[-2][len("event: ") :], json.loads(lines[-1][len("data: ") :])
+        """The next event that comes; that the room still tells something is none."""
+        while True:
+            while b"\n\n" not in self._read:
+                more = self.connection.recv(65_536)
+                if not more:
+                    raise AssertionError(f"no event, but the end behind {self._read!r}")
+                self._read += more
+            text, self._read = self._read.split(b"\n\n", 1)
+            lines = text.decode().split("\n")
+            if lines[-1].startswith("data: "):
+                return lines[-2][len("event: ") :], json.loads(lines[-1][len("data: ") :])
+            if time.monotonic() > self._end:
+                raise AssertionError("what was waited for doesn't come")
 
-    def expect(self, kind: str, text: str = "") -> Any:
-        """The next event of a kind that has a text; those before are dropped."""
+    def expect(self, kind: str, *texts: str) -> Any:
+        """The next event of a kind that has a text, or one of several; those before are dropped."""
+        self._end = time.monotonic() + PATIENCE
         while True:
             found, values = self.event()
-            if found == kind and text in str(values):
+            if found == kind and (not texts or any(it in str(values) for it in texts)):
                 return values
+            if time.monotonic() > self._end:
+                raise AssertionError(f"{kind} {texts} doesn't come")
 
 
 def asked(here: Served, method: str, path: str, body: Optional[str], *heads: str) -> bytes:
@@ -519,15 +525,37 @@ class Hostile(unittest.TestCase):
                 slow.connection.setsockopt(socket.SOL_SOCKET, socket.SO_RCVBUF, 2_048)
                 slow.send(f"GET /{here.token}/events HTTP/1.1\r\n{host(here)}\r\n\r\n".encode())
                 left.expect("notice", "web comes")
-                text = "x" * 900
-                for _ in range(6_000):
-                    here.room.tell(text)
+                end, told = time.monotonic() + PATIENCE, ""
+                # (the system takes some megabytes that it doesn't read)
+                while "web is away" not in told and time.monotonic() < end:
+                    for _ in range(100):
+                        here.room.tell("x" * 900)
+                    here.room.tell("all told")
+                    told = left.expect("notice", "all told", "web is away")
+                self.assertIn("web is away", told)
                 self.assertEqual(
                     {"reply": "ok at 3"}, said(here, "line", page=key, line="forward 3")
                 )
-                left.expect("notice", "notices before these weren't kept")
                 left.expect("notice", "forward 3 -> ok at 3")
-                left.expect("notice", "web is away")
+
+    def test_notices_that_are_too_many(self) -> None:
+        room = Room.open(load(LOST), sessions=4)
+        pages = web_pages.Pages(room)
+        followed = Follower(room, pages.tell)
+        try:
+            late = pages.open("late")
+            late.take(room, followed)
+            for number in range(web_pages.MOST_NOTICES + 5):
+                late.hear(f"# {number}")
+            notices = [text for kind, text in late.take(room, followed) if kind == "notice"]
+            self.assertEqual(1 + web_pages.MOST_NOTICES, len(notices))
+            self.assertIn("5 notices before these weren't kept", notices[0])
+            self.assertEqual(['"# 5"', '"# 6"'], notices[1:3])
+            pages.close(late)
+        finally:
+            audits = room.close()
+            followed.close()
+        self.assertTrue(all(it.is_good for it in audits))
 
     def test_lines_side_by_side(self) -> None:
         with served(4) as here, page(here) as (raw, key):
