@@ -78,10 +78,17 @@ class Move:
         done = self.written or self.instruction or ""
         return done if self.answer is None else f"{done} -> {self.answer}"
 
+    @property
+    def name(self) -> str:
+        """Who did what, by which it is called wherever it is shown; of a tick, its kind."""
+        if self.kind == "tick":
+            return self.kind
+        words = (self.task, self.pc, self.does)
+        return " ".join(str(word) for word in words if word not in (None, ""))
+
     def text(self) -> str:
         """It in one line, without its place and core."""
-        words = ["tick", self.tick] if self.kind == "tick" else [self.task, self.pc, self.does]
-        head = " ".join(str(word) for word in words if word not in (None, ""))
+        head = f"{self.name} {self.tick}" if self.kind == "tick" else self.name
         return ", ".join([head, *(effect.text(self.task) for effect in self.effects)])
 
     def row(self, width: int = 0) -> str:

@@ -72,7 +72,7 @@ class Companions(unittest.TestCase):
         *_, again, summary = self.run_it().splitlines()
         self.assertEqual(again, "ci/companions: tried again: test_second (2 tries)")
         # (the module's layout and types are none of ours, and are looked at once)
-        self.assertEqual(summary, "1 passed, 2 failed")
+        self.assertEqual(summary, "1 passed, 3 failed")
 
     def test_ignored_signals(self) -> None:
         self.write_module("interrupted", INTERRUPTED)

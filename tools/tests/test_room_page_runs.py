@@ -36,9 +36,7 @@ class Runs(OnPage):
             self.assertIn("20 moves taken back", self.browser.text("#about"))
             self.browser.key("Home")
             self.browser.key("e")
-            self.assertEqual(
-                "6: edit poke reg poller 3 7", self.browser.text("#readout").split(" (")[0]
-            )
+            self.assertEqual("6: poke reg poller 3 7", self.browser.text("#readout").split(" (")[0])
             self.browser.key("e")
             self.assertIn("then trim 60", self.browser.text("#readout"))
             self.check_places(room, 90, 96)

@@ -73,7 +73,7 @@ class Runs(Shown):
         self.browser.settle()
         self.assertIn("there is no way back to here", self.browser.text("#way-note"))
         self.browser.key("e")
-        self.assertEqual("8: edit poke reg poller 3 7, then trim 1", self.browser.text("#readout"))
+        self.assertEqual("8: poke reg poller 3 7, then trim 1", self.browser.text("#readout"))
         self.assertIn("poke reg poller 3 7", page.read_text())
 
     def test_interrupts(self) -> None:

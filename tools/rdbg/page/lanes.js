@@ -2,33 +2,33 @@
 
 const HEIGHTS = { core: 38, hand: 18, task: 20, level: 26, waiting: 17, head: 15 };
 
-function lane(kind, label, more) {
+function newLane(kind, label, more) {
   return { kind, label, height: HEIGHTS[kind], ...more };
 }
 
 // All lanes that there can be. Those without anything to show are left out where they are laid out.
 function lanesOf(run) {
-  const lanes = [lane("head", "cores")];
+  const lanes = [newLane("head", "cores")];
   const count = run.value(run.cores.running, run.first).length;
   for (let core = 0; core < count; core++) {
-    lanes.push(lane("core", `core ${core}`, { core, segments: coreSegments(run, core) }));
+    lanes.push(newLane("core", `core ${core}`, { core, segments: coreSegments(run, core) }));
   }
-  lanes.push(lane("hand", "by hand", { marks: [] }));
-  lanes.push(lane("head", "tasks"));
+  lanes.push(newLane("hand", "by hand", { marks: [] }));
+  lanes.push(newLane("head", "tasks"));
   run.tasks.forEach((task, at) => {
-    lanes.push(lane("task", task.name, { task: at, segments: taskSegments(run, at) }));
+    lanes.push(newLane("task", task.name, { task: at, segments: taskSegments(run, at) }));
   });
-  if (run.objects.length) lanes.push(lane("head", "objects"));
+  if (run.objects.length) lanes.push(newLane("head", "objects"));
   for (const object of run.objects) lanes.push(...objectLanes(run, object));
   return lanes;
 }
 
 // An object's level, and below it each of its lists.
 function objectLanes(run, object) {
-  const lanes = [lane("level", object.name, { segments: levelSegments(run, object) })];
+  const lanes = [newLane("level", object.name, { segments: levelSegments(run, object) })];
   for (const [name, words] of WAITING[object.kind]) {
     const segments = waitingSegments(run, object, name);
-    lanes.push(lane("waiting", `  ${words}`, { segments }));
+    lanes.push(newLane("waiting", `  ${words}`, { segments }));
   }
   return lanes;
 }

@@ -141,10 +141,10 @@ class Recorder:
         return {"name": name, "priority": priority, "code": code, "tracks": flat(tracks)}
 
     def _move(self, move: Move) -> List[object]:
-        """A move: its kind, core, task, instruction by number, what was done, and effects."""
+        """A move: its kind, core, task, instruction by number, what was done, effects, name."""
         number = None if move.task is None else list(self._tasks).index(move.task)
         effects = [self._effect(it, move.task) for it in move.effects]
-        return [KINDS[move.kind], move.core, number, move.pc, move.does, effects]
+        return [KINDS[move.kind], move.core, number, move.pc, move.does, effects, move.name]
 
     def _effect(self, effect: Effect, actor: Optional[str]) -> List[object]:
         """An effect in words, and whom it woke, by number."""

@@ -101,8 +101,8 @@ class Run {
   move(place) {
     if (place <= this.first || place > this.last) return null;
     const it = this.listed[this.numbers[place - this.first - 1]];
-    const [kind, core, task, pc, does, effects] = it;
-    return { place, kind, core, task, pc, does, effects };
+    const [kind, core, task, pc, does, effects, name] = it;
+    return { place, kind, core, task, pc, does, effects, name };
   }
 
   // An instruction as it is written, and the line of the file where it stands; none where that

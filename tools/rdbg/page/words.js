@@ -116,10 +116,10 @@ function moveCells(run, move) {
 
 // A move in a sentence.
 function moveSentence(run, move) {
-  const [place, tick, core, who, pc, does, effects] = moveCells(run, move);
-  const byHand = move.kind === INTERRUPT ? does : `${who} ${does || tick}`;
-  const head = move.kind === STEP ? `core ${core}: ${who} ${pc} ${does}` : byHand;
-  return `${place}: ${[head.trim(), effects].filter(Boolean).join(", ")}`;
+  const [place, tick, core, , , , effects] = moveCells(run, move);
+  const seat = core && `core ${core}: `;
+  const name = move.kind === TICK ? `${move.name} ${tick}` : move.name;
+  return `${place}: ${seat}${[name, effects].filter(Boolean).join(", ")}`;
 }
 
 // The replies of rdbg to views of all there is at a place, made of what the page has.
