@@ -4,6 +4,7 @@ from typing import Iterator, List, Optional, Sequence, Tuple, Union
 
 from rdbg import kinds
 from rdbg.tree import Node, Number, Object, Part, Place, objects
+from rdbg.wording import counted
 
 
 @dataclasses.dataclass(frozen=True)
@@ -153,6 +154,16 @@ class Application:
         """All that there are of a kind."""
         found: Sequence[Named] = getattr(self, kind.key)
         return found
+
+    def instruction(self, task: str, pc: int) -> Optional[Instruction]:
+        """An instruction of a task, where both are there."""
+        found = self.task(task)
+        return found.code[pc] if found is not None and pc < len(found.code) else None
+
+    def counts(self) -> List[str]:
+        """How much there is of each kind, where there is any: `3 tasks`, `2 queues`."""
+        found = ((len(self.of(it)), it.noun) for it in (kinds.TASK, *kinds.OBJECTS))
+        return [counted(count, noun) for count, noun in found if count]
 
     def objects(self) -> Iterator[Tuple[str, str]]:
         """Each object's kind, as `show` names it, and its name, in the order of the file."""

@@ -12,13 +12,12 @@ import signal
 import socket
 import subprocess
 import tempfile
-from types import TracebackType
-from typing import IO, Callable, Deque, Iterable, Iterator, List, Optional, Sequence, Type, Union
+from typing import IO, Callable, Deque, Iterable, Iterator, List, Optional, Sequence, Union
 
 from rdbg import children, replies
 from rdbg.commands import MOST_BYTES
 from rdbg.ending import STARTED
-from rdbg.failure import Failure
+from rdbg.failure import Failure, trying
 from rdbg.shown import shown
 
 WRAPPER = pathlib.Path(__file__).resolve().parents[2] / "rdbg"
@@ -53,10 +52,8 @@ def built_by(wrapper: str, words: str, name: str = "rdbg") -> str:
     which it builds where it has to. Raises `Failure` where it can't."""
     asked = [wrapper, *words.split(), "--build", *([] if name == "rdbg" else [name])]
     pipe, none = subprocess.PIPE, subprocess.DEVNULL
-    try:
+    with trying(f"start {wrapper}"):
         process = children.start(asked, none, pipe, None, signal.SIGTERM, is_apart=False)
-    except OSError as error:
-        raise Failure(f"cannot start {wrapper}: {error.strerror}", 2) from None
     with process:
         path, _ = process.communicate()
     STARTED.pop(process)
@@ -186,13 +183,11 @@ class Session:
     def start(cls, words: Sequence[str]) -> "Session":
         """A program of its own. Ctrl-C at the terminal doesn't reach it. Raises `Failure` where it
         can't be started."""
-        errors = tempfile.TemporaryFile()
         pipe = subprocess.PIPE
-        try:
+        with trying(f"start {words[0]}"), contextlib.ExitStack() as ends:
+            errors = ends.enter_context(tempfile.TemporaryFile())
             process = children.start(words, pipe, pipe, errors)
-        except OSError as error:
-            errors.close()
-            raise Failure(f"cannot start {words[0]}: {error.strerror}", 2) from None
+            ends.pop_all()
         assert process.stdin is not None and process.stdout is not None
         session = cls(process.stdin, process.stdout, "rdbg")
         session._process, session._errors = process, errors
@@ -242,12 +237,7 @@ class Session:
     def __enter__(self) -> "Session":
         return self
 
-    def __exit__(
-        self,
-        kind: Optional[Type[BaseException]],
-        error: Optional[BaseException],
-        trace: Optional[TracebackType],
-    ) -> None:
+    def __exit__(self, *error: object) -> None:
         self.close()
 
     def tell(self, line: str) -> str:

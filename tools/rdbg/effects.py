@@ -8,7 +8,6 @@ from rdbg.looks import Look, Object, content_of, hexadecimal, holding, time_of
 
 # (instructions that don't call the kernel, so that r0 is no answer of theirs)
 LOCAL = ("set", "add", "move", "data", "pack", "unpack", "jump", "jumpz", "end")
-WRITES_REGISTER = ("set", "add", "move", "unpack")
 WRITES_SECOND = ("query", "nwait")
 NOTIFICATIONS = ("notify", "query", "take", "nwait", "nclear", "vclear")
 

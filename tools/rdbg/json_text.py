@@ -5,7 +5,7 @@ most 127 brackets within each other, numbers that a float holds, whole character
 """
 import bisect
 import re
-from typing import Any, List, NoReturn, Optional, Sequence, Tuple
+from typing import Callable, List, NoReturn, Optional, Sequence, Tuple, TypeVar
 
 from rdbg import json_causes as causes
 from rdbg.failure import Failure
@@ -24,6 +24,7 @@ NUMBER_GOES_ON = re.compile(r"[0-9A-Za-z_.+]")
 LITERAL = re.compile(r"(?:true|false|null)(?![0-9A-Za-z_])")
 LITERALS = {"true": True, "false": False, "null": None}
 ESCAPES = {"b": "\b", "f": "\f", "n": "\n", "r": "\r", "t": "\t", '"': '"', "\\": "\\", "/": "/"}
+Part = TypeVar("Part")
 
 
 class NotJson(Exception):
@@ -121,29 +122,28 @@ class Reader:
 
     def array(self, at: int) -> Tuple[Node, int]:
         """A list."""
-        items: List[Node] = []
-        end = self.after_space(at + 1)
-        comma: Optional[int] = None
-        while comma is not None or not self.closes(end, "]"):
-            if comma is not None and self.text[end : end + 1] in ("]", ","):
-                self.refuse(comma if self.text[end] == "]" else end, causes.COMMA)
-            item, end = self.value(end)
-            items.append(item)
-            end, comma = self.comma(end, "]")
-        return Node(tuple(items), self.place(at)), end + 1
+        items, end = self.parts(at, "]", self.value)
+        return Node(items, self.place(at)), end
 
     def object(self, at: int) -> Tuple[Node, int]:
         """An object."""
-        members: List[Member] = []
+        members, end = self.parts(at, "}", self.member)
+        return Node(Object(members), self.place(at)), end
+
+    def parts(
+        self, at: int, bracket: str, read: Callable[[int], Tuple[Part, int]]
+    ) -> Tuple[Tuple[Part, ...], int]:
+        """What stands between two brackets, with commas between."""
+        found: List[Part] = []
         end = self.after_space(at + 1)
         comma: Optional[int] = None
-        while comma is not None or not self.closes(end, "}"):
-            if comma is not None and self.text[end : end + 1] in ("}", ","):
-                self.refuse(comma if self.text[end] == "}" else end, causes.COMMA)
-            member, end = self.member(end)
-            members.append(member)
-            end, comma = self.comma(end, "}")
-        return Node(Object(tuple(members)), self.place(at)), end + 1
+        while comma is not None or not self.closes(end, bracket):
+            if comma is not None and self.text[end : end + 1] in (bracket, ","):
+                self.refuse(comma if self.text[end] == bracket else end, causes.COMMA)
+            part, end = read(end)
+            found.append(part)
+            end, comma = self.comma(end, bracket)
+        return tuple(found), end + 1
 
     def closes(self, at: int, bracket: str) -> bool:
         """Whether this bracket stands here."""

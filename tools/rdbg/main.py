@@ -1,6 +1,7 @@
 """Finds the companion that the first word names, and runs it."""
 import errno
 import importlib
+import io
 import os
 import sys
 from types import ModuleType
@@ -84,6 +85,9 @@ def run(words: Sequence[str]) -> int:
 
 def main(words: Sequence[str]) -> int:
     """Runs the companion, and answers its exit status. A failure is one line on standard error."""
+    for stream in (sys.stdout, sys.stderr):
+        if isinstance(stream, io.TextIOWrapper):
+            stream.reconfigure(errors="backslashreplace")
     try:
         status = run(words)
         sys.stdout.flush()

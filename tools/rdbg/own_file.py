@@ -5,7 +5,7 @@ import stat
 from typing import Iterator
 
 from rdbg import links, scratch
-from rdbg.failure import Failure
+from rdbg.failure import Failure, trying
 
 # Nobody else reads it. (A file that was there keeps the mode that it has.)
 MODE = 0o600
@@ -42,11 +42,9 @@ def kept(name: str, text: str, what: str) -> Iterator[str]:
     """The path of a new file of a name that has a text, in a folder of its own, as long as the block
     goes on. Raises `Failure` where it can't be written, which says what it was to have."""
     with contextlib.ExitStack() as ends:
-        try:
+        with trying(f"write {what}"):
             path = str(ends.enter_context(scratch.folder()) / name)
             number = opened(path, os.O_WRONLY | os.O_CREAT | os.O_EXCL)
             with os.fdopen(number, "w") as file:
                 file.write(text)
-        except OSError as error:
-            raise Failure(f"cannot write {what}: {error.strerror}", 2) from None
         yield path

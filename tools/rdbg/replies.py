@@ -334,11 +334,7 @@ FORMS: Tuple[Form, ...] = (
         Task,
         (name, or_nobody(number), number, phase, listed(number), content, listed(note)),
     ),
-    Form(
-        "cores TASKS ready TASKS tick N turn N",
-        Cores,
-        (running, NAMES, number, number),
-    ),
+    Form("cores TASKS ready TASKS tick N turn N", Cores, (running, NAMES, number, number)),
     Form("moves N undone N kept N", Moves, (number, number, number)),
     Form("wheel N", WheelHolder, (number,)),
     Form("wheel -", lambda: WheelHolder(None)),

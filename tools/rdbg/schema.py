@@ -4,6 +4,7 @@ import json
 from typing import Any, Dict, List
 
 from rdbg.instructions import FORMS, InstructionForm
+from rdbg.json_layout import DEFAULTS
 from rdbg.operands import NAME, PATTERN_OF
 from rdbg.shapes import FILE, Key, Shape
 
@@ -14,7 +15,6 @@ ABOUT = (
     " and that are there, a trigger level up to the size, jumps within the script, and a last"
     " instruction that is end or jump; `rdbg check FILE` says all of it."
 )
-DEFAULTS = {"notes": 1, "tick": 0}
 
 
 def described(text: str, freertos: str) -> str:

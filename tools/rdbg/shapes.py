@@ -122,11 +122,7 @@ MESSAGE = of_kind(
     ),
     freertos="xMessageBufferCreate",
 )
-GROUP = of_kind(
-    kinds.GROUP,
-    (),
-    freertos="xEventGroupCreate",
-)
+GROUP = of_kind(kinds.GROUP, (), freertos="xEventGroupCreate")
 TASK = of_kind(
     kinds.TASK,
     (

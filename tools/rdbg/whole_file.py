@@ -12,17 +12,12 @@ from typing import IO, Iterator, Optional, Tuple, Union
 
 from rdbg import links
 from rdbg.ending import ENDING, MADE
-from rdbg.failure import Failure
+from rdbg.failure import trying
 
 STANDARD_OUTPUT = "-"
 # Here files are other names of what is open already.
 OPEN_ALREADY = ("/dev/std", "/dev/fd/", "/proc/")
 NEW_MODE = 0o666  # (of which the user's own mask takes its part)
-
-
-def cannot(path: str, error: OSError) -> Failure:
-    """Why a file isn't written."""
-    return Failure(f"cannot write {path}: {error.strerror}", 2)
 
 
 def found(path: str) -> Optional[os.stat_result]:
@@ -64,7 +59,7 @@ def keep_owner(made: int, there: os.stat_result) -> None:
 
 def check(path: str) -> None:
     """Raises `Failure` where a file couldn't be written, as it is now. Nothing of it changes."""
-    try:
+    with trying(f"write {path}"):
         behind = links.behind(path)
         real = replaced(behind, found(behind))
         if real:
@@ -75,8 +70,6 @@ def check(path: str) -> None:
         elif os.path.isdir(behind) or not os.path.exists(behind):
             number = errno.EISDIR if os.path.isdir(behind) else errno.ENOENT
             raise OSError(number, os.strerror(number))
-    except OSError as error:
-        raise cannot(path, error) from None
 
 
 @contextlib.contextmanager
@@ -86,7 +79,7 @@ def written(path: str) -> Iterator[IO[str]]:
     if path == STANDARD_OUTPUT:
         yield sys.stdout
         return
-    try:
+    with trying(f"write {path}"):
         behind = links.behind(path)
         there = found(behind)
         real = replaced(behind, there)
@@ -95,18 +88,14 @@ def written(path: str) -> Iterator[IO[str]]:
             MADE.add(made)
         where: Union[int, str] = number if real else behind
         file = open(where, "w", encoding="utf-8", opener=links.no_link)
-    except OSError as error:
-        raise cannot(path, error) from None
     try:
         yield file
-        try:
+        with trying(f"write {path}"):
             if real and there is not None:
                 keep_owner(number, there)
             file.close()
             if real:
                 os.replace(made, real)
-        except OSError as error:
-            raise cannot(path, error) from None
     finally:
         with contextlib.suppress(OSError):
             file.close()

@@ -14,6 +14,11 @@ def quoted(text: str) -> str:
     return f'"{shown(text)}"'
 
 
+def counted(count: int, noun: str) -> str:
+    """`1 queue`, `2 queues`."""
+    return f"{count} {noun}{'' if count == 1 else 's'}"
+
+
 def with_article(noun: str) -> str:
     """`a queue`, `an event group`."""
     return f"an {noun}" if noun[0] in "aeiou" else f"a {noun}"

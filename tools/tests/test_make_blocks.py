@@ -10,7 +10,7 @@ from rdbg.application import Instruction
 from rdbg.client import Session
 from rdbg.files.source import Source, load, source
 from rdbg.firmware.branches import Tests as Reading
-from rdbg.firmware.numbers import Constants
+from rdbg.firmware.numbers import Constants, Kept
 from rdbg.firmware.tokens import Refusal, Scanner
 from rdbg.replies import Task, read
 from tests import shell_talk
@@ -270,11 +270,11 @@ class Refused(unittest.TestCase):
         self.assertEqual([f'task t, instruction 2: "if r2 & 7 goto out": {said} of them'], found)
 
     def test_hostile_tests_are_refused_and_no_more(self) -> None:
-        constants = Constants()
+        kept = Kept(Constants(), [])
         for text in ("(" * 500 + "r0", "!" * 500, "r0 = " + "(" * 300 + "1", "&", "= =", "( )"):
             tokens = next(Scanner(text, []).lines())
             with self.assertRaises(Refusal, msg=text[:20]):
-                Reading(tokens, constants, []).test()
+                Reading(tokens, kept).test()
 
 
 class Shown(unittest.TestCase):

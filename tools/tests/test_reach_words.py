@@ -55,11 +55,11 @@ class Programs(unittest.TestCase):
     def test_surprises(self) -> None:
         for line, asked in (
             ("a.json asleep", None),
-            ("a.json asleep --surprises 2", "2"),
-            ("--surprises=03 a.json asleep", "3"),
+            ("a.json asleep --surprises 2", 2),
+            ("--surprises=03 a.json asleep", 3),
             ("a.json -- --surprises 2", None),
-            ("a.json asleep --surprises", ""),
-            ("a.json asleep --exact --surprises 4", "4"),
+            ("a.json asleep --surprises", None),
+            ("a.json asleep --exact --surprises 4", 4),
         ):
             with self.subTest(line):
                 self.assertEqual(asked, read(line.split()).surprises())

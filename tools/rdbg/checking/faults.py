@@ -108,11 +108,8 @@ class Finder:
             self.fault(SHAPE, node.place, message)
             return
         if len(node.value) < key.least:
-            self.fault(
-                LIMIT,
-                node.place,
-                f"{key.name} is empty; an application has a {shape.noun} at least",
-            )
+            message = f"{key.name} is empty; an application has a {shape.noun} at least"
+            self.fault(LIMIT, node.place, message)
         if len(node.value) > key.most:
             message = f"there are {len(node.value)} {shape.plural}; {key.most} is the most"
             self.fault(LIMIT, node.value[key.most].place, message)
@@ -254,9 +251,8 @@ class Finder:
             return
         count = len(node.value)
         if not count:
-            self.fault(
-                LIMIT, node.place, f"{label}: code is empty; a script has an instruction at least"
-            )
+            message = f"{label}: code is empty; a script has an instruction at least"
+            self.fault(LIMIT, node.place, message)
         if count > key.most:
             message = f"{label}: code has {count} instructions; {key.most} is the most"
             self.fault(LIMIT, node.value[key.most].place, message)

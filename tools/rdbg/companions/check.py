@@ -1,19 +1,16 @@
 """Says of application files where they are wrong, and what would be right."""
 import argparse
-import io
 import re
 import sys
-from typing import List, Sequence
+from typing import Sequence
 
-from rdbg import kinds
-from rdbg.application import Application
 from rdbg.checking.faults import MOST_FAULTS
 from rdbg.checking.remarks import remarks_of
-from rdbg.wording import shown
+from rdbg.wording import counted, shown
 from rdbg.digits import number
 from rdbg.failure import Failure
 from rdbg.files.definitions import take_definitions
-from rdbg.files.source import Given, Source, load, source
+from rdbg.files.source import Given, Source, load, source, standard_input
 
 SUMMARY = "says of application files where they are wrong, and what would be right"
 STANDARD_INPUT = "-"
@@ -65,8 +62,6 @@ def parser() -> argparse.ArgumentParser:
 def main(words: Sequence[str]) -> int:
     """Checks the files; the status of the worst."""
     given = parser().parse_args(words)
-    if isinstance(sys.stdout, io.TextIOWrapper):
-        sys.stdout.reconfigure(errors="backslashreplace")
     return max(check(path, given) for path in given.files)
 
 
@@ -74,16 +69,13 @@ def read(path: str, name: str, consts: Given) -> Source:
     """The file of a path, or standard input under a name."""
     if path != STANDARD_INPUT:
         return load(path, consts)
-    try:
-        return source(name or path, sys.stdin.buffer.read(), consts)
-    except (AttributeError, OSError):
-        raise Failure("cannot read standard input", 2) from None
+    return source(name or path, standard_input(), consts)
 
 
 def check(path: str, given: argparse.Namespace) -> int:
     """Prints what there is to say of one file, and answers its status."""
     try:
-        found = read(path, given.name, given.consts)
+        found = read(path, given.name, dict(given.consts))
     except Failure as failure:
         sys.stdout.flush()
         where = "" if path in str(failure) else f"{path}: "
@@ -104,9 +96,10 @@ def check(path: str, given: argparse.Namespace) -> int:
 def said(found: Source, most: int) -> str:
     """What rdbg says of a file."""
     if found.application is not None:
-        return "accepted: " + ", ".join(counts(found.application))
+        cores = counted(found.application.cores, "core")
+        return "accepted: " + ", ".join([*found.application.counts(), cores])
     count = len(found.faults)
-    faults = "1 fault" if count == 1 else f"{count} faults"
+    faults = counted(count, "fault")
     if count == MOST_FAULTS:
         faults = f"{faults} or more"
     shown = f", {most} shown" if count > most else ""
@@ -114,10 +107,3 @@ def said(found: Source, most: int) -> str:
     # (of a text in lines that makes no JSON rdbg can say nothing)
     verdict = f"refused as {kind}" if KIND.match(kind) else "makes no application"
     return f"{verdict}; {faults}{shown}"
-
-
-def counts(application: Application) -> List[str]:
-    """How much there is of each kind, where there is any."""
-    things = [(it.noun, len(application.of(it))) for it in (kinds.TASK, *kinds.OBJECTS)]
-    found = [*things, ("core", application.cores)]
-    return [f"{count} {noun}" + "s" * (count > 1) for noun, count in found if count]

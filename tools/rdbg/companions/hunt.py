@@ -1,15 +1,14 @@
 """Looks for an order of moves that comes to a goal."""
 import argparse
 import contextlib
-import io
 import os
 import sys
 import time
-from typing import IO, Iterator, List, NamedTuple, Optional, Sequence, Tuple
+from typing import IO, Iterator, List, Optional, Sequence, Tuple
 
 from rdbg import commands, digits, links, whole_file
 from rdbg.driving.target import Unable
-from rdbg.failure import Failure
+from rdbg.failure import Failure, trying
 from rdbg.files.definitions import take_definitions
 from rdbg.files.source import Source, accepted
 from rdbg.hunting import goals, report
@@ -33,23 +32,14 @@ EPILOG = (
 )
 NONE_FOUND, FOUND, CANT, STOPPED = 0, 1, 2, 130
 STANDARD = "-"
-
-
-class Passed(NamedTuple):
-    """An option of the program that searches, which is passed on to it."""
-
-    name: str
-    value: str
-    help: str
-
-
-# Each is one row.
-PASSED = (
-    Passed("--pace", "M..N", "each busy core makes M to N moves from one tick to the next"),
-    Passed("--states", "N", "how many states are kept"),
-    Passed("--memory", "MIB", "for how many mebibytes states are kept"),
-    Passed("--part", "K/N", "one of N parts of the search"),
-)
+# Options of the program that searches, which are passed on to it, each with how its value is written,
+# and what it is.
+PASSED = {
+    "--pace": ("M..N", "each busy core makes M to N moves from one tick to the next"),
+    "--states": ("N", "how many states are kept"),
+    "--memory": ("MIB", "for how many mebibytes states are kept"),
+    "--part": ("K/N", "one of N parts of the search"),
+}
 # Those of them that are of a search through the orders of one goal.
 OF_ONE_GOAL = ("--pace", "--part")
 
@@ -69,10 +59,6 @@ def seconds(text: str) -> float:
     if value is None:
         raise argparse.ArgumentTypeError(f"a number of seconds, not '{text}'")
     return value
-
-
-# What is seen of the values of options before the program sees them.
-READ = {"--part": part}
 
 
 class OneGoal(argparse.HelpFormatter):
@@ -118,25 +104,23 @@ def parser() -> argparse.ArgumentParser:
     made.add_argument("--all", type=count, metavar="N", help="the first N finds that end otherwise")
     made.add_argument("--expect", choices=["none", "found"], help="what the status is 0 for")
     made.add_argument("--within", type=seconds, metavar="SECONDS", help="a limit of time")
-    for it in PASSED:
-        made.add_argument(it.name, type=READ.get(it.name, str), metavar=it.value, help=it.help)
+    for name, (value, what) in PASSED.items():
+        made.add_argument(name, type=part if name == "--part" else str, metavar=value, help=what)
     take_definitions(made)
     return made
 
 
 def passed(given: argparse.Namespace) -> List[Tuple[str, str]]:
     """The options that are passed on, with their values."""
-    found = ((it.name, getattr(given, it.name.strip("-"))) for it in PASSED)
+    found = ((name, getattr(given, name.strip("-"))) for name in PASSED)
     return [(name, value) for name, value in found if value is not None]
 
 
 def check_words(given: argparse.Namespace, goal: Goal) -> None:
     """Raises `Failure` where words can't stand together."""
     if given.exhaustive:
-        for name, value in (
-            ("--surprises", given.surprises),
-            ("--smallest", given.smallest or None),
-        ):
+        both = (("--surprises", given.surprises), ("--smallest", given.smallest or None))
+        for name, value in both:
             if value is not None:
                 raise Failure(f"--exhaustive goes through every order; it takes no {name}", CANT)
     if given.smallest and given.all is not None:
@@ -154,15 +138,13 @@ def empty(path: Optional[str], source: str) -> None:
     hunt stand there where nothing is found. Raises `Failure` where it can't be written."""
     if path is None or path == STANDARD:
         return
-    try:
+    with trying(f"write {path}"):
         file = links.behind(path)
         was_there = os.path.lexists(file)
         if was_there and os.path.samefile(file, source):
             raise Failure(f"-o {path} is the application itself, which would be lost", CANT)
         with open(file, "w", encoding="utf-8", opener=links.no_link):
             pass
-    except OSError as error:
-        raise Failure(f"cannot write {path}: {error.strerror}", CANT) from None
     if not was_there:
         os.unlink(file)
 
@@ -305,11 +287,8 @@ def hunt(given: argparse.Namespace, source: Source, path: str) -> int:
 def main(words: Sequence[str]) -> int:
     """Hunts, and says what was found, or that nothing was."""
     given = parser().parse_args(words)
-    for stream in (sys.stdout, sys.stderr):
-        if isinstance(stream, io.TextIOWrapper):
-            stream.reconfigure(errors="backslashreplace")
     try:
-        source = accepted(given.file, given.consts)
+        source = accepted(given.file, dict(given.consts))
         assert source is not None
         with source.as_json() as path:
             return hunt(given, source, path)

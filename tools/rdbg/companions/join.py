@@ -1,12 +1,11 @@
 """Joins the answers of the parts of one search."""
 import argparse
-import io
 import pathlib
 import sys
 from typing import Sequence
 
 from rdbg.driving.target import Unable
-from rdbg.failure import Failure
+from rdbg.failure import Failure, trying
 from rdbg.files.definitions import take_definitions
 from rdbg.files.source import accepted
 from rdbg.hunting import parts
@@ -40,10 +39,8 @@ def parser() -> argparse.ArgumentParser:
 
 def read(path: str) -> Answer:
     """The answer in a file. Raises `Failure` where there is none of a part."""
-    try:
+    with trying(f"read {path}"):
         text = pathlib.Path(path).read_text(encoding="utf-8", errors="replace")
-    except OSError as error:
-        raise Failure(f"cannot read {path}: {error.strerror}", 2) from None
     try:
         answer = said.read(text.splitlines())
     except Failure as failure:
@@ -56,10 +53,7 @@ def read(path: str) -> Answer:
 def main(words: Sequence[str]) -> int:
     """Joins answers, and says what comes of it."""
     given = parser().parse_args(words)
-    for stream in (sys.stdout, sys.stderr):
-        if isinstance(stream, io.TextIOWrapper):
-            stream.reconfigure(errors="backslashreplace")
-    source = accepted(given.file, given.consts)
+    source = accepted(given.file, dict(given.consts))
     assert source is not None
     answers = [read(path) for path in given.answers]
     lacking = parts.check(answers)

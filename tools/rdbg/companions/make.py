@@ -9,10 +9,10 @@ from rdbg.failure import Failure
 from rdbg.json_layout import MOST_BYTES, json_of
 from rdbg.firmware.expansion import expansions
 from rdbg.firmware.writer import jumps_of, text_of
-from rdbg.shapes import FILE
 from rdbg.files.definitions import take_definitions
 from rdbg.files.source import Given, Source, load, source
 from rdbg.whole_file import STANDARD_OUTPUT, written
+from rdbg.wording import counted
 
 SUMMARY = "makes an application's JSON from a text in lines (.fw), or the text from the JSON"
 EPILOG = (
@@ -47,7 +47,7 @@ def main(words: Sequence[str]) -> int:
         raise Failure("a JSON has no consts: -D goes with a text in lines (.fw)", 2)
     if given.back:
         return back(given.file, given.output)
-    return make(given.file, given.output, given.consts)
+    return make(given.file, given.output, dict(given.consts))
 
 
 def make(path: str, output: Optional[str], consts: Given) -> int:
@@ -71,7 +71,7 @@ def make(path: str, output: Optional[str], consts: Given) -> int:
         file.write(text)
     told = sys.stderr if chosen == STANDARD_OUTPUT else sys.stdout
     if chosen != STANDARD_OUTPUT:
-        print(f"{chosen}: {counts(application)}")
+        print(f"{chosen}: {', '.join(application.counts())}")
     for line in expansions(application, found.made):
         print(f"{path}:{line}", file=told)
     return 0
@@ -116,17 +116,4 @@ def accepted(path: str, most: int, consts: Optional[Given] = None) -> Tuple[Sour
         return found, found.application
     for fault in found.faults[:most]:
         print(f"{path}:{fault}", file=sys.stderr)
-    count = len(found.faults)
-    faults = "1 fault" if count == 1 else f"{count} faults"
-    raise Failure(f"{path} has {faults}; nothing is written")
-
-
-def counts(application: Application) -> str:
-    """How much there is of each kind: `3 tasks, 2 queues`."""
-    shapes = {key.name: key.of for key in FILE.keys if key.of is not None}
-    found = []
-    for name in sorted(shapes, key=lambda name: name != "tasks"):
-        count = len(getattr(application, name))
-        if count:
-            found.append(f"{count} {shapes[name].noun if count == 1 else shapes[name].plural}")
-    return ", ".join(found)
+    raise Failure(f"{path} has {counted(len(found.faults), 'fault')}; nothing is written")

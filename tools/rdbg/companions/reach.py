@@ -1,7 +1,6 @@
 """Starts the search through orders, listens to it, and ends it in time."""
 import argparse
 import contextlib
-import io
 import os
 import signal
 import sys
@@ -9,14 +8,16 @@ from typing import Iterator, List, NoReturn, Sequence
 
 from rdbg import output, program_help, whole_file
 from rdbg.ending import ENDING
-from rdbg.failure import Failure
+from rdbg.failure import Failure, trying
 from rdbg.files.definitions import definition
 from rdbg.files.source import LINES, Source, load
 from rdbg.goals.reading import NoGoal
 from rdbg.goals.words import for_search
 from rdbg.goals.scope import Scope
-from rdbg.reaching import answer, running
+from rdbg.reaching import running, said
+from rdbg.reaching.asking import STOPPED
 from rdbg.reaching.handlers import handlers
+from rdbg.reaching.said import UNTOLD
 from rdbg.reaching.words import DEFINE, OUTPUT, PROGRESS, WITHIN, Words, read
 
 SUMMARY = "answers whether some order of moves comes to a goal; that none does is a theorem"
@@ -45,23 +46,26 @@ def check_output(asked: Words) -> None:
             raise Failure(f"-o {path} is {file} itself, which would be lost", 2)
 
 
-def save(asked: Words, answered: str) -> None:
-    """Writes the order that was found where that was asked. Raises `Failure` where it can't be."""
-    order = answer.order_of(answered)
-    if asked.output is not None and order is not None:
-        with whole_file.written(asked.output) as file:
-            file.writelines(f"{line}\n" for line in order)
+def save(path: str, answered: str) -> None:
+    """Writes the order of an answer, if it has one. Raises `Failure` where it can't be written."""
+    answer = said.read(answered.splitlines())
+    if answer.has_order:
+        with whole_file.written(path) as file:
+            file.writelines(f"{line}\n" for line in answer.order)
 
 
 def say(asked: Words, outcome: running.Outcome) -> int:
     """Says what came of a search, and answers the exit status."""
+    last, surprises = outcome.last, asked.surprises()
+    if outcome.is_stopped and last is None:
+        raise Failure("it was stopped before it could say how far it was", UNTOLD)
     if outcome.is_stopped:
-        sys.stdout.write(answer.stopped(outcome.last, asked.surprises()))
-        return answer.UNTOLD
-    known = answer.within(outcome.last, asked.surprises())
-    answer.check(outcome.output, outcome.status, known)
+        print(*said.lines(said.stopped(last, surprises, STOPPED)), sep="\n")
+        return UNTOLD
+    said.check(outcome.output, outcome.status, said.known(last, surprises))
     try:
-        save(asked, outcome.output)
+        if asked.output is not None and outcome.status != UNTOLD:
+            save(asked.output, outcome.output)
     finally:
         # (what was found isn't lost where it can't be written)
         sys.stdout.write(outcome.output)
@@ -74,7 +78,7 @@ def source_of(asked: Words, file: str) -> Source:
     try:
         return load(file, dict(map(definition, asked.consts)))
     except argparse.ArgumentTypeError as error:
-        raise Failure(f"{DEFINE}: {error}", answer.UNTOLD) from None
+        raise Failure(f"{DEFINE}: {error}", UNTOLD) from None
 
 
 def is_in_lines(file: str) -> bool:
@@ -92,18 +96,18 @@ def in_its_words(asked: Words) -> Iterator[List[str]]:
         source = source_of(asked, file)
     except Failure as failure:
         if asked.consts:
-            raise Failure(str(failure), answer.UNTOLD) from None
+            raise Failure(str(failure), UNTOLD) from None
         yield asked.program
         return
     if source.application is None:
         if is_in_lines(file):
-            raise Failure(f"{file}:{source.faults[0]}", answer.UNTOLD)
+            raise Failure(f"{file}:{source.faults[0]}", UNTOLD)
         yield asked.program
         return
     try:
         told = for_search(goal, Scope.of(source))[1] if goal else ""
     except NoGoal as wrong:
-        raise Failure(f"goal: {wrong}", answer.UNTOLD) from None
+        raise Failure(f"goal: {wrong}", UNTOLD) from None
     application = source.application
     named = asked.with_interrupts(lambda texts: handlers(texts, application))
     with source.as_json() as path:
@@ -119,17 +123,15 @@ def become_engine(asked: Words, words: Sequence[str]) -> NoReturn:
     found = program()
     sys.stdout.flush()
     signal.signal(signal.SIGPIPE, signal.SIG_DFL)
-    try:
+    with trying(f"start {found}"):
         os.execv(found, [found, *words])
-    except OSError as error:
-        raise Failure(f"cannot start {found}: {error.strerror}", 2) from None
 
 
 def unlinked(asked: Words) -> List[str]:
     """The words of the program as an engine, whose JSON is in no folder once it has begun."""
     with in_its_words(asked) as told:
         made = os.memfd_create("application.json", 0)
-        at = asked.with_program(told).plain()[0]
+        at = asked._replace(program=told).plain()[0]
         with open(told[at], "rb") as file:
             os.write(made, file.read())
         told[at] = f"/proc/self/fd/{made}"
@@ -141,9 +143,6 @@ def main(words: Sequence[str]) -> int:
     if {"-h", "--help"} & {*words}:
         print(program_help.OF["reach"])
         return 0
-    for stream in (sys.stdout, sys.stderr):
-        if isinstance(stream, io.TextIOWrapper):
-            stream.reconfigure(errors="backslashreplace")
     asked = read(words)
     if not asked.has_goal():
         files = [asked.program[at] for at in asked.plain()]
@@ -158,6 +157,6 @@ def main(words: Sequence[str]) -> int:
     except OSError as error:
         ENDING.check()
         output.give_up()
-        raise Failure(error.strerror or str(error), answer.UNTOLD) from None
+        raise Failure(error.strerror or str(error), UNTOLD) from None
     except MemoryError:
-        raise Failure("there is no memory", answer.UNTOLD) from None
+        raise Failure("there is no memory", UNTOLD) from None

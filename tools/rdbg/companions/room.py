@@ -160,16 +160,14 @@ def serve(room: Room, port: Port, talk: Optional[Talk], pages: Optional[Served])
 def main(words: Sequence[str]) -> int:
     """Opens a room, and serves it."""
     given = parser().parse_args(words)
-    ends = contextlib.ExitStack()
-    try:
-        return open_and_serve(given, ends)
-    finally:
-        ends.close()
+    with contextlib.ExitStack() as ends:
+        status = open_and_serve(given, ends)
+    return status
 
 
 def open_and_serve(given: argparse.Namespace, ends: contextlib.ExitStack) -> int:
     """Opens a room, and serves it; what is to be done behind it is told to `ends`."""
-    source = accepted(given.file, given.consts)
+    source = accepted(given.file, dict(given.consts))
     assert source is not None
     limits = Limits(given.moves or Limits.moves, given.history or HISTORY)
     if limits.history < 4 * given.sessions:

@@ -1,6 +1,5 @@
 """A prompt for rdbg: its own lines, and words that are made of them."""
 import argparse
-import io
 import os
 import sys
 from typing import Sequence
@@ -49,11 +48,8 @@ def main(words: Sequence[str]) -> int:
         raise Failure("--moves and --history are the server's own, where --port attaches to one", 2)
     if given.name is not None and given.port is None:
         raise Failure("--name is for a room; --port says where that is", 2)
-    for stream in (sys.stdout, sys.stderr):
-        if isinstance(stream, io.TextIOWrapper):
-            stream.reconfigure(errors="backslashreplace")
     limits = Limits(given.moves or Limits.moves, given.history or Limits.history)
-    source = accepted(given.file or given.app, given.consts)
+    source = accepted(given.file or given.app, dict(given.consts))
     if given.port is None:
         target = begin(source, limits)
     else:

@@ -1,7 +1,5 @@
 """Says of a run who did what: a row a move, events for a viewer of traces, or a page."""
 import argparse
-import io
-import sys
 from typing import Sequence
 
 from rdbg.failure import Failure
@@ -73,8 +71,5 @@ def main(words: Sequence[str]) -> int:
     from rdbg.files.source import accepted
     from rdbg.tracing.command import trace
 
-    for stream in (sys.stdout, sys.stderr):
-        if isinstance(stream, io.TextIOWrapper):
-            stream.reconfigure(errors="backslashreplace")
-    trace(given, accepted(given.file, given.consts))
+    trace(given, accepted(given.file, dict(given.consts)))
     return 0

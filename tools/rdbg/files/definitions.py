@@ -1,8 +1,8 @@
 """Consts that are given beside a text in lines: `-D NAME=N` on a command line."""
 import argparse
-from typing import Any, Dict, List, Optional, Tuple
+from typing import List, Tuple
 
-from rdbg.firmware.numbers import NAME, Constants, Numbers
+from rdbg.firmware.numbers import NAME, Constants, Kept, Numbers
 from rdbg.firmware.tokens import Refusal, Scanner
 from rdbg.wording import shown
 
@@ -16,7 +16,7 @@ def definition(text: str) -> Tuple[str, int]:
         raise argparse.ArgumentTypeError(f"NAME=N, as JOBS=3, and not '{shown(text)}'")
     refusals: List[Refusal] = []
     try:
-        reader = Numbers(next(Scanner(number, refusals).lines()), Constants(), refusals)
+        reader = Numbers(next(Scanner(number, refusals).lines()), Kept(Constants(), refusals))
         value = reader.number() if reader.tokens else 0
         if refusals or reader.next() is not None or not reader.tokens:
             raise argparse.ArgumentTypeError(f"{name}: '{shown(number)}' is no number")
@@ -25,29 +25,15 @@ def definition(text: str) -> Tuple[str, int]:
     return name, value
 
 
-class Definitions(argparse.Action):
-    """Gathers consts; one that is given twice has its last number, as in C."""
-
-    def __call__(
-        self,
-        parser: argparse.ArgumentParser,
-        namespace: argparse.Namespace,
-        values: Any,
-        option_string: Optional[str] = None,
-    ) -> None:
-        found: Dict[str, int] = dict(getattr(namespace, self.dest) or {})
-        name, value = values
-        setattr(namespace, self.dest, {**found, name: value})
-
-
 def take_definitions(parser: argparse.ArgumentParser) -> None:
-    """Has a command line take consts, as `consts`."""
+    """Has a command line take consts, as the pairs of `consts`. One that is given twice has its last
+    number, as in C."""
     parser.add_argument(
         OPTION,
         dest="consts",
         type=definition,
-        action=Definitions,
-        default={},
+        action="append",
+        default=[],
         metavar="NAME=N",
         help="of a text in lines: the const NAME is N; said again, there are more",
     )

@@ -7,7 +7,7 @@ from typing import TYPE_CHECKING, Iterator, List, Mapping, Optional, Sequence, T
 
 from rdbg import scratch
 from rdbg.application import Application, Interrupt, application
-from rdbg.failure import Failure
+from rdbg.failure import Failure, trying
 from rdbg.fault import Fault
 from rdbg.checking.faults import faults_of
 from rdbg.json_layout import json_of
@@ -65,11 +65,17 @@ class Source:
 def load(path: str, given: Optional[Given] = None) -> Source:
     """Reads a file, by its ending as JSON or in lines, of which consts of these names are these
     numbers. Raises `Failure` where it can't be read."""
-    try:
+    with trying(f"read {path}"):
         content = pathlib.Path(path).read_bytes()
-    except OSError as error:
-        raise Failure(f"cannot read {path}: {error.strerror}", 2) from None
     return source(path, content, given)
+
+
+def standard_input() -> bytes:
+    """What comes by standard input. Raises `Failure` where nothing can."""
+    try:
+        return sys.stdin.buffer.read()
+    except (AttributeError, OSError):
+        raise Failure("cannot read standard input", 2) from None
 
 
 def accepted(path: Optional[str], given: Optional[Given] = None) -> Optional[Source]:

@@ -110,11 +110,15 @@ class Blocks:
                 self._script.refuse(block.word, message)
         self._open = []
 
+    def _end_of_line(self, word: str, behind: Sequence[Token], why: str = "is too much") -> None:
+        """Refuses what stands behind the end of a line with this first word."""
+        if behind:
+            said = NO_BRACES if behind[0].text == "{" else f"{shown(behind[0].text)} {why}"
+            raise Refusal(behind[0].place, f"{FORMS.get(word, word)}: {said}")
+
     def _alone(self, tokens: Sequence[Token]) -> None:
         """Refuses what stands behind a word that stands alone."""
-        if len(tokens) > 1:
-            said = NO_BRACES if tokens[1].text == "{" else f"{shown(tokens[1].text)} is too much"
-            raise Refusal(tokens[1].place, f"{FORMS.get(tokens[0].text, tokens[0].text)}: {said}")
+        self._end_of_line(tokens[0].text, tokens[1:])
 
     def _begin(self, word: Token, behind: Mark, otherwise: Optional[Mark] = None) -> None:
         """Opens a block."""
@@ -130,9 +134,7 @@ class Blocks:
         behind = Mark()
         self._begin(tokens[0], behind)
         test, rest = self._test(tokens)
-        if rest:
-            said = NO_BRACES if rest[0].text == "{" else f"{shown(rest[0].text)} is too much"
-            raise Refusal(rest[0].place, f"{FORMS[WHILE]}: {said}")
+        self._end_of_line(WHILE, rest)
         self._script.jump(tokens, test.turned(), behind)
 
     def _if(self, tokens: Sequence[Token]) -> None:
@@ -151,15 +153,13 @@ class Blocks:
         elif rest and rest[0].text in (BREAK, CONTINUE) and len(rest) == 1:
             self._script.jump(tokens, test, self._of_loop(rest[0]))
         else:
-            token = rest[-1] if rest else tokens[-1]
-            said = NO_BRACES if token.text == "{" else f"{shown(token.text)} has no place here"
-            raise Refusal(token.place, f"{FORMS[IF]}: {said}")
+            self._end_of_line(IF, (rest or tokens)[-1:], "has no place here")
 
     def _test(self, tokens: Sequence[Token]) -> Tuple[Test, Sequence[Token]]:
         """The test behind the first word of a line, and what stands behind it."""
         if len(tokens) < 2:
             raise Refusal(tokens[0].place, f"{FORMS[tokens[0].text]}: there is no test")
-        tests = Tests(tokens[1:], self._script.constants, self._script.refusals)
+        tests = Tests(tokens[1:], self._script.kept)
         found = tests.test()
         return found, tests.numbers.tokens[tests.numbers.at :]
 

@@ -10,7 +10,7 @@ import dataclasses
 import re
 from typing import List, Optional, Sequence, Tuple
 
-from rdbg.firmware.numbers import LARGEST, Constants, Numbers
+from rdbg.firmware.numbers import LARGEST, Kept, Numbers
 from rdbg.firmware.tokens import Refusal, Token, shown
 from rdbg.operands import REGISTER
 
@@ -112,10 +112,8 @@ def piece(token: Token, first: int, end: int) -> Token:
 class Tests:
     """Reads a test from the tokens of a line. `numbers` stands where it goes on."""
 
-    def __init__(
-        self, tokens: Sequence[Token], constants: Constants, refusals: List[Refusal]
-    ) -> None:
-        self.numbers = Numbers(split(tokens), constants, refusals)
+    def __init__(self, tokens: Sequence[Token], kept: Kept) -> None:
+        self.numbers = Numbers(split(tokens), kept)
 
     def test(self, depth: int = 0) -> Test:
         """The next test. Raises `Refusal` where there is none."""
@@ -213,8 +211,7 @@ class Tests:
             return self.numbers.shifted()
         self.numbers.at += 1
         behind = [dataclasses.replace(token, text=token.text[1:], place=token.place_of(1))]
-        constants, refusals = self.numbers.constants, self.numbers.refusals
-        return -Numbers(behind, constants, refusals).number() & LARGEST
+        return -Numbers(behind, self.numbers.kept).number() & LARGEST
 
     def _no_order(self) -> None:
         """Refuses signs of an order."""

@@ -7,7 +7,7 @@ from rdbg.fault import Fault
 from rdbg.firmware import waits
 from rdbg.firmware.blocks import WORDS, Blocks, Mark
 from rdbg.firmware.branches import Test
-from rdbg.firmware.numbers import NAME, Constants, near_to
+from rdbg.firmware.numbers import NAME, Kept, near_to
 from rdbg.firmware.operands import Operand, Operands, as_written, made
 from rdbg.firmware.semaphores import Semaphore, why_not
 from rdbg.firmware.spare import Spare, Uses
@@ -140,8 +140,8 @@ Line = Union[Draft, Several]
 class Script:
     """The script of a task, read line by line; what it refuses is kept in `refusals`."""
 
-    def __init__(self, task: str, constants: Constants, refusals: List[Refusal]) -> None:
-        self.task, self.constants, self.refusals = task, constants, refusals
+    def __init__(self, task: str, kept: Kept) -> None:
+        self.task, self.kept, self.refusals = task, kept, kept.refusals
         self.length = 0
         self.blocks = Blocks(self)
         self.semaphores: Mapping[str, Semaphore] = {}
@@ -185,7 +185,7 @@ class Script:
 
     def wait(self, tokens: Sequence[Token]) -> None:
         """A line that waits. Raises `Refusal` where it is wrong."""
-        texts, cost = waits.texts_of(tokens, self.constants, self.refusals)
+        texts, cost = waits.texts_of(tokens, self.kept)
         self._add(Several(tuple(tokens), texts, cost=cost))
 
     @property
@@ -237,7 +237,8 @@ class Script:
     def _operands(self, tokens: Sequence[Token], found: List[Refusal]) -> List[Operand]:
         """The operands of an instruction; what is too much as it is written."""
         symbols = FORM_OF[tokens[0].text].symbols
-        reader = Operands(without_parentheses(tokens[1:]), self.constants, found)
+        kept = Kept(self.kept.constants, found)
+        reader = Operands(without_parentheses(tokens[1:]), kept)
         operands: List[Operand] = []
         while reader.next() is not None:
             at, count = reader.at, len(operands)

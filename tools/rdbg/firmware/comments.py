@@ -10,13 +10,9 @@ def with_comments(application: Application, comments: Mapping[int, str]) -> Appl
     the lines above it, up to the one before it or to the task's own line, which is among them."""
     if not comments:
         return application
-    tasks = tuple(commented(task, comments) for task in application.tasks)
+    pairs = ((it, tuple(put(it, comments))) for it in application.tasks)
+    tasks = tuple(dataclasses.replace(task, code=code) for task, code in pairs)
     return dataclasses.replace(application, tasks=tasks)
-
-
-def commented(task: Task, comments: Mapping[int, str]) -> Task:
-    """A task whose instructions have their comments."""
-    return dataclasses.replace(task, code=tuple(put(task, comments)))
 
 
 def put(task: Task, comments: Mapping[int, str]) -> Iterator[Instruction]:

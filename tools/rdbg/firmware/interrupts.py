@@ -4,7 +4,7 @@ from typing import Callable, Dict, Iterator, List, Mapping, Optional, Sequence, 
 
 from rdbg.application import ANY, MOST_APART, MOST_TIMES, Interrupt
 from rdbg.checking.freertos import FROM_ISR, called
-from rdbg.firmware.numbers import NAME, Constants, near_to
+from rdbg.firmware.numbers import NAME, Kept, near_to
 from rdbg.firmware.operands import Operand, Operands
 from rdbg.firmware.semaphores import GIVE, Semaphore
 from rdbg.firmware.tokens import Refusal, Token, shown
@@ -48,23 +48,13 @@ class Read:
         return Interrupt(self.name.text, calls, self.times, after, self.apart)
 
 
-def is_line(tokens: Sequence[Token]) -> bool:
-    """Whether a line names an interrupt."""
-    return tokens[0].text == WORD
-
-
 class InterruptLine:
     """Reads the line of one."""
 
     def __init__(
-        self,
-        tokens: Sequence[Token],
-        constants: Constants,
-        refusals: List[Refusal],
-        semaphores: Mapping[str, Semaphore],
+        self, tokens: Sequence[Token], kept: Kept, semaphores: Mapping[str, Semaphore]
     ) -> None:
-        self._tokens, self._constants, self._refusals = tokens, constants, refusals
-        self._semaphores = semaphores
+        self._tokens, self._kept, self._semaphores = tokens, kept, semaphores
         self._after: Optional[Token] = None
         self._apart, self._times = 0, 1
 
@@ -72,9 +62,8 @@ class InterruptLine:
         """All of it. Raises `Refusal` where it is wrong."""
         texts = [token.text for token in self._tokens]
         if COLON not in texts:
-            raise Refusal(
-                self._tokens[-1].place, f"{FORM}: there is no colon, and no call behind it"
-            )
+            message = f"{FORM}: there is no colon, and no call behind it"
+            raise Refusal(self._tokens[-1].place, message)
         colon = texts.index(COLON)
         head = self._tokens[1:colon]
         if not head or not NAME.fullmatch(head[0].text):
@@ -85,7 +74,7 @@ class InterruptLine:
 
     def _keys(self, tokens: Sequence[Token]) -> None:
         """What is said of when it comes."""
-        reader = Operands(tokens, self._constants, self._refusals)
+        reader = Operands(tokens, self._kept)
         for token in iter(reader.next, None):
             assert token is not None
             reader.at += 1
@@ -115,7 +104,7 @@ class InterruptLine:
         if token is not None and not least <= value <= most:
             any_times = ", or any" if key == "times" else ""
             message = f"{key} is {value}, and is to be {least} to {most}{any_times}"
-            self._refusals.append(Refusal(token.place, message))
+            self._kept.refusals.append(Refusal(token.place, message))
             return least
         return value
 
@@ -136,7 +125,7 @@ class InterruptLine:
         word = tokens[0].text
         if tokens[1:] and tokens[1].text == "(" and tokens[-1].text == ")":
             tokens = [tokens[0], *tokens[2:-1]]
-        reader = Operands(tokens[1:], self._constants, self._refusals)
+        reader = Operands(tokens[1:], self._kept)
         if word == GIVE:
             return self._give(tokens)
         if word not in (NOTIFY, SEND):
@@ -148,9 +137,7 @@ class InterruptLine:
                 message = f"{form_of(word)} lacks its {KIND_OF[symbol].noun}"
                 raise Refusal(tokens[0].place, message)
             found.append(read(reader).text)
-        behind = reader.next()
-        if behind is not None:
-            raise Refusal(behind.place, f"{form_of(word)}: {shown(behind.text)} is too much")
+        reader.end(form_of(word))
         return found
 
     def _give(self, tokens: Sequence[Token]) -> List[str]:
@@ -158,9 +145,8 @@ class InterruptLine:
         name = tokens[1].text if tokens[1:] else ""
         it = self._semaphores.get(name)
         if it is None or len(tokens) > 2:
-            raise Refusal(
-                tokens[-1].place, f"give NAME: {shown(name) or 'nothing'} is no semaphore"
-            )
+            message = f"give NAME: {shown(name) or 'nothing'} is no semaphore"
+            raise Refusal(tokens[-1].place, message)
         if it.is_given:
             message = f"{name} has an item while it is taken, and no interrupt takes one out"
             raise Refusal(tokens[1].place, f"{message}: {ROUND}")

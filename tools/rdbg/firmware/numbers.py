@@ -1,6 +1,6 @@
 """Numbers of a text in lines: decimal or hexadecimal, by name, shifted by `<<`, joined by `|`."""
 import re
-from typing import Dict, Iterable, List, Mapping, Optional, Sequence, Set
+from typing import Dict, Iterable, List, Mapping, NamedTuple, Optional, Sequence, Set
 
 from rdbg.firmware.tokens import Refusal, Token, shown
 from rdbg.near import nearest
@@ -99,15 +99,20 @@ class Constants:
         return near_to(word, self.values)
 
 
+class Kept(NamedTuple):
+    """With what lines are read: the numbers that have a name, and where is kept what is refused."""
+
+    constants: Constants
+    refusals: List[Refusal]
+
+
 class Numbers:
     """Reads numbers from the tokens of a line, the next from `at` on. What isn't right is kept in
     `refusals` where it leaves no doubt where the number ends; else it is raised."""
 
-    def __init__(
-        self, tokens: Sequence[Token], constants: Constants, refusals: List[Refusal]
-    ) -> None:
-        self.tokens, self.constants, self.refusals = tokens, constants, refusals
-        self.at = 0
+    def __init__(self, tokens: Sequence[Token], kept: Kept) -> None:
+        self.tokens, self.kept, self.at = tokens, kept, 0
+        self.constants, self.refusals = kept
 
     def next(self) -> Optional[Token]:
         """The token at `at`, which isn't passed; none at the end of the line."""
@@ -120,6 +125,13 @@ class Numbers:
             return False
         self.at += 1
         return True
+
+    def end(self, form: str = "") -> None:
+        """Refuses what stands behind the end of a line, which is written so."""
+        token = self.next()
+        if token is not None:
+            said = f"{shown(token.text)} is too much"
+            raise Refusal(token.place, f"{form}: {said}" if form else said)
 
     def number(self, depth: int = 0) -> int:
         """The next number."""

@@ -4,7 +4,7 @@ import re
 from typing import Dict, List, Optional, Sequence
 
 from rdbg.digits import is_digits
-from rdbg.firmware.numbers import NAME, Constants, Numbers
+from rdbg.firmware.numbers import NAME, Kept, Numbers
 from rdbg.firmware.tokens import Refusal, Token, shown
 from rdbg.shapes import FILE, Key, Shape
 from rdbg.tree import Member, Node, Number, Places
@@ -27,19 +27,12 @@ def form_of(word: str) -> str:
     return " ".join([word, *(WRITTEN[key.holds].format(key.name) for key in keys)])
 
 
-def ended(reader: Numbers) -> None:
-    """Refuses what stands behind the end of a line."""
-    token = reader.next()
-    if token is not None:
-        raise Refusal(token.place, f"{shown(token.text)} is too much")
-
-
-def number_of(tokens: Sequence[Token], constants: Constants, refusals: List[Refusal]) -> Node:
+def number_of(tokens: Sequence[Token], kept: Kept) -> Node:
     """The number behind the first token of a line."""
-    reader = Numbers(tokens, constants, refusals)
+    reader = Numbers(tokens, kept)
     reader.at = 1
     node = next_number(reader)
-    ended(reader)
+    reader.end()
     return node
 
 
@@ -59,13 +52,10 @@ def name_node(token: Token) -> Node:
 class ObjectLine:
     """Reads a line of an object or of a task. What is refused of it is kept in `refusals`."""
 
-    def __init__(
-        self, tokens: Sequence[Token], constants: Constants, refusals: List[Refusal]
-    ) -> None:
+    def __init__(self, tokens: Sequence[Token], kept: Kept) -> None:
         self._word, self._shape = tokens[0], OBJECTS[tokens[0].text]
-        self._reader = Numbers(tokens, constants, refusals)
+        self._reader, self._refusals = Numbers(tokens, kept), kept.refusals
         self._reader.at = 1
-        self._refusals = refusals
         self.members: List[Member] = []
         # How many tasks have the script, where they are several.
         self.count: Optional[int] = None
@@ -99,7 +89,7 @@ class ObjectLine:
         if not found:
             return token
         at = token.place_of(found.start(2))
-        behind = Numbers([Token(found[2], at)], self._reader.constants, self._refusals)
+        behind = Numbers([Token(found[2], at)], self._reader.kept)
         known = len(self._refusals)
         self.count = behind.number()
         if len(self._refusals) > known:

@@ -97,7 +97,7 @@ class Operands(Numbers):
         if not found:
             return self.whatever() if token.text in self.constants.values else self.word()
         at = token.place_of(found.start(2))
-        number = Numbers([Token(found[2], at)], self.constants, self.refusals).number()
+        number = Numbers([Token(found[2], at)], self.kept).number()
         self.at += 1
         return made(f"{found[1]}{number}", token.place)
 
@@ -121,7 +121,7 @@ class Operands(Numbers):
         if not token.text.startswith("-") or token.text == "-":
             return self.value()
         self.at += 1
-        behind = Numbers([Token(token.text[1:], token.place_of(1))], self.constants, self.refusals)
+        behind = Numbers([Token(token.text[1:], token.place_of(1))], self.kept)
         return made(str(-behind.number() & LARGEST), token.place)
 
     def register_or_value(self) -> Operand:

@@ -13,8 +13,8 @@ from rdbg.failure import Failure
 from rdbg.application import Interrupt
 from rdbg.firmware import blocks, interrupts, meant, semaphores, waits
 from rdbg.firmware.code import MOST_READ, Script, without_parentheses
-from rdbg.firmware.numbers import Constants, Numbers, near_to
-from rdbg.firmware.objects import OBJECTS, SETTINGS, ObjectLine, ended, form_of, number_of
+from rdbg.firmware.numbers import Constants, Kept, Numbers, near_to
+from rdbg.firmware.objects import OBJECTS, SETTINGS, ObjectLine, form_of, number_of
 from rdbg.firmware.spare import Spare, Uses, spare
 from rdbg.firmware.things import Thing
 from rdbg.firmware.tokens import MOST_TOKENS, Refusal, Scanner, Stop, Token, decoded, shown, written
@@ -52,6 +52,7 @@ class Reader:
         self.made: List[Tuple[int, str]] = []
         self.comments: Dict[int, str] = {}
         self.constants = Constants(given)
+        self._kept = Kept(self.constants, self.refusals)
         self._semaphores: Dict[str, semaphores.Semaphore] = {}
         self._interrupts: List[interrupts.Read] = []
         self._refused_interrupts: List[str] = []
@@ -156,7 +157,7 @@ class Reader:
         word, known = tokens[0].text, len(self.refusals)
         if self._is_of_block(tokens) or self._is_of_semaphore(tokens):
             return
-        if waits.is_line(tokens):
+        if word == waits.WORD:
             self._wait(tokens)
             return
         if word in FORM_OF and not (word == "set" and self._is_queue_set(tokens)):
@@ -182,9 +183,8 @@ class Reader:
         if word.text not in (semaphores.TAKE, semaphores.GIVE, semaphores.COUNT):
             return False
         plain = [word, *without_parentheses(tokens[1:])]
-        known, constants = self._semaphores, self.constants
         try:
-            text = semaphores.instruction(plain, known, constants, self.refusals)
+            text = semaphores.instruction(plain, self._semaphores, self._kept)
         except Refusal:
             self._script_of(word).placeholder(tokens)
             raise
@@ -226,7 +226,7 @@ class Reader:
 
     def _semaphore(self, tokens: Sequence[Token]) -> None:
         """A line of a semaphore or a mutex, which is a queue."""
-        line = semaphores.SemaphoreLine(tokens, self.constants, self.refusals)
+        line = semaphores.SemaphoreLine(tokens, self._kept)
         it = line.read()
         place = tokens[0].place
         self.made.append((place.line, f"{written(tokens)}: {it.queue()}"))
@@ -237,9 +237,8 @@ class Reader:
 
     def _interrupt(self, tokens: Sequence[Token]) -> None:
         """A line of an interrupt. The name of one that is refused is there all the same."""
-        constants, refusals = self.constants, self.refusals
-        line = interrupts.InterruptLine(tokens, constants, refusals, self._semaphores)
         try:
+            line = interrupts.InterruptLine(tokens, self._kept, self._semaphores)
             self._interrupts.append(line.read())
         except Refusal:
             self._refused_interrupts += [token.text for token in tokens[1:2]]
@@ -266,7 +265,7 @@ class Reader:
         if self._script is None:
             message = f"{shown(token.text)} stands before any task: {form_of('task')}"
             self.refusals.append(Refusal(token.place, message))
-            self._script = Script("no task", self.constants, [])
+            self._script = Script("no task", Kept(self.constants, []))
         return self._script
 
     def _is_queue_set(self, tokens: Sequence[Token]) -> bool:
@@ -281,7 +280,7 @@ class Reader:
             raise Refusal(tokens[0].place, f"{tokens[0].text} NAME N: there is no name")
         if meant.TYPES.fullmatch(tokens[1].text) and meant.as_const(tokens):
             self._unknown(tokens)
-        reader = Numbers(tokens, self.constants, self.refusals)
+        reader = Numbers(tokens, self._kept)
         reader.at = 2
         if reader.is_next("="):
             said = f"{tokens[0].text} {shown(tokens[1].text)} N"
@@ -292,7 +291,7 @@ class Reader:
             value = reader.number()
             doubtful = tokens[0].place.line in self.constants.doubtful
             is_refused = doubtful or len(self.refusals) > known
-            ended(reader)
+            reader.end()
         finally:
             self.constants.define(tokens[1], value, is_refused)
 
@@ -302,12 +301,12 @@ class Reader:
         if word.text in self._numbers:
             line = self._numbers[word.text].place.line
             raise Refusal(word.place, f"{word.text} stands in line {line} already")
-        node = number_of(tokens, self.constants, self.refusals)
+        node = number_of(tokens, self._kept)
         self._numbers[word.text] = Member(word.text, word.place, node)
 
     def _thing(self, tokens: Sequence[Token]) -> None:
         """A line of an object or of a task."""
-        word, line = tokens[0], ObjectLine(tokens, self.constants, self.refusals)
+        word, line = tokens[0], ObjectLine(tokens, self._kept)
         if len(self._things[word.text]) == MOST_READ:
             what = OBJECTS[word.text].plural
             message = f"there are {MOST_READ} {what} up to here; the rest isn't read"
@@ -318,7 +317,7 @@ class Reader:
             label = f"task {line.name() or 'number ' + str(len(self._things['task']))}"
             if line.count is not None:
                 label = f"task {line.name()}[{line.count}]"
-            script = self._script = Script(label, self.constants, self.refusals)
+            script = self._script = Script(label, self._kept)
             script.semaphores = self._semaphores
         self._things[word.text].append(Thing(word, tuple(line.members), script, line.count))
 
@@ -351,7 +350,7 @@ class Reader:
             if word == "task":
                 self._thing(line)
                 return
-            reader = ObjectLine(line, self.constants, [])
+            reader = ObjectLine(line, Kept(self.constants, []))
             reader.read()
             self._meant.append(Thing(first, tuple(reader.members)))
         elif meant.is_label(tokens, self._targets) and self._script is not None:

@@ -5,9 +5,9 @@ is empty at boot. So what is given then is a queue of what is taken: an item sta
 somebody has it. Else an item is what can be taken.
 """
 import dataclasses
-from typing import Dict, List, Mapping, Optional, Sequence, Tuple
+from typing import Dict, Mapping, Optional, Sequence, Tuple
 
-from rdbg.firmware.numbers import Constants, Numbers
+from rdbg.firmware.numbers import Constants, Kept, Numbers
 from rdbg.firmware.objects import next_number
 from rdbg.firmware.operands import Operands
 from rdbg.firmware.tokens import Refusal, Token, shown
@@ -55,18 +55,11 @@ class Semaphore:
         return f"{'spaces' if self.is_given else 'count'} {self.name}"
 
 
-def is_line(tokens: Sequence[Token]) -> bool:
-    """Whether a line gives one."""
-    return tokens[0].text in FORMS
-
-
 class SemaphoreLine:
     """Reads the line of one: its semaphore, and the members of its queue."""
 
-    def __init__(
-        self, tokens: Sequence[Token], constants: Constants, refusals: List[Refusal]
-    ) -> None:
-        self._numbers = Numbers(tokens, constants, refusals)
+    def __init__(self, tokens: Sequence[Token], kept: Kept) -> None:
+        self._numbers = Numbers(tokens, kept)
         self._numbers.at = 1
         self._word = tokens[0]
         self.members: Tuple[Member, ...] = ()
@@ -98,9 +91,9 @@ class SemaphoreLine:
 def named(lines: Sequence[Sequence[Token]], constants: Constants) -> Dict[str, Semaphore]:
     """All that lines give, by their names; those whose lines are wrong are as far as is known."""
     found: Dict[str, Semaphore] = {}
-    for tokens in filter(is_line, lines):
+    for tokens in (it for it in lines if it[0].text in FORMS):
         try:
-            it = SemaphoreLine(tokens, constants, []).read()
+            it = SemaphoreLine(tokens, Kept(constants, [])).read()
         except Refusal:
             name = tokens[1].text if len(tokens) > 1 else ""
             it = Semaphore(tokens[0], name, 1, tokens[0].text == MUTEX)
@@ -109,10 +102,7 @@ def named(lines: Sequence[Sequence[Token]], constants: Constants) -> Dict[str, S
 
 
 def instruction(
-    tokens: Sequence[Token],
-    known: Mapping[str, Semaphore],
-    constants: Constants,
-    refusals: List[Refusal],
+    tokens: Sequence[Token], known: Mapping[str, Semaphore], kept: Kept
 ) -> Optional[str]:
     """The instruction that a line is which takes, gives or counts one; none where it is another.
     Raises `Refusal` where it is wrong. The tokens have no parentheses round the operands."""
@@ -125,18 +115,15 @@ def instruction(
         raise Refusal(tokens[-1].place, message)
     if it is None or word not in (TAKE, GIVE, COUNT):
         return None
+    reader = Operands(tokens[2:], kept)
     if word != TAKE:
-        if len(tokens) > 2:
-            raise Refusal(tokens[2].place, f"{word} NAME: {shown(tokens[2].text)} is too much")
+        reader.end(f"{word} NAME")
         return it.gives() if word == GIVE else it.counts()
-    reader = Operands(tokens[2:], constants, refusals)
     if reader.next() is None:
         choices = KIND_OF["T"].choices
         raise Refusal(tokens[0].place, f"take NAME T lacks its block time ({choices})")
     time = reader.time().text
-    behind = reader.next()
-    if behind is not None:
-        raise Refusal(behind.place, f"take NAME T: {shown(behind.text)} is too much")
+    reader.end("take NAME T")
     return it.takes(time)
 
 

@@ -4,10 +4,10 @@ A delay is a receive from a queue that nobody fills. One of 3 to 100 ticks is a 
 wait of up to 97 more at a notification entry of the task's own, which an interrupt of its own may end
 at any time. Where that comes before, the wait takes its 3 ticks.
 """
-from typing import List, Sequence, Tuple
+from typing import Sequence, Tuple
 
 from rdbg.application import ANY, Interrupt
-from rdbg.firmware.numbers import LARGEST, Constants, Numbers
+from rdbg.firmware.numbers import LARGEST, Kept, Numbers
 from rdbg.firmware.operands import Operands
 from rdbg.firmware.tokens import Refusal, Token, shown
 
@@ -19,37 +19,28 @@ FILLS = ("send", "front", "over")
 NAME_END = "_wait"
 
 
-def is_line(tokens: Sequence[Token]) -> bool:
-    """Whether a line waits."""
-    return tokens[0].text == WORD
-
-
-def texts_of(
-    tokens: Sequence[Token], constants: Constants, refusals: List[Refusal]
-) -> Tuple[Tuple[str, ...], str]:
+def texts_of(tokens: Sequence[Token], kept: Kept) -> Tuple[Tuple[str, ...], str]:
     """The instructions of a line, with `{ending}` for the entry at which it waits, and what they
     cost. Raises `Refusal` where it is wrong."""
     if len(tokens) < 2:
         raise Refusal(tokens[0].place, f"{FORM}: there is no number")
     if BETWEEN not in tokens[1].text:
-        reader = Operands(tokens[1:], constants, refusals)
+        reader = Operands(tokens[1:], kept)
         time = reader.time().text
-        ended(reader)
+        reader.end(FORM)
         return (f"recv {NEVER} {time}",), "2 moves"
-    ended(Numbers(tokens[2:], constants, refusals))
-    return between(tokens[1], constants, refusals)
+    Numbers(tokens[2:], kept).end(FORM)
+    return between(tokens[1], kept)
 
 
-def between(
-    token: Token, constants: Constants, refusals: List[Refusal]
-) -> Tuple[Tuple[str, ...], str]:
+def between(token: Token, kept: Kept) -> Tuple[Tuple[str, ...], str]:
     """The same of a wait of so many ticks to so many."""
     first, _, last = token.text.partition(BETWEEN)
-    known = len(refusals)
-    least = number(first, token, 0, constants, refusals)
+    known = len(kept.refusals)
+    least = number(first, token, 0, kept)
     at = len(first) + len(BETWEEN)
-    most = LARGEST if last == "max" else number(last, token, at, constants, refusals)
-    if most <= least and len(refusals) == known:
+    most = LARGEST if last == "max" else number(last, token, at, kept)
+    if most <= least and len(kept.refusals) == known:
         message = f"{shown(token.text)} has no end to choose: the second number is the larger one"
         raise Refusal(token.place, message)
     more = "max" if most == LARGEST else str(most - least)
@@ -59,18 +50,11 @@ def between(
     return (f"recv {NEVER} {least}", ending), "4 moves, 3 where its end has come before"
 
 
-def number(text: str, token: Token, at: int, constants: Constants, refusals: List[Refusal]) -> int:
+def number(text: str, token: Token, at: int, kept: Kept) -> int:
     """A number of ticks that stands in a word, from one of its characters on."""
     if not text:
         raise Refusal(token.place, f"{FORM}: a number is missing at {shown(token.text)}")
-    return Numbers([Token(text, token.place_of(at))], constants, refusals).number()
-
-
-def ended(reader: Numbers) -> None:
-    """Refuses what stands behind the end of a line."""
-    token = reader.next()
-    if token is not None:
-        raise Refusal(token.place, f"{FORM}: {shown(token.text)} is too much")
+    return Numbers([Token(text, token.place_of(at))], kept).number()
 
 
 def interrupt(task: str, entry: int) -> Interrupt:

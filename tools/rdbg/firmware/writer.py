@@ -48,18 +48,13 @@ WRITERS: Dict[str, Callable[[str], str]] = {
 }
 
 
-def as_it_is(word: str) -> str:
-    """A name, a register or a word of an instruction."""
-    return word
-
-
 def instruction_text(instruction: Instruction) -> str:
     """An instruction with labels, and with bits as hexadecimal numbers."""
     first, *operands = instruction.words()
     form = FORM_OF[first]
     parts = [first]
     for symbol, noun, word in zip(form.symbols, form.nouns, operands):
-        write = WRITERS.get(symbol, as_it_is)
+        write = WRITERS.get(symbol, str)
         if noun.startswith("bits") or symbol == "V" and operands[-1] == "bits":
             write = hexadecimal
         elif first == "add" and symbol == "N":

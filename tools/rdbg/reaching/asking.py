@@ -7,8 +7,8 @@ from typing import Dict, NamedTuple, Optional, Sequence, Tuple
 
 from rdbg.client import built_by_wrapper
 from rdbg.failure import Failure
-from rdbg.reaching import answer, running, said
-from rdbg.reaching.said import Answer, Bound, Kind
+from rdbg.reaching import running, said
+from rdbg.reaching.said import UNTOLD, Answer, Bound
 
 # What names the program.
 PROGRAM, NAME = "RDBG_REACH", "rdreach"
@@ -97,19 +97,9 @@ class Asker:
             file.seek(0)
             outcome = running.run(words, self.left(), file)
         if outcome.is_stopped:
-            return self._stopped(outcome, bound)
+            is_time = self.end is not None and time.monotonic() >= self.end
+            return said.stopped(outcome.last, bound.surprises, TIME if is_time else CTRL_C)
         return answered(outcome, bound)
-
-    def _stopped(self, outcome: running.Outcome, bound: Bound) -> Answer:
-        """What is known where the search was ended in the midst of it."""
-        is_time = self.end is not None and time.monotonic() >= self.end
-        why = TIME if is_time else CTRL_C
-        last = outcome.last
-        if last is None:
-            return Answer(Kind.UNTOLD, why=why)
-        most = bound.surprises if last.surprises is None else last.surprises
-        counts = last.states, last.moves, last.deepest
-        return Answer(Kind.UNTOLD, Bound(last.within, most), why=why, counts=counts)
 
 
 def bound_lines(bound: Bound) -> Sequence[str]:
@@ -120,15 +110,14 @@ def bound_lines(bound: Bound) -> Sequence[str]:
 
 def answered(outcome: running.Outcome, bound: Bound) -> Answer:
     """The answer that a program has given."""
-    known = "" if outcome.last is None else Bound(outcome.last.within, bound.surprises).text()
-    if outcome.status == answer.UNTOLD and not outcome.output:
-        raise NoQuestion("", answer.UNTOLD)  # (which has said why)
+    if outcome.status == UNTOLD and not outcome.output:
+        raise NoQuestion("", UNTOLD)  # (which has said why)
     replies = [it.splitlines() for it in outcome.output.split("\n\n") if it]
     for reply in replies:
         if reply[0].startswith(REFUSED):
-            raise NoQuestion(reply[0][len(REFUSED) :], answer.UNTOLD)
+            raise NoQuestion(reply[0][len(REFUSED) :], UNTOLD)
     if outcome.status != 0:
-        answer.check("", outcome.status or 1, known)
+        said.check("", outcome.status or 1, said.known(outcome.last, bound.surprises))
     if not replies or replies[-1] == [DONE]:
-        raise Failure("the program ended before its answer", answer.UNTOLD)
+        raise Failure("the program ended before its answer", UNTOLD)
     return said.read(replies[-1])

@@ -8,7 +8,7 @@ from typing import IO, Callable, NamedTuple, Optional, Sequence
 
 from rdbg import children
 from rdbg.ending import ENDING, STARTED
-from rdbg.failure import Failure
+from rdbg.failure import trying
 from rdbg.reaching import progress
 from rdbg.reaching.progress import Gauge, Progress
 
@@ -95,15 +95,6 @@ class Listener:
         return min(rests, default=None)
 
 
-def started(words: Sequence[str], lines: Optional[IO[bytes]]) -> "subprocess.Popen[bytes]":
-    """The program, started on these words and lines. Raises `Failure` where it can't be."""
-    pipe = subprocess.PIPE
-    try:
-        return children.start(words, lines, pipe, pipe)
-    except OSError as error:
-        raise Failure(f"cannot start {words[0]}: {error.strerror}", 2) from None
-
-
 def run(
     words: Sequence[str], seconds: Optional[float], lines: Optional[IO[bytes]] = None
 ) -> Outcome:
@@ -112,7 +103,9 @@ def run(
     it can't be started."""
     end = None if seconds is None else time.monotonic() + seconds
     gauge = Gauge(sys.stderr)
-    with started(words, lines) as process:
+    with trying(f"start {words[0]}"):
+        started = children.start(words, lines, subprocess.PIPE, subprocess.PIPE)
+    with started as process:
         listener = Listener(process, gauge)
         try:
             is_ended = listener.listen(end)

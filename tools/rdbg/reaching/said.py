@@ -2,10 +2,17 @@
 import dataclasses
 import enum
 import re
+import signal
 from typing import Dict, Iterable, Iterator, Optional, Sequence, Tuple
 
 from rdbg.failure import Failure
-from rdbg.reaching.answer import COUNTS, NONE, REACHED, UNTOLD
+from rdbg.reaching.progress import Progress
+
+# How a program ends that has answered: where the goal comes behind no order, behind one, and where
+# that can't be told.
+NONE, REACHED, UNTOLD = STATUSES = 0, 1, 2
+# What stands behind the order: what was gone through.
+COUNTS = re.compile(r"states \d+ moves \d+ deepest \d+", re.ASCII)
 
 
 class Kind(enum.Enum):
@@ -50,10 +57,7 @@ class Bound:
 
     def least(self, other: "Bound") -> "Bound":
         """What is said of these orders and of those of another bound, is said of those of both."""
-        return Bound(
-            fewer(self.moves, other.moves),
-            fewer(self.surprises, other.surprises),
-        )
+        return Bound(fewer(self.moves, other.moves), fewer(self.surprises, other.surprises))
 
 
 def fewer(one: Optional[int], other: Optional[int]) -> Optional[int]:
@@ -76,6 +80,11 @@ class Answer:
     missed: Tuple[Tuple[str, Tuple[int, ...]], ...] = ()
     part: Optional[Tuple[int, int]] = None
     title: str = ""
+
+    @property
+    def has_order(self) -> bool:
+        """Whether an order is told, which may have no moves."""
+        return self.kind is Kind.REACHED or self.title != ""
 
     def head(self) -> str:
         """The first line of it."""
@@ -124,6 +133,35 @@ def read(lines: Sequence[str]) -> Answer:
         (int(part[1]), int(part[2])) if part else None,
         title[0] if title else "",
     )
+
+
+def check(output: str, status: int, known: str) -> None:
+    """Raises `Failure` where a program has ended in another way than by an answer, or a refusal; it
+    says what was known until then, if that isn't empty."""
+    if status < 0:
+        why = f"was ended by {signal.Signals(-status).name}"
+    elif status not in STATUSES:
+        why = f"ended with status {status}"
+    elif status != UNTOLD and not any(map(COUNTS.fullmatch, output.splitlines())):
+        why = "ended before its answer"
+    else:
+        return
+    raise Failure(f"the program {why}" + (f"; until then: {known}" if known else ""), UNTOLD)
+
+
+def stopped(last: Optional[Progress], surprises: Optional[int], why: str) -> Answer:
+    """What is known where a search ended in the midst of it, by how far it had said to be, and how
+    many surprises an order was to have at the most."""
+    if last is None:
+        return Answer(Kind.UNTOLD, why=why)
+    most = surprises if last.surprises is None else last.surprises
+    counts = last.states, last.moves, last.deepest
+    return Answer(Kind.UNTOLD, Bound(last.within, most), why=why, counts=counts)
+
+
+def known(last: Optional[Progress], surprises: Optional[int]) -> str:
+    """Of which orders that is known, in words; empty where it hadn't said yet how far it was."""
+    return "" if last is None else stopped(last, surprises, "").bound.text()
 
 
 def both(one: Answer, other: Answer) -> Answer:

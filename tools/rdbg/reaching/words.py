@@ -40,7 +40,7 @@ class Words(NamedTuple):
     seconds: Optional[float]
     consts: Tuple[str, ...] = ()
 
-    def surprises(self) -> Optional[str]:
+    def surprises(self) -> Optional[int]:
         """How many surprises an order has at the most, if that was asked."""
         words = [*takewhile(NO_MORE.__ne__, self.program)]
         asked = None
@@ -48,7 +48,7 @@ class Words(NamedTuple):
             option, has_value, value = word.partition("=")
             if option == SURPRISES:
                 asked = value if has_value else following
-        return str(int(asked)) if asked and is_digits(asked) else asked
+        return int(asked) if asked and is_digits(asked) else None
 
     def plain(self) -> List[int]:
         """Where the words stand that are no options: the file, and behind it those of a goal."""
@@ -73,10 +73,6 @@ class Words(NamedTuple):
         new = {first: file, second: goal}
         words = enumerate(self.program)
         return [new.get(at, word) for at, word in words if at not in others]
-
-    def with_program(self, program: List[str]) -> "Words":
-        """The same with other words of the program."""
-        return self._replace(program=program)
 
     def put_file(self, file: str) -> List[str]:
         """The words of the program, with another file."""

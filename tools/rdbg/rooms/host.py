@@ -10,7 +10,7 @@ from typing import IO, Iterator, List, Optional, Set
 from rdbg import children, owners
 from rdbg.client import LOCAL, Session, connected, program
 from rdbg.ending import STARTED
-from rdbg.failure import Failure
+from rdbg.failure import Failure, trying
 from rdbg.rooms import apart
 from rdbg.driving.opening import as_read, greet
 from rdbg.driving.target import Limits
@@ -96,18 +96,14 @@ class Host:
         Raises `Failure` where it can't be started."""
         if not apart.IS_TRIED:
             return cls._started(words, words[0], subprocess.DEVNULL)
-        try:
+        with trying(f"start {words[0]}"):
             here, there = socket.socketpair()
-        except OSError as error:
-            raise cannot_start(words[0], error) from None
         with here:
             with there:
                 host = cls._started(apart.words(count, words), words[0], there.fileno())
             try:
-                host._apart = apart.received(here, count)
-            except OSError as error:
-                host.kill()
-                raise cannot_start(words[0], error) from None
+                with trying(f"start {words[0]}"):
+                    host._apart = apart.received(here, count)
             except BaseException:
                 host.kill()
                 raise
@@ -119,12 +115,9 @@ class Host:
 
     @classmethod
     def _started(cls, words: List[str], name: str, stdin: int) -> "Host":
-        with contextlib.ExitStack() as ends:
-            try:
-                errors = ends.enter_context(tempfile.TemporaryFile())
-                process = children.start(words, stdin, subprocess.PIPE, errors)
-            except OSError as error:
-                raise cannot_start(name, error) from None
+        with trying(f"start {name}"), contextlib.ExitStack() as ends:
+            errors = ends.enter_context(tempfile.TemporaryFile())
+            process = children.start(words, stdin, subprocess.PIPE, errors)
             ends.pop_all()
         return cls(process, errors)
 
@@ -221,11 +214,6 @@ class Host:
 def user_of(number: Optional[int]) -> str:
     """Whose a connection is, in words."""
     return "a user who isn't known any more" if number is None else f"user {number}"
-
-
-def cannot_start(name: str, error: OSError) -> Failure:
-    """Why a program wasn't started."""
-    return Failure(f"cannot start {name}: {error.strerror}", 2)
 
 
 class Audit:

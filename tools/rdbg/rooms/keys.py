@@ -9,8 +9,9 @@ from typing import Iterator
 
 from rdbg.commands import MOST_BYTES
 from rdbg.failure import Failure
-from rdbg.rooms.room import Room, seconds
+from rdbg.rooms.room import Room
 from rdbg.rooms.seats import Refusal
+from rdbg.wording import counted
 
 FREE = "free"
 # So many seconds without a line make who has the wheel idle, unless it is said otherwise.
@@ -48,7 +49,7 @@ def lines_of(number: int) -> Iterator[str]:
 
 def usage(idle: int) -> str:
     """What can be typed."""
-    return f"`{FREE}` gives back the wheel of who is away, or idle for {seconds(idle)}"
+    return f"`{FREE}` gives back the wheel of who is away, or idle for {counted(idle, 'second')}"
 
 
 def do(room: Room, line: str, idle: int) -> str:

@@ -10,7 +10,7 @@ from typing import Dict, Iterator, List, Optional, Set
 from rdbg.client import LOCAL
 from rdbg.commands import MOST_BYTES
 from rdbg.door import TOKEN, Door, turn_away
-from rdbg.failure import Failure
+from rdbg.failure import trying
 from rdbg.rooms.client import Client
 from rdbg.rooms.host import Ended
 from rdbg.rooms.room import Member, Refusal, Room
@@ -29,14 +29,12 @@ PATIENCE = 2.0
 
 def listening(port: int) -> socket.socket:
     """A port of this machine. Raises `Failure` where it can't be had."""
-    found = socket.socket()
-    try:
+    with trying(f"listen at port {port}"), contextlib.ExitStack() as ends:
+        found = ends.enter_context(socket.socket())
         found.setsockopt(socket.SOL_SOCKET, socket.SO_REUSEADDR, 1)
         found.bind((LOCAL, port))
         found.listen(MOST)
-    except OSError as error:
-        found.close()
-        raise Failure(f"cannot listen at port {port}: {error.strerror}", 2) from None
+        ends.pop_all()
     found.setblocking(False)
     return found
 

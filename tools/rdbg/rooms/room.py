@@ -18,6 +18,7 @@ from rdbg.rooms.turns import Turns
 from rdbg.driving.target import Limits, read_line
 from rdbg.shown import shown
 from rdbg.files.source import Source
+from rdbg.wording import counted
 
 __all__ = ["Ended", "Member", "Refusal", "Room"]
 
@@ -113,11 +114,8 @@ class Room:
         # Is called once the program has ended by itself. Nothing is answered then, nor at the end.
         self.when_over: Callable[[], None] = lambda: None
         self.is_over = False
-        self._program, self._seats, self._talk = (
-            Program(host, source, limits),
-            Seats(host.numbers()),
-            talk,
-        )
+        self._program, self._seats = Program(host, source, limits), Seats(host.numbers())
+        self._talk = talk
         self._program.when_over = self._is_over
         self._members: Dict[int, Member] = {}
         self._turns = Turns()
@@ -486,11 +484,11 @@ class Room:
         silence = member.silence() if member else 0
         if member is not None and silence < idle:
             raise Refusal(
-                f"{seat.name} has the wheel and isn't idle: {seconds(silence)} without a line,"
-                f" {seconds(idle)} would do"
+                f"{seat.name} has the wheel and isn't idle: {counted(silence, 'second')} without a line,"
+                f" {counted(idle, 'second')} would do"
             )
         self._program.ask(seat, "wheel give")
-        why = f"idle for {seconds(silence)}" if member else "away"
+        why = f"idle for {counted(silence, 'second')}" if member else "away"
         return (
             f"who started the room has {seat.name}, who is {why}, give back the wheel: it is free"
         )
@@ -530,8 +528,3 @@ def plain(line: str) -> str:
 def command_of(line: str) -> Optional[Command]:
     """The command that a line is, if any."""
     return read_line(plain(line))
-
-
-def seconds(count: int) -> str:
-    """So many seconds, in words."""
-    return "1 second" if count == 1 else f"{count} seconds"

@@ -6,7 +6,7 @@ import time
 from typing import IO, Optional
 
 from rdbg import own_file
-from rdbg.failure import Failure
+from rdbg.failure import Failure, trying
 from rdbg.shown import shown
 
 HEAD = "when\twho\tline\treply\n"
@@ -38,12 +38,10 @@ class Talk:
         # Why no more can be written, if so.
         self.fault = ""
         self._second, self._text = 0, ""
-        try:
+        with trying(f"write {path}"):
             self._file: IO[bytes] = os.fdopen(begun(path), "ab", buffering=0)
             if not self._file.tell():
                 self._file.write(HEAD.encode())
-        except OSError as error:
-            raise Failure(f"cannot write {path}: {error.strerror}", 2) from None
 
     def keep(self, who: str, line: str, reply: str) -> None:
         """Adds a row; where that can't be done none is added any more."""

@@ -1,8 +1,7 @@
 """A lock whose turns come in the order in which they were asked for."""
 import collections
 import threading
-from types import TracebackType
-from typing import Deque, Optional, Type
+from typing import Deque
 
 
 class Turns:
@@ -23,12 +22,7 @@ class Turns:
             self._waiting.append(gate)
         gate.acquire()
 
-    def __exit__(
-        self,
-        kind: Optional[Type[BaseException]],
-        error: Optional[BaseException],
-        trace: Optional[TracebackType],
-    ) -> None:
+    def __exit__(self, *error: object) -> None:
         with self._guard:
             if self._waiting:
                 self._waiting.popleft().release()

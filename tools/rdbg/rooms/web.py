@@ -11,26 +11,12 @@ from typing import Any, Callable, Dict, Optional
 from rdbg.client import LOCAL
 from rdbg.commands import is_number
 from rdbg.door import Door, turn_away
-from rdbg.failure import Failure
+from rdbg.failure import Failure, trying
 from rdbg.rooms import web_document
+from rdbg.rooms import web_guard as guard
 from rdbg.rooms.room import Refusal, Room
 from rdbg.rooms.web_follower import Follower, Values
-from rdbg.rooms.web_guard import (
-    HEADERS,
-    JSON,
-    MOST_BODY,
-    MOST_HEAD,
-    SECONDS,
-    Bounded,
-    Denied,
-    Unread,
-    body_of,
-    check_origin,
-    check_token,
-    name_in,
-    one,
-    refusal,
-)
+from rdbg.rooms.web_guard import Denied
 from rdbg.rooms.web_key import Key, new
 from rdbg.rooms.web_pages import Page, Pages, as_json
 
@@ -59,12 +45,12 @@ class Handler(BaseHTTPRequestHandler):
     """One request, and its connection: none stays open for a second one."""
 
     server: "Served"
-    timeout = SECONDS
+    timeout = guard.SECONDS
     server_version, sys_version = "rdbg", ""
 
     def setup(self) -> None:
         super().setup()
-        self.bounded = Bounded(self.connection, MOST_HEAD + MOST_BODY)
+        self.bounded = guard.Bounded(self.connection, guard.MOST_HEAD + guard.MOST_BODY)
         self.rfile = io.BufferedReader(self.bounded)
 
     def do_GET(self) -> None:
@@ -86,47 +72,47 @@ class Handler(BaseHTTPRequestHandler):
     def _let_in(self, method: str) -> None:
         if self.bounded.is_over:
             raise Denied(431, "its head is too long")
-        check_origin(self.headers, self.server.port, method)
+        guard.check_origin(self.headers, self.server.port, method)
         if self.path == "/" and method == "GET":
             self.server.unread.remove(self.connection)
             return self._answer(200, HTML, self.server.page)
         if self.path == ENTRY and method == "POST":
             return self._trade(self._said())
-        name, query = check_token(self.path, self.server.token)
+        name, query = guard.check_token(self.path, self.server.token)
         if method == "POST":
             if name not in SAID and name not in MOVES:
                 raise Denied(404, "there is nothing")
             return self._line(name, self._said())
         self.server.unread.remove(self.connection)
-        if name not in ("room", "events") or one(self.headers, "Sec-Fetch-Site") == "none":
+        if name not in ("room", "events") or guard.one(self.headers, "Sec-Fetch-Site") == "none":
             raise Denied(404, "there is nothing")
         if name == "room":
-            return self._answer(200, JSON, self.server.of_room)
+            return self._answer(200, guard.JSON, self.server.of_room)
         self._events(query)
 
     def _said(self) -> Dict[str, str]:
         """The texts that a request says, which has come then. Raises `Denied`."""
-        said = body_of(self.headers, self.rfile)
+        said = guard.body_of(self.headers, self.rfile)
         self.server.unread.remove(self.connection)
         return said
 
     def _trade(self, said: Dict[str, str]) -> None:
         """Lets a page in for the key of the address. Raises `Denied`."""
         self.server.key.use(said.get("key", ""))
-        self._answer(200, JSON, as_json({"token": self.server.token}))
+        self._answer(200, guard.JSON, as_json({"token": self.server.token}))
 
     def _line(self, name: str, said: Dict[str, str]) -> None:
         """Does what a page says."""
         try:
             page = self.server.pages.of(said.get("page", ""))
             if name in MOVES:
-                return self._answer(200, JSON, self._moves(name, said.get(name, "")))
+                return self._answer(200, guard.JSON, self._moves(name, said.get(name, "")))
             found = SAID[name](page, said.get(name, ""))
         except Refusal as refusal:
             found = {"refused": str(refusal)}
         except Failure as failure:
             found = {"ended": str(failure)}
-        self._answer(200, JSON, as_json(found))
+        self._answer(200, guard.JSON, as_json(found))
 
     def _moves(self, name: str, place: str) -> str:
         """The moves for which a page asks. Raises `Refusal`."""
@@ -138,7 +124,7 @@ class Handler(BaseHTTPRequestHandler):
 
     def _events(self, query: str) -> None:
         """Tells a page what comes, until it goes."""
-        name = name_in(query)
+        name = guard.name_in(query)
         self._head(200, EVENTS)
         try:
             page = self.server.pages.open(name)
@@ -172,7 +158,7 @@ class Handler(BaseHTTPRequestHandler):
     def _head(self, status: int, kind: str) -> None:
         self.send_response(status)
         self.send_header("Content-Type", kind)
-        for name, value in HEADERS:
+        for name, value in guard.HEADERS:
             self.send_header(name, value)
         if kind == HTML:
             self.send_header("Content-Security-Policy", web_document.FRAMES)
@@ -186,10 +172,9 @@ class Handler(BaseHTTPRequestHandler):
         self, code: int, message: Optional[str] = None, explain: Optional[str] = None
     ) -> None:
         """Says why a request isn't answered, and nothing of what it said."""
+        why = "no request" if code == 400 else message or code
         with contextlib.suppress(OSError):
-            self._answer(
-                code, TEXT, f"rdbg: {message or code}\n" if code != 400 else "rdbg: no request\n"
-            )
+            self._answer(code, TEXT, f"rdbg: {why}\n")
 
     def log_message(self, format: str, *args: Any) -> None:
         """Says nothing."""
@@ -205,7 +190,7 @@ class Served(ThreadingMixIn, HTTPServer):
         self.room, self._door = room, door
         # (the one lets a browser in, once; the other one it has for it, and says with each request)
         self.key, self.token = Key(), new()
-        self.unread, self.pages = Unread(), Pages(room)
+        self.unread, self.pages = guard.Unread(), Pages(room)
         self.page = web_document.page()
         self.of_room = as_json(web_document.of_room(room.app_source))
         self.has_ended = False
@@ -237,7 +222,7 @@ class Served(ThreadingMixIn, HTTPServer):
         """Whether a connection is let in, before anything of it is read. Who isn't is told why."""
         why = self._door.why_not(request, "this room")
         if why:
-            turn_away(request, refusal(why))
+            turn_away(request, guard.refusal(why))
         return not why
 
     def process_request(self, request: Any, client_address: Any) -> None:
@@ -270,7 +255,5 @@ class Served(ThreadingMixIn, HTTPServer):
 def serve(room: Room, port: int, door: Optional[Door] = None) -> Served:
     """Serves the pages of a room at a port of this machine, or at a free one where it is 0. Raises
     `Failure` where it can't be had."""
-    try:
+    with trying(f"listen at port {port}"):
         return Served(room, port, door or Door())
-    except OSError as error:
-        raise Failure(f"cannot listen at port {port}: {error.strerror}", 2) from None

@@ -1,5 +1,6 @@
 """The pages that are open, each with a member of the room and with what it is still to be told."""
 import collections
+import contextlib
 import itertools
 import json
 import secrets
@@ -60,10 +61,8 @@ class Page:
             self._wake()
 
     def _wake(self) -> None:
-        try:
+        with contextlib.suppress(OSError):  # (it is awake already, or closed)
             self._waking.send(b".")
-        except OSError:
-            pass  # (it is awake already, or closed)
 
     def hear(self, notice: str) -> None:
         """Is told a notice. Blocks nobody."""

@@ -11,7 +11,7 @@ from typing import Callable, Dict, Iterable, Iterator, List, Optional, Sequence,
 from rdbg import commands, record
 from rdbg.wording import shown
 from rdbg.effects import Move
-from rdbg.failure import Failure
+from rdbg.failure import Failure, trying
 from rdbg.goals.claims import Goal
 from rdbg.goals.reading import NoGoal
 from rdbg.goals.words import read
@@ -22,7 +22,7 @@ from rdbg.page.recorder import Recorder
 from rdbg.replies import Refused
 from rdbg.driving.opening import attach, builtin
 from rdbg.driving.target import Limits, Unable
-from rdbg.files.source import Source
+from rdbg.files.source import Source, standard_input
 from rdbg.tracing.events import Events
 from rdbg.tracing.page import ways
 from rdbg.tracing.page.document import page
@@ -50,15 +50,9 @@ def lines_in(text: str) -> Tuple[Line, ...]:
 def commands_of(path: Optional[str]) -> Tuple[Line, ...]:
     """The lines of a file, or of standard input."""
     if path is None or path == STANDARD_INPUT:
-        try:
-            return lines_in(sys.stdin.buffer.read().decode("utf-8", "replace"))
-        except (AttributeError, OSError):
-            raise Failure("cannot read standard input", 2) from None
-    try:
-        with open(path, encoding="utf-8", errors="replace") as file:
-            return lines_in(file.read())
-    except OSError as error:
-        raise Failure(f"cannot read {path}: {error.strerror}", 2) from None
+        return lines_in(standard_input().decode("utf-8", "replace"))
+    with trying(f"read {path}"), open(path, encoding="utf-8", errors="replace") as file:
+        return lines_in(file.read())
 
 
 def tell_refused(found: Plan, name: str) -> None:

@@ -152,10 +152,7 @@ class Looker:
     def part(self, piece: Piece) -> Part:
         """What there is to see of a piece."""
         target = self._ready(piece)
-        for _ in target.session.tell_all(
-            it.text for it in self._run.lines[self._told : piece.told]
-        ):
-            pass
+        target.tell_all(it.text for it in self._run.lines[self._told : piece.told])
         self._told = piece.told
         return look_through(target, piece.first, piece.last)
 
