@@ -32,7 +32,9 @@ def edit_of(before: Look, after: Look) -> Optional[str]:
     found: List[str] = []
     for name, now in after.tasks.items():
         was = before.tasks.get(name, now)
-        if has_moved(was, now) or any(a.state != b.state for a, b in zip(was.notes, now.notes)):
+        # (no edit wakes a task, or has it leave or take a core)
+        kept = [(it.phase, it.core, [note.state for note in it.notes]) for it in (was, now)]
+        if kept[0] != kept[1]:
             return None
         if was.pc != now.pc:
             found.append(f"poke pc {name} {now.pc}")
@@ -50,11 +52,6 @@ def edit_of(before: Look, after: Look) -> Optional[str]:
         name, task = next(iter(after.tasks.items()))
         found = [f"poke reg {name} 0 {task.registers[0]}"]
     return found[0] if len(found) == 1 and found[0] else None
-
-
-def has_moved(was: replies.Task, now: replies.Task) -> bool:
-    """Whether a task was woken, or left or took a core, which no edit does."""
-    return (was.phase, was.core) != (now.phase, now.core)
 
 
 def edit_of_object(was: Object, now: Object) -> str:

@@ -4,6 +4,7 @@ from typing import Dict, List, Mapping, Optional, Sequence, Tuple, Union
 
 from rdbg import kinds, replies
 from rdbg.application import Application
+from rdbg.wording import counted
 
 Object = Union[replies.Queue, replies.QueueSet, replies.Stream, replies.Messages, replies.Group]
 # An object's kind, as `show` names it, and its name: two of one kind have two names.
@@ -30,6 +31,17 @@ class Names:
     def of(cls, application: Application) -> "Names":
         """All that an application has."""
         return cls(tuple(it.name for it in application.tasks), tuple(application.objects()))
+
+    def of_kind(self, kind: str) -> List[str]:
+        """The names of a kind, as `show` has it."""
+        if kind == kinds.TASK.word:
+            return list(self.tasks)
+        return [name for other, name in self.objects if other == kind]
+
+    def kinds_of(self, name: str) -> List[str]:
+        """The kinds of which there is a thing of this name: `task`, `queue`, .."""
+        tasks = [kinds.TASK.word] if name in self.tasks else []
+        return tasks + [kind for kind, other in self.objects if other == name]
 
     def lines(self) -> List[str]:
         """The lines whose replies make a look."""
@@ -80,8 +92,7 @@ def holding(it: Object) -> str:
     if isinstance(it, replies.Stream):
         return f"{it.held}/{it.size} bytes"
     if isinstance(it, replies.Messages):
-        count = len(it.messages)
-        return f"{count} message{'' if count == 1 else 's'}, {it.held}/{it.size} bytes"
+        return f"{counted(len(it.messages), 'message')}, {it.held}/{it.size} bytes"
     return f"bits {it.bits}"
 
 

@@ -153,8 +153,8 @@ class Target:
 
     def instruction(self, task: str, pc: int) -> Optional[str]:
         """An instruction as rdbg reads it, where it is known."""
-        found = self.application.task(task) if self.application else None
-        return found.code[pc].text if found and pc < len(found.code) else None
+        found = self.application.instruction(task, pc) if self.application else None
+        return found.text if found else None
 
     def _seen(self, line: str, reply: str) -> None:
         if self.echo is not None:

@@ -3,6 +3,7 @@ import dataclasses
 from typing import Callable, Iterator, List, Optional, Sequence, Tuple
 
 from rdbg import record, replies
+from rdbg.application import Application
 from rdbg.by_hand import could_be
 from rdbg.effects import Move, move_between
 from rdbg.looks import Look, Names
@@ -19,15 +20,15 @@ def between(target: Target, before: Look, after: Look) -> Move:
     known = target.by_hand.get(after.place)
     if known is not None and not target.is_own and not could_be(before, after, known):
         known = None  # (others have made another move there since)
-    return written(target, move_between(before, after, target.instruction, known))
+    return written(target.application, move_between(before, after, target.instruction, known))
 
 
-def written(target: Target, move: Move) -> Move:
+def written(application: Optional[Application], move: Move) -> Move:
     """A move whose instruction is as it is written in the file."""
-    script = target.application.task(move.task) if target.application and move.task else None
-    if script is None or move.pc is None or move.pc >= len(script.code):
+    if application is None or move.task is None or move.pc is None:
         return move
-    return dataclasses.replace(move, written=script.code[move.pc].told)
+    found = application.instruction(move.task, move.pc)
+    return dataclasses.replace(move, written=found.told) if found else move
 
 
 def lines_for(count: int, names: Names) -> int:

@@ -1,15 +1,13 @@
 """The goal `changes`: a move after which an object holds something else than before it."""
 from typing import Dict, List, Optional, Tuple, cast
 
-from rdbg import kinds, record, replies
+from rdbg import kinds, replies
 from rdbg.looks import KINDS, Object, content_of
 from rdbg.goals.conditions import AMOUNTS, Condition
-from rdbg.goals.ways import Way, latest, nearest
-from rdbg.driving.target import Target
+from rdbg.goals.ways import FIRST_CHUNK, MOST_CHUNK, Way, latest, looked, nearest
+from rdbg.driving.target import Target, read
 from rdbg.driving.walk import Walk
 
-# So many places are looked at one by one at first, and twice as many each time, up to this.
-FIRST_CHUNK, MOST_CHUNK = 8, 256
 # Of each kind of object what its reply is.
 REPLY_OF = {kind: reply for reply, kind in KINDS.items()}
 # The instructions that can change an object and leave how much it holds.
@@ -48,40 +46,34 @@ class Changes(Way):
         return Condition(amount, self.name, number=number).others(earlier=False)
 
     def _look(self, walk: Walk) -> Object:
-        return self._read(walk.target.tell(self.view))
+        return self._known(read(walk.target.tell(self.view)))
 
     def next(self, walk: Walk, limit: int) -> Optional[int]:
         start = walk.place
         found = nearest(walk, self._amounts(self._look(walk)), limit)
         if not self.hides:
             return found
-        most = limit if found is None else found - start - 1
-        scanned = self._scan(walk, most)
+        scanned = self._scan(walk, start + limit if found is None else found - 1)
         return found if scanned is None else scanned
 
-    def _scan(self, walk: Walk, limit: int) -> Optional[int]:
-        """The first place within so many moves where it isn't as it is here, by a look at each."""
-        content, chunk, left = content_of(self._look(walk)), FIRST_CHUNK, limit
-        while left > 0:
+    def _scan(self, walk: Walk, end: int) -> Optional[int]:
+        """The first place up to one, or back to one, where it isn't as it is here, by a look at
+        each."""
+        content, chunk = content_of(self._look(walk)), FIRST_CHUNK
+        while True:
             walk.interrupt.check()
-            size = min(chunk, left)
-            walk.target.afford(2 * size)
             start = walk.place
-            answers = walk.target.tell_all(["forward 1", self.view] * size)
-            for step in range(size):
-                if answers[2 * step].startswith("no "):
-                    walk.wall = answers[2 * step][3:]
-                    return None
-                if content_of(self._read(answers[2 * step + 1])) != content:
-                    return start + step + 1
-            left, chunk = left - size, min(2 * chunk, MOST_CHUNK)
-        return None
+            for place, (seen,) in looked(walk, end, chunk, [self.view]):
+                if content_of(self._known(seen)) != content:
+                    return place
+            if abs(walk.place - start) < chunk:
+                return None
+            chunk = min(2 * chunk, MOST_CHUNK)
 
-    def _read(self, answer: str) -> Object:
-        found = replies.read(answer)
-        if not isinstance(found, REPLY_OF[self.kind]):
-            raise replies.Unreadable(answer)
-        return cast(Object, found)
+    def _known(self, seen: replies.Reply) -> Object:
+        if not isinstance(seen, REPLY_OF[self.kind]):
+            raise replies.Unreadable(str(seen))
+        return cast(Object, seen)
 
     def last(self, walk: Walk) -> Optional[int]:
         if walk.place == 0:
@@ -92,9 +84,9 @@ class Changes(Way):
         other = latest(walk, amounts) if amounts else None
         first = 0 if other is None else other + 1
         if self.hides or self._was_edited(first, place):
-            scanned = self._scan_back(walk, first)
+            scanned = self._scan(walk, first)
             if scanned is not None:
-                return scanned
+                return scanned + 1
         return None if other is None else other + 1
 
     def _was_edited(self, first: int, last: int) -> bool:
@@ -105,19 +97,3 @@ class Changes(Way):
             return True
         made = self.target.by_hand.items()
         return any(it.line.split()[2] == self.name for place, it in made if first < place <= last)
-
-    def _scan_back(self, walk: Walk, first: int) -> Optional[int]:
-        """The last place above `first` up to this one where it isn't as it was before the move, by
-        a look at each."""
-        content, chunk = content_of(self._look(walk)), FIRST_CHUNK
-        while walk.place > first:
-            walk.interrupt.check()
-            size = min(chunk, walk.place - first)
-            walk.target.afford(2 * size)
-            start = walk.place
-            answers = walk.target.tell_all([record.back(1), self.view] * size)
-            for step in range(size):
-                if content_of(self._read(answers[2 * step + 1])) != content:
-                    return start - step
-            chunk = min(2 * chunk, MOST_CHUNK)
-        return None

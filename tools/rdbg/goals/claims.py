@@ -233,9 +233,7 @@ class Runs(OfTask):
 class OfAll(Goal):
     """What is claimed of all tasks together."""
 
-    @property
-    def is_lasting(self) -> bool:
-        return True
+    is_lasting = True
 
     def names(self, there: Names) -> Names:
         return Names(there.tasks)
@@ -251,9 +249,7 @@ def others_of(tasks: Sequence[Task], earlier: bool) -> List[Condition]:
 class SomeFailed(OfAll):
     """Some task has failed."""
 
-    @property
-    def text(self) -> str:
-        return "failed"
+    text = "failed"
 
     def is_so(self, look: Look) -> bool:
         return any(it.phase.word == "failed" for it in look.tasks.values())
@@ -269,9 +265,7 @@ class SomeFailed(OfAll):
 class Finished(OfAll):
     """All tasks have ended."""
 
-    @property
-    def text(self) -> str:
-        return "finished"
+    text = "finished"
 
     def is_so(self, look: Look) -> bool:
         return all(it.phase.word == "ended" for it in look.tasks.values())

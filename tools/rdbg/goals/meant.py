@@ -6,6 +6,7 @@ from rdbg import commands, kinds
 from rdbg.goals import reading
 from rdbg.goals.reading import NoGoal
 from rdbg.goals.scope import Scope
+from rdbg.looks import Names
 from rdbg.near import nearest
 
 # So many words are mended at the most, and so many names are said.
@@ -33,7 +34,7 @@ class Meant(NoGoal):
 def there_are(wanted: str, scope: Scope) -> str:
     """Which names there are where one is wanted."""
     kind = next((word for word, what in reading.NAME.items() if what == wanted), None)
-    names = [] if kind is None else scope.of_kind(kind)
+    names = [] if kind is None else scope.names.of_kind(kind)
     shown = ", ".join(names[:MOST_SAID]) + (", .." if len(names) > MOST_SAID else "")
     if kind is None or scope.application is None:
         return ""
@@ -93,7 +94,7 @@ def single(word: str, wanted: str, scope: Scope) -> Optional[str]:
     if wanted == reading.PLACE:
         return nearest(small, (*reading.PLACES, *reading.SIDES, reading.NOTE))
     kind = next((it for it, what in reading.NAME.items() if what == wanted), None)
-    return None if kind is None else near(small, scope.of_kind(kind))
+    return None if kind is None else near(small, scope.names.of_kind(kind))
 
 
 def near(word: str, others: Iterable[str]) -> Optional[str]:
@@ -111,10 +112,10 @@ def as_number(word: str) -> Optional[str]:
     return str(commands.MOST_NUMBER) if word in ("max", "portmax_delay") else None
 
 
-def as_claim(words: List[str], at: int, scope: Scope) -> Optional[List[str]]:
-    """A claim that begins with this word: one that is near, or what a name lacks before it."""
+def with_subject(words: List[str], at: int, names: Names) -> Optional[List[str]]:
+    """Words in which a name stands for a claim of it, with what it lacks before it."""
     word, behind = words[at].lower(), (words[at + 1] if at + 1 < len(words) else "")
-    for kind in scope.kinds_of(word):
+    for kind in names.kinds_of(word):
         amount = kinds.OF_WORD[kind].amount
         if amount and behind[:1] in ("=", "<", ">", "!", "&"):
             return [*words[:at], amount, word, *words[at + 1 :]]
@@ -124,12 +125,18 @@ def as_claim(words: List[str], at: int, scope: Scope) -> Optional[List[str]]:
             return [*words[:at], behind, word, *words[at + 2 :]]
         if kind == kinds.TASK.word and re.fullmatch("r[0-7]", behind):
             return [*words[:at], "reg", word, behind[1:], *words[at + 2 :]]
-    meant = near(word, (*reading.CLAIMS, *reading.JOINING))
-    return None if meant is None else [*words[:at], meant, *words[at + 1 :]]
+    return None
 
 
-def as_comparison(words: List[str], at: int) -> Optional[List[str]]:
-    """An operator of another language as one that there is."""
+def as_claim(words: List[str], at: int, scope: Scope) -> Optional[List[str]]:
+    """A claim that begins with this word: one that is near, or what a name lacks before it."""
+    found = with_subject(words, at, scope.names)
+    meant = near(words[at].lower(), (*reading.CLAIMS, *reading.JOINING))
+    return found or (None if meant is None else [*words[:at], meant, *words[at + 1 :]])
+
+
+def with_operator(words: List[str], at: int) -> Optional[List[str]]:
+    """Words with `==`, `>=` or `<=` as an operator that there is."""
     word, number = words[at], (words[at + 1] if at + 1 < len(words) else "")
     if word == "==":
         return [*words[:at], "=", *words[at + 1 :]]
@@ -137,10 +144,15 @@ def as_comparison(words: List[str], at: int) -> Optional[List[str]]:
         value = int(number) + (1 if word == "<=" else -1)
         if value >= 0:
             return [*words[:at], word[0], str(value), *words[at + 2 :]]
-    first = claim_before(words, at)
-    if word == "!=" and first is not None:
-        return [*words[:first], "not", *words[first:at], "=", *words[at + 1 :]]
     return None
+
+
+def as_comparison(words: List[str], at: int) -> Optional[List[str]]:
+    """An operator of another language as one that there is."""
+    first = claim_before(words, at)
+    if words[at] == "!=" and first is not None:
+        return [*words[:first], "not", *words[first:at], "=", *words[at + 1 :]]
+    return with_operator(words, at)
 
 
 def claim_before(words: Sequence[str], at: int) -> Optional[int]:

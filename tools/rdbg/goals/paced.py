@@ -42,11 +42,7 @@ class PacedWalk(Walk):
     made again where it goes on from there."""
 
     def __init__(
-        self,
-        target: Target,
-        interrupt: Break,
-        pace: TickPace,
-        interrupts: Sequence[Interrupt] = (),
+        self, target: Target, interrupt: Break, pace: TickPace, interrupts: Sequence[Interrupt] = ()
     ) -> None:
         super().__init__(target, interrupt)
         self.tick_pace, self.interrupts = pace, tuple(interrupts)

@@ -161,10 +161,10 @@ class Reader:
             raise self._wanted(what)
         return value
 
-    def _named(self, kind: kinds.Kind) -> str:
+    def named(self, kind: kinds.Kind) -> str:
         """A name of a kind; whatever has the form of one where the application isn't known."""
         word = self._next(NAME[kind.word])
-        is_there = word in self.scope.of_kind(kind.word)
+        is_there = word in self.scope.names.of_kind(kind.word)
         if not is_there and (self.scope.application is not None or not commands.is_name(word)):
             raise self._wanted(NAME[kind.word])
         return word
@@ -194,16 +194,16 @@ class Reader:
         """What stands before an operator."""
         kind = kinds.OF_AMOUNT.get(word)
         if kind is not None:
-            return Condition(word, self._named(kind))
+            return Condition(word, self.named(kind))
         if word == "tick":
             return Condition(word)
-        task = self._named(kinds.TASK)
+        task = self.named(kinds.TASK)
         bounds = {"reg": (REGISTERS, REGISTER), NOTE: (self.scope.entries, INDEX)}
         return Condition(word, task, self._below(*bounds[word]) if word in bounds else 0)
 
     def _condition(self, word: str) -> Goal:
         if word == "phase":
-            task = self._named(kinds.TASK)
+            task = self.named(kinds.TASK)
             if self._next(PHASE) not in commands.PHASES:
                 raise self._wanted(PHASE)
             return claims.Holds(Condition(word, task, phase=self.words[self.at - 1]))
@@ -220,7 +220,7 @@ class Reader:
 
     def in_phase(self, word: str) -> Goal:
         """That a task is in a phase."""
-        return claims.Holds(Condition("phase", self._named(kinds.TASK), phase=word))
+        return claims.Holds(Condition("phase", self.named(kinds.TASK), phase=word))
 
     def failed(self) -> Goal:
         """That this task has failed, or some task."""
@@ -228,20 +228,20 @@ class Reader:
 
     def runs(self) -> Goal:
         """That a task is on a core."""
-        return claims.Runs(self._named(kinds.TASK))
+        return claims.Runs(self.named(kinds.TASK))
 
     def sleeps(self) -> Goal:
         """That a task waits without a deadline."""
-        return claims.Waits(self._named(kinds.TASK), is_endless=True)
+        return claims.Waits(self.named(kinds.TASK), is_endless=True)
 
     def stands(self) -> Goal:
         """That a task is at an instruction."""
-        task = self._named(kinds.TASK)
+        task = self.named(kinds.TASK)
         return claims.At(task, self._below(self.scope.instructions(task), INSTRUCTION, task))
 
     def waits(self) -> Goal:
         """That a task waits, wherever or at one place."""
-        task = self._named(kinds.TASK)
+        task = self.named(kinds.TASK)
         if not self._is_at_operand():
             return claims.Waits(task)
         first = self.at
@@ -257,13 +257,13 @@ class Reader:
         if word not in PLACES:
             raise self._wanted(PLACE)
         kind, place = PLACES[word]
-        return f"{place}:{self._named(kind)}"
+        return f"{place}:{self.named(kind)}"
 
     def _is_message(self) -> bool:
         """Whether the next word is the name of a message buffer, and of no stream buffer."""
         word = self.words[self.at] if self.at < len(self.words) else ""
-        is_stream = word in self.scope.of_kind(kinds.STREAM.word)
-        is_message = word in self.scope.of_kind(kinds.MESSAGE.word)
+        is_stream = word in self.scope.names.of_kind(kinds.STREAM.word)
+        is_message = word in self.scope.names.of_kind(kinds.MESSAGE.word)
         if is_stream and is_message:
             self.at += 1
             raise self._wanted(EITHER)

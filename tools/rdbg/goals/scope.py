@@ -1,7 +1,7 @@
 """What a goal can name: tasks and objects, entries and instructions, and of a text in lines its labels
 and constants."""
 import dataclasses
-from typing import Dict, List, Mapping, Optional, Sequence
+from typing import Dict, Mapping, Optional, Sequence
 
 from rdbg.application import Application
 from rdbg.commands import MOST_NUMBER
@@ -32,17 +32,6 @@ class Scope:
         if named is None:
             return cls(names, found)
         return cls(names, found, named.constants, named.labels)
-
-    def of_kind(self, kind: str) -> List[str]:
-        """The names of a kind, as `show` has it."""
-        if kind == "task":
-            return list(self.names.tasks)
-        return [name for other, name in self.names.objects if other == kind]
-
-    def kinds_of(self, name: str) -> List[str]:
-        """The kinds of which there is a thing of this name."""
-        tasks = ["task"] if name in self.names.tasks else []
-        return tasks + [kind for kind, other in self.names.objects if other == name]
 
     @property
     def entries(self) -> int:

@@ -38,7 +38,7 @@ def of_move(words: Sequence[str], target: Target, scope: Scope) -> Tuple[Way, in
     if words[2:] and words[1] in OBJECTS and not commands.is_count(words[2]):
         return Changes(target, words[1], named(words, 2, scope, words[1])), 3
     name = words[1] if words[1:] else ""
-    there = [kind for kind in scope.kinds_of(name) if kind != kinds.TASK.word]
+    there = [kind for kind in scope.names.kinds_of(name) if kind != kinds.TASK.word]
     if not there:
         raise NoGoal(words, 1 if words[1:] else None, "the name of an object is wanted there")
     return Changes(target, there[0], name), 2
@@ -46,10 +46,9 @@ def of_move(words: Sequence[str], target: Target, scope: Scope) -> Tuple[Way, in
 
 def named(words: Sequence[str], at: int, scope: Scope, kind: str) -> str:
     """The name of a kind that stands there. Raises `NoGoal`."""
-    wanted = reading.NAME[kind]
-    if at >= len(words):
-        raise NoGoal(words, None, wanted)
-    is_there = words[at] in scope.of_kind(kind)
-    if not is_there and (scope.application is not None or not commands.is_name(words[at])):
-        raise with_meant(NoGoal(words, at, wanted), scope)
-    return words[at]
+    reader = reading.Reader(words, scope)
+    reader.at = at
+    try:
+        return reader.named(kinds.OF_WORD[kind])
+    except NoGoal as wrong:
+        raise (wrong if wrong.at is None else with_meant(wrong, scope)) from None

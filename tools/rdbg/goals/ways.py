@@ -4,7 +4,7 @@ A goal is found by small runs and looks between. A way says the place of the ver
 the target anywhere that a run from where it began came through.
 """
 import dataclasses
-from typing import List, Optional, Sequence
+from typing import Iterator, List, Optional, Sequence, Tuple
 
 from rdbg import record, replies
 from rdbg.by_hand import INTERRUPT
@@ -55,6 +55,24 @@ def look_at(walk: Walk, goal: Goal) -> Look:
     return walk.target.look(goal.names(walk.target.names))
 
 
+def looked(
+    walk: Walk, end: int, most: int, views: Sequence[str]
+) -> Iterator[Tuple[int, List[replies.Reply]]]:
+    """Some of the places up to one, or back to one, so many at the most, each with what these lines
+    are answered there. The target ends behind the last; at a wall no more are told."""
+    start, is_later = walk.place, end > walk.place
+    line = "forward 1" if is_later else record.back(1)
+    size, width = min(most, abs(end - start)), len(views) + 1
+    walk.target.afford(width * size)
+    answers = walk.target.tell_all([line, *views] * size)
+    for step in range(size):
+        moved, *seen = answers[step * width : (step + 1) * width]
+        if moved.startswith("no "):
+            walk.wall = moved[3:]
+            return
+        yield start + (step + 1 if is_later else -step - 1), [read(each) for each in seen]
+
+
 def is_so(target: Target, goal: Goal) -> bool:
     """Whether a goal holds where the target stands."""
     if isinstance(goal, Holds):
@@ -95,7 +113,7 @@ class Search:
             look, here = look_at(walk, self.goal), walk.place
             turns = None if self.goal.is_so(look) else self.goal.turns(look, earlier=False)
             if turns is None or self._short >= TURNS:
-                place = self._scan(end, "forward 1")
+                place = self._scan(end)
                 if place is not None or walk.place == here:
                     return place
                 continue
@@ -125,7 +143,7 @@ class Search:
                 return self._before(base, here)
             turns = self.goal.turns(look, earlier=True)
             if turns is None or self._short >= TURNS:
-                place = self._scan(base, record.back(1))
+                place = self._scan(base)
                 if place is not None:
                     return place
                 continue
@@ -142,24 +160,13 @@ class Search:
         """Takes note of how far it was to a place that could have been it."""
         self._short = self._short + 1 if count < NEAR else 0
 
-    def _scan(self, end: int, line: str) -> Optional[int]:
+    def _scan(self, end: int) -> Optional[int]:
         """Looks at some of the places up to one, or back to one, one by one. The first of them where
         the goal holds; the target ends behind the last."""
-        walk, target = self.walk, self.walk.target
-        start, sign = walk.place, 1 if end > walk.place else -1
-        size = min(self._chunk, abs(end - start))
-        self._chunk, self._short = min(2 * self._chunk, MOST_CHUNK), self._short // 2
-        views = self._names.lines()
-        width = len(views) + 1
-        target.afford(width * size)
-        answers = target.tell_all([line, *views] * size)
-        for step in range(size):
-            moved, *seen = answers[step * width : (step + 1) * width]
-            if moved.startswith("no "):
-                walk.wall = moved[3:]
-                return None
-            place = start + sign * (step + 1)
-            if self.goal.is_so(Look.of(place, [read(each) for each in seen])):
+        most = self._chunk
+        self._chunk, self._short = min(2 * most, MOST_CHUNK), self._short // 2
+        for place, seen in looked(self.walk, end, most, self._names.lines()):
+            if self.goal.is_so(Look.of(place, seen)):
                 return place
         return None
 

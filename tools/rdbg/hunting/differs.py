@@ -87,13 +87,11 @@ class Differs:
     def _own(self) -> Own:
         """`forward`'s own order."""
         whole = self._run(())
-        resting = () if is_stuck(whole.look) else self._resting()
+        tasks = () if is_stuck(whole.look) else self.stage.names.tasks
+        resting = tuple(it for it in tasks if rests(self.stage, it))
         ends = [self._run(way) for way in ways(self.stage)]
         self._ends = {it.views for it in ends}
         return Own(whole, tuple(ends), resting)
-
-    def _resting(self) -> Tuple[str, ...]:
-        return tuple(it for it in self.stage.names.tasks if rests(self.stage, it))
 
     def _run(self, way: Sequence[Tuple[str, ...]]) -> Find:
         """What `forward` comes to, with these interrupts behind it, each where all rests again."""

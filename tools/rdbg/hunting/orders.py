@@ -10,6 +10,7 @@ from rdbg.driving.target import Target, read
 from rdbg.failure import Failure
 from rdbg.hunting.interrupts import WORD, Handler, first_of
 from rdbg.replies import Cores
+from rdbg.wording import counted
 
 TICK = "tick"
 
@@ -48,8 +49,7 @@ class Run:
             return f"an interrupt comes: {Handler(self.calls).text}"
         if self.line == TICK:
             return "a tick comes early"
-        moves = f"{self.count} move{'' if self.count == 1 else 's'}"
-        return f"core {self.line.split()[1]} is {moves} ahead"
+        return f"core {self.line.split()[1]} is {counted(self.count, 'move')} ahead"
 
     def lines(self) -> List[str]:
         """The lines that make it."""

@@ -1,5 +1,4 @@
 """What the moves of a room did, found by looks before and after them."""
-import dataclasses
 from typing import Dict, List, Optional, Sequence
 
 from rdbg import record, replies
@@ -38,17 +37,14 @@ class Sight:
             self._by_hand[moved.at] = ByHand(" ".join(command.words), moved.answer)
 
     def _instruction(self, task: str, pc: int) -> Optional[str]:
-        found = self.application.task(task)
-        return found.code[pc].text if found and pc < len(found.code) else None
+        found = self.application.instruction(task, pc)
+        return found.text if found else None
 
     def move(self, before: Look, after: Look) -> Move:
         """The move between two looks, with its instruction as its file has it."""
         known = self._by_hand.get(after.place)
         found = move_between(before, after, self._instruction, known)
-        script = self.application.task(found.task) if found.task else None
-        if script is None or found.pc is None or found.pc >= len(script.code):
-            return found
-        return dataclasses.replace(found, written=script.code[found.pc].told)
+        return trail.written(self.application, found)
 
     def effect(self, command: Command, before: Look, after: Look) -> str:
         """What a line of one move did, in a few words; empty where the line says all."""

@@ -68,8 +68,7 @@ def of_symbol(shell: "Shell", symbol: str, begun: str) -> List[str]:
     if symbol == "OBJECT":
         return [name for _, name in target.names.objects]
     if symbol in kinds.OF_SYMBOL:
-        wanted = kinds.OF_SYMBOL[symbol].word
-        return [name for kind, name in target.names.objects if kind == wanted]
+        return target.names.of_kind(kinds.OF_SYMBOL[symbol].word)
     if symbol == "C":
         cores = target.application.cores if target.application else 0
         return [*(str(core) for core in range(cores)), *target.names.tasks]

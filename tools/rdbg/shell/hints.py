@@ -45,10 +45,10 @@ def amount(number: int, noun: str) -> str:
 def missing_name(shell: "Shell", kind: str, name: str, is_asked: bool) -> str:
     """Why there is nothing of this kind and name, and what there is."""
     names = shell.target.names
-    of_kind = list(names.tasks) if kind == "task" else [n for k, n in names.objects if k == kind]
+    of_kind = names.of_kind(kind)
     if name in of_kind:
         return ""
-    others = [k for k, n in names.objects if n == name] + (["task"] if name in names.tasks else [])
+    others = names.kinds_of(name)
     if others and is_asked:
         of_task = f"`phase {name} WORD`, `pc {name} OP N`, `reg {name} R OP N`"
         word = kinds.OF_WORD[others[0]].amount
@@ -117,11 +117,7 @@ BAD_EDITS = {
     "item": "the item must be there, 0 being the front one, and have as many bytes as before",
     "byte": "the byte must be there, 0 being the front one, and a value is at most 255",
 }
-
-
 Hint = Callable[["Shell", str], str]
-
-
 REFUSALS: Dict[str, Hint] = {
     "Syntax": syntax,
     "NoSuch": lambda shell, line: no_such(shell, line),
@@ -130,8 +126,6 @@ REFUSALS: Dict[str, Hint] = {
     "NothingUndone": nothing_undone,
     "BadEdit": bad_edit,
 }
-
-
 SENTENCES: Dict[str, str] = {
     "TickLimit": "the tick can't grow any more; `back` takes ticks back",
     "NoIsr": 'the application has profile 1: with `"profile": 2` in its file it has interrupts',

@@ -67,18 +67,9 @@ def lines_of(shell: "Shell") -> List[str]:
     return [move.line for move in found]
 
 
-def save(shell: "Shell", words: Sequence[str]) -> None:
-    """`save FILE`: the moves as lines that rdbg replays, and whether it does."""
-    save_to(shell, words, is_anew=False)
-
-
-def save_anew(shell: "Shell", words: Sequence[str]) -> None:
-    """`save! FILE`: the same, onto a file that is there."""
-    save_to(shell, words, is_anew=True)
-
-
-def save_to(shell: "Shell", words: Sequence[str], is_anew: bool) -> None:
-    """Saves the moves, and says whether rdbg replays them."""
+def save(shell: "Shell", words: Sequence[str], is_anew: bool = False) -> None:
+    """`save FILE`: the moves as lines that rdbg replays, and whether it does; `save! FILE`, onto a
+    file that is there."""
     if len(words) != 1:
         raise Unable("save to which file? `save found.commands`")
     file = words[0]

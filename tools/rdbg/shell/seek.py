@@ -14,6 +14,7 @@ from rdbg.goals.ways import AnyOf, To, Way, is_so, is_stuck
 from rdbg.instructions import form_of
 from rdbg.replies import Refused
 from rdbg.shell.views import check_instruction, phase_text, script_of
+from rdbg.wording import counted
 
 if TYPE_CHECKING:
     from rdbg.shell.shell import Shell
@@ -76,8 +77,8 @@ def check_instructions(shell: "Shell", condition: Optional[conditions.Condition]
         check_instruction(shell, condition.name, least)
 
 
-def run_to(shell: "Shell", words: Sequence[str], becoming: bool) -> None:
-    """Runs to a goal."""
+def run_to(shell: "Shell", words: Sequence[str], becoming: bool = True) -> None:
+    """Runs to a goal; `until!`."""
     if not words:
         raise Unable("until what? `until! COND [COUNT]`, `until asleep`; help until! says more")
     goal, count = goal_of(shell, words, becoming)
@@ -160,7 +161,7 @@ def gave_up(shell: "Shell", ended: Exception, start: int) -> None:
 def said(shell: "Shell", goal: Way, how: str, start: int, lines: int) -> None:
     """Says where a goal was met, or that it wasn't, and how many lines that took."""
     asked = shell.target.lines - lines
-    by = f"({asked} line{'' if asked == 1 else 's'} asked)"
+    by = f"({counted(asked, 'line')} asked)"
     here = shell.target.place
     none = f"'{goal.text}' wasn't met" if goal.text else "no watch, failed or stuck was met"
     if how == "met":
@@ -172,7 +173,7 @@ def said(shell: "Shell", goal: Way, how: str, start: int, lines: int) -> None:
         shell.say(f"at {start} still: {none} before {by}")
     else:
         wall = f", and there are no more: {shell.walk.wall}" if shell.walk.wall else ""
-        moves = f"{here - start} move{'' if here == start + 1 else 's'}"
+        moves = counted(here - start, "move")
         shell.say(f"at {here} limit: {none} in {moves}{wall} {by}")
 
 
@@ -254,11 +255,6 @@ def is_rdbgs(words: Sequence[str]) -> bool:
     """Whether these words are a condition of rdbg's, or a watch, and nothing behind it."""
     is_watch = len(words) == 1 and commands.is_watch(words[0])
     return is_watch or conditions.read(words) is not None
-
-
-def until_becomes(shell: "Shell", words: Sequence[str]) -> None:
-    """`until!`."""
-    run_to(shell, words, True)
 
 
 def back(shell: "Shell", words: Sequence[str]) -> None:

@@ -128,9 +128,8 @@ class Shell:
 
     def in_its_names(self, text: str) -> str:
         """A text whose examples name a task and a queue that there are."""
-        names = self.target.names
-        queues = [name for kind, name in names.objects if kind == kinds.QUEUE.word]
-        for word, there in (("worker", names.tasks), ("jobs", queues)):
+        for word, kind in (("worker", kinds.TASK), ("jobs", kinds.QUEUE)):
+            there = self.target.names.of_kind(kind.word)
             if there and word not in there:
                 text = re.sub(rf"\b{word}\b", there[0], text)
         return text

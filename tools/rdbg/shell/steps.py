@@ -10,6 +10,7 @@ from rdbg.shell import seek
 from rdbg.driving import trail
 from rdbg.driving.target import Unable
 from rdbg.shell.views import check_instruction, check_name, phase_text
+from rdbg.wording import counted
 
 if TYPE_CHECKING:
     from rdbg.shell.shell import Shell
@@ -84,7 +85,7 @@ def tell_ticks(shell: "Shell", first: int, last: int) -> None:
         shell.say(move.row(len(str(last))))
     others = len(found) - len(told)
     if others:
-        shell.say(f"{others} tick{'' if others == 1 else 's'} woke and turned nobody")
+        shell.say(f"{counted(others, 'tick')} woke and turned nobody")
 
 
 def interrupt(shell: "Shell", words: Sequence[str]) -> None:

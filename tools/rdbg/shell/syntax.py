@@ -4,6 +4,7 @@ from typing import TYPE_CHECKING, Callable, List, Optional, Sequence, Tuple
 
 from rdbg import commands, kinds, record
 from rdbg.goals import words as goal_words
+from rdbg.goals.meant import with_operator, with_subject
 from rdbg.goals.reading import NoGoal
 from rdbg.near import nearest
 from rdbg.shell.gdb import HINTS
@@ -13,12 +14,8 @@ if TYPE_CHECKING:
     from rdbg.shell.shell import Shell
 
 Words = List[str]
-
-
 # A repair of words: what they should be, and why; none where there is nothing to repair.
 Repair = Callable[["Shell", Words], Optional[Tuple[Words, str]]]
-
-
 COUNTS = {"forward": "100", record.BACK: "1", record.REDO: "1"}
 
 
@@ -44,14 +41,11 @@ def spaces(shell: "Shell", words: Words) -> Optional[Tuple[Words, str]]:
 def operators(shell: "Shell", words: Words) -> Optional[Tuple[Words, str]]:
     """There are three operators alone."""
     for at, word in enumerate(words):
-        number = words[at + 1] if at + 1 < len(words) else ""
-        if word == "==":
-            return [*words[:at], "=", *words[at + 1 :]], "== is ="
-        if word in (">=", "<=") and commands.is_number(number):
-            value = int(number) + (1 if word == "<=" else -1)
-            if value >= 0:
-                reason = f"{word} {number} is {word[0]} {value}"
-                return [*words[:at], word[0], str(value), *words[at + 2 :]], reason
+        found = with_operator(words, at)
+        if found is not None:
+            count = 1 if word == "==" else 2  # (of others the number is another one, too)
+            was, now = (" ".join(it[at : at + count]) for it in (words, found))
+            return found, f"{was} is {now}"
     return None
 
 
@@ -105,24 +99,8 @@ def count(shell: "Shell", words: Words) -> Optional[Tuple[Words, str]]:
 def amounts(shell: "Shell", words: Words) -> Optional[Tuple[Words, str]]:
     """A condition begins with what is looked at."""
     at = 2 if words[:2] == ["back", "until"] else 1
-    name, behind = (words[at : at + 2] + ["", ""])[:2]
-    names = shell.target.names
-    for of_kind, other in names.objects:
-        amount = kinds.OF_WORD[of_kind].amount
-        if other == name and behind in commands.OPERATORS and amount:
-            return [*words[:at], amount, *words[at:]], AMOUNT_FIRST
-    if name not in names.tasks:
-        return None
-    if behind in commands.PHASES:
-        return [*words[:at], "phase", *words[at:]], AMOUNT_FIRST
-    if behind in ("pc", "phase"):
-        return [*words[:at], behind, name, *words[at + 2 :]], AMOUNT_FIRST
-    if re.fullmatch("r[0-7]", behind):
-        return [*words[:at], "reg", name, behind[1:], *words[at + 2 :]], AMOUNT_FIRST
-    return None
-
-
-AMOUNT_FIRST = "a condition begins with what is looked at"
+    found = with_subject(words, at, shell.target.names) if words[at:] else None
+    return (found, "a condition begins with what is looked at") if found else None
 
 
 def equals(shell: "Shell", words: Words) -> Optional[Tuple[Words, str]]:
@@ -191,8 +169,6 @@ def of_goal(shell: "Shell", words: Sequence[str]) -> str:
 
 STARTS = tuple(form.word for form in commands.CONDITIONS)
 ALL = "`info objects` shows all objects"
-
-
 SHOWN = {
     "tasks": "`info tasks` shows all tasks",
     "task": "`show task` takes a name; `info tasks` shows all tasks",

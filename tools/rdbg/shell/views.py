@@ -151,24 +151,17 @@ def waiters(it: Object) -> str:
     elif isinstance(it, (replies.Stream, replies.Messages)):
         named = {"read": [it.reader], "write": [it.writer]}
     else:
-        wishes = (f"{wish.task}:{wish.bits}:{all_or_any(wish)}" for wish in it.waiters)
-        named = {"bits": list(wishes)}
-    found = [
-        f"{word}: {','.join(who)}"
-        for word, who in ((w, present(n)) for w, n in named.items())
-        if who
-    ]
+        which = {True: "all", False: "any"}
+        wishes = [f"{wish.task}:{wish.bits}:{which[wish.wants_all]}" for wish in it.waiters]
+        named = {"bits": wishes}
+    there = {word: present(names) for word, names in named.items()}
+    found = [f"{word}: {','.join(names)}" for word, names in there.items() if names]
     return "; ".join(found) or "nobody"
 
 
 def present(names: Sequence[Optional[str]]) -> List[str]:
     """The names that there are."""
     return [name for name in names if name]
-
-
-def all_or_any(wish: replies.Wish) -> str:
-    """Whether all bits are waited for."""
-    return "all" if wish.wants_all else "any"
 
 
 def objects(shell: "Shell") -> None:
@@ -246,19 +239,13 @@ def listed(script: Sequence[Instruction], pc: int, has_lines: bool) -> Iterator[
         yield [line.rjust(4), "->" if is_next else "  ", numbers.rjust(3), text]
 
 
-def kinds_of(shell: "Shell", name: str) -> List[str]:
-    """The kinds of which there is a thing of this name: `task`, `queue`, .."""
-    tasks = [kinds.TASK.word] if name in shell.target.names.tasks else []
-    return tasks + [kind for kind, other in shell.target.names.objects if other == name]
-
-
 def check_name(shell: "Shell", name: str, kind: str = "") -> str:
     """The kind of the thing of this name. Raises `Unable` where there is none (of `kind`)."""
     if shell.target.application is None and commands.is_name(name):
         # (rdbg may know of more than has been told)
         asked = [kind] if kind else list(kinds.OF_WORD)
         shell.target.tell_all([f"show {each} {name}" for each in asked])
-    there = kinds_of(shell, name)
+    there = shell.target.names.kinds_of(name)
     if kind in there or (there and not kind):
         return kind or there[0]
     names = shell.target.names
@@ -312,14 +299,14 @@ def field(it: replies.Task, part: str) -> str:
 
 def show(shell: "Shell", words: Sequence[str]) -> None:
     """`show NAME`: rdbg's own view of each thing of this name."""
-    for kind in kinds_of(shell, words[0]):
+    for kind in shell.target.names.kinds_of(words[0]):
         shell.command(f"show {kind} {words[0]}")
 
 
 def about(shell: "Shell", name: str, only: str = "") -> None:
     """All of a task or of the objects of a name, or of the one of a kind."""
     check_name(shell, name, only)
-    for kind in [only] if only else kinds_of(shell, name):
+    for kind in [only] if only else shell.target.names.kinds_of(name):
         if kind == "task":
             task(shell, name)
         else:
@@ -350,7 +337,7 @@ def info(shell: "Shell", words: Sequence[str]) -> None:
     """A table, or all of a task or an object."""
     word = words[0] if words else ""
     singular = word[:-1] if word.endswith("s") else word
-    kind = singular if singular in kinds.OF_WORD and not kinds_of(shell, word) else ""
+    kind = singular if singular in kinds.OF_WORD and not shell.target.names.kinds_of(word) else ""
     if word in TABLES and not (kind and len(words) == 2):
         TABLES[word](shell)
     elif word == "registers":

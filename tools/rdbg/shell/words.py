@@ -1,5 +1,6 @@
 """The words of sh's own: one table, for what they do, for help and for Tab."""
 import dataclasses
+import functools
 from typing import TYPE_CHECKING, Callable, Container, Dict, List, Optional, Sequence, Tuple
 
 from rdbg import commands
@@ -70,6 +71,7 @@ AGAIN = (
     "up to it aren't the same any more."
 )
 
+SAVE_ANEW = functools.partial(replay.save, is_anew=True)
 WORDS: Tuple[Word, ...] = (
     Word("where", "each core's task, its instruction and line", views.where, ("w",)),
     Word(
@@ -89,11 +91,7 @@ WORDS: Tuple[Word, ...] = (
         ("PART", "K"),
     ),
     Word(
-        "step TASK [COUNT]",
-        "an instruction of a task, on whichever core",
-        steps.step,
-        (),
-        ("K",),
+        "step TASK [COUNT]", "an instruction of a task, on whichever core", steps.step, (), ("K",)
     ),
     Word("tick COUNT", "so many ticks", steps.tick),
     Word(
@@ -121,7 +119,7 @@ WORDS: Tuple[Word, ...] = (
     Word(
         "until! GOAL [COUNT]",
         "runs to where it becomes so, and wasn't before",
-        seek.until_becomes,
+        seek.run_to,
         (),
         ("GOAL!",),
         GOALS,
@@ -152,9 +150,7 @@ WORDS: Tuple[Word, ...] = (
     Word("moves [COUNT|all]", "who did what, and what came of it", replay.moves, (), ("all",)),
     Word("goto PLACE", "to the place with so many moves done", steps.goto, ("g",)),
     Word("save FILE", "the moves as lines that rdbg replays", replay.save, (), ("FILE",), SAVE),
-    Word(
-        "save! FILE", "the same, onto a file that is there", replay.save_anew, (), ("FILE",), SAVE
-    ),
+    Word("save! FILE", "the same, onto a file that is there", SAVE_ANEW, (), ("FILE",), SAVE),
     Word("reload", "the same moves on the edited file", replay.reload, more=RELOAD),
     *(
         Word(f"{it.word} GOAL", it.asks, reach.asks(it), (), ("GOAL!",), QUESTION.format(it.more))
