@@ -11,15 +11,9 @@ WORD = re.compile(r"[A-Za-z_][A-Za-z0-9_]*")
 NUMBER_LIKE = re.compile(r"[+-]?[0-9A-Za-z_.]+(?:(?<=[eE])[+-][0-9]*)?")
 QUOTES = "\u2018\u2019\u201a\u201b\u201c\u201d\u201e\u201f\u00ab\u00bb\u0060\u00b4"
 # What stands where a value could, in small letters, and what is written in its place.
-VALUES = {
-    "true": "true",
-    "false": "false",
-    "null": "null",
-    "none": "null",
-    "nan": "a number",
-    "inf": "a number",
-    "infinity": "a number",
-}
+VALUES = wording.by_word(
+    {"true": "true", "false": "false", "null": "null none", "a number": "nan inf infinity"}
+)
 
 
 def encoding(error: UnicodeDecodeError) -> str:

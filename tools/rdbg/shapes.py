@@ -3,6 +3,7 @@ import dataclasses
 from typing import Optional, Tuple
 
 from rdbg import kinds
+from rdbg.wording import by_word
 
 MOST_TICK = 4_294_967_295
 MOST_INSTRUCTIONS = 256
@@ -196,26 +197,21 @@ FILE = Shape(
 )
 
 # What else a key is called, in small letters, and the key that it is here if it has such a one.
-OTHER_NAMES = {
-    "prio": "priority",
-    "script": "code",
-    "instructions": "code",
-    "program": "code",
-    "itemsize": "item",
-    "item_size": "item",
-    "count": "length",
-    "capacity": "length",
-    "size": "length",
-    "length": "size",
-    "triggerlevel": "trigger",
-    "trigger_level": "trigger",
-    "stream_buffers": "streams",
-    "message_buffers": "messages",
-    "event_groups": "groups",
-    "events": "groups",
-    "queue_sets": "sets",
-    "notifications": "notes",
-}
+OTHER_NAMES = by_word(
+    {
+        "priority": "prio",
+        "code": "script instructions program",
+        "item": "itemsize item_size",
+        "length": "count capacity size",
+        "size": "length",
+        "trigger": "triggerlevel trigger_level",
+        "streams": "stream_buffers",
+        "messages": "message_buffers",
+        "groups": "event_groups events",
+        "sets": "queue_sets",
+        "notes": "notifications",
+    }
+)
 # Why there is no such key.
 NOT_THERE = {
     "$schema": "tell your editor of the schema in its settings",

@@ -1,5 +1,7 @@
 """How things of a file are shown in a message: on one line, and not too long."""
 
+from typing import Dict, Mapping
+
 MOST_SHOWN = 60
 
 
@@ -17,6 +19,11 @@ def quoted(text: str) -> str:
 def counted(count: int, noun: str) -> str:
     """`1 queue`, `2 queues`."""
     return f"{count} {noun}{'' if count == 1 else 's'}"
+
+
+def by_word(table: Mapping[str, str]) -> Dict[str, str]:
+    """A table of words, of what stands for several of them: `{"jump L": "goto jmp"}`."""
+    return {word: meant for meant, words in table.items() for word in words.split()}
 
 
 def with_article(noun: str) -> str:

@@ -3,6 +3,7 @@ import re
 from typing import Dict, Optional
 
 from rdbg.instructions import FORMS
+from rdbg.wording import by_word
 
 # Calls that an instruction stands for with some of its operands given, or in place of another.
 WRITTEN: Dict[str, str] = {
@@ -42,37 +43,25 @@ MISSING: Dict[str, str] = {
     "xTaskGetTickCount": "no instruction reads the tick",
 }
 # Words of C and of assemblers, and the instruction that a script has for them.
-WORDS: Dict[str, str] = {
-    "goto": "jump L",
-    "jmp": "jump L",
-    "br": "jump L",
-    "jz": "jumpz R L",
-    "beq": "jumpz R L",
-    "if": "jumpz R L",
-    "for": "jump L and jumpz R L",
-    "while": "jump L and jumpz R L",
-    "mov": "move R R",
-    "inc": "add R 1",
-    "dec": "add R 4294967295",
-    "sub": "add R N, with N 2^32 less what is to be taken away",
-    "delay": "recv never T, with a queue never that nobody fills",
-    "sleep": "recv never T, with a queue never that nobody fills",
-    "receive": "recv Q T",
-    "overwrite": "over Q",
-    "halt": "end",
-    "exit": "end",
-    "return": "end",
-    "break": "jump L",
-    "continue": "jump L",
-    "do": "jumpz R L",
-    "else": "jump L",
-    "switch": "jump L and jumpz R L",
-    "cmp": "jumpz R L, which looks at a register alone",
-    "bne": "jumpz R L, which jumps over a jump L",
-    "jnz": "jumpz R L, which jumps over a jump L",
-    "give": "send Q 0 of a queue that stands for a semaphore, or notify K I 0 inc",
-    "wait": "gwait G V WISH CLR T, nwait I V V T or take I clear T",
-}
+WORDS = by_word(
+    {
+        "jump L": "goto jmp br break continue else",
+        "jumpz R L": "jz beq if do",
+        "jump L and jumpz R L": "for while switch",
+        "move R R": "mov",
+        "add R 1": "inc",
+        "add R 4294967295": "dec",
+        "add R N, with N 2^32 less what is to be taken away": "sub",
+        "recv never T, with a queue never that nobody fills": "delay sleep",
+        "recv Q T": "receive",
+        "over Q": "overwrite",
+        "end": "halt exit return",
+        "jumpz R L, which looks at a register alone": "cmp",
+        "jumpz R L, which jumps over a jump L": "bne jnz",
+        "send Q 0 of a queue that stands for a semaphore, or notify K I 0 inc": "give",
+        "gwait G V WISH CLR T, nwait I V V T or take I clear T": "wait",
+    }
+)
 # Those that are written in another way in lines, and calls that are.
 CALLS_IN_LINES: Dict[str, str] = {
     "vtaskdelay": "wait T",
@@ -80,26 +69,20 @@ CALLS_IN_LINES: Dict[str, str] = {
     "xsemaphoregive": "give NAME",
     "uxsemaphoregetcount": "count NAME",
 }
-IN_LINES: Dict[str, str] = {
-    "dec": "add R -1",
-    "sub": "add R -N",
-    "for": "set R N, and while R with add R -1 in it",
-    "do": "loop, with if TEST break in it",
-    "switch": "if R = N goto L, a line for each N",
-    "cmp": "if R = N goto L",
-    "bne": "if R goto L",
-    "jnz": "if R goto L",
-    "until": "loop, with if TEST break in it",
-    "elif": "else, and an if below it, with an end of its own",
-    "elseif": "else, and an if below it, with an end of its own",
-    "endif": "end",
-    "endloop": "end",
-    "endwhile": "end",
-    "done": "end",
-    "delay": "wait T",
-    "sleep": "wait T",
-    "fi": "end",
-}
+IN_LINES = by_word(
+    {
+        "add R -1": "dec",
+        "add R -N": "sub",
+        "set R N, and while R with add R -1 in it": "for",
+        "loop, with if TEST break in it": "do until",
+        "if R = N goto L, a line for each N": "switch",
+        "if R = N goto L": "cmp",
+        "if R goto L": "bne jnz",
+        "else, and an if below it, with an end of its own": "elif elseif",
+        "end": "endif endloop endwhile done fi",
+        "wait T": "delay sleep",
+    }
+)
 BY_NAME: Dict[str, str] = {
     **{name.lower(): it.text for it in FORMS for name in it.freertos},
     **{name.lower(): text for name, text in WRITTEN.items()},

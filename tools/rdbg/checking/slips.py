@@ -4,10 +4,12 @@ from typing import Callable, Dict, Optional, Tuple
 
 from rdbg.near import nearest
 from rdbg.operands import KIND_OF, MOST_NUMBER, Scope, are
+from rdbg.wording import by_word
 
+YES, NO = "pdtrue true 1", "pdfalse false 0"
 # What C calls the words of operands, by the symbols of these.
 CONSTANTS: Dict[str, Dict[str, str]] = {
-    "T": {"portmax_delay": "max", "forever": "max", "infinite": "max", "-1": "max"},
+    "T": by_word({"max": "portmax_delay forever infinite -1"}),
     "ACTION": {
         "enoaction": "none",
         "esetbits": "bits",
@@ -15,32 +17,11 @@ CONSTANTS: Dict[str, Dict[str, str]] = {
         "esetvaluewithoverwrite": "set",
         "esetvaluewithoutoverwrite": "setif",
     },
-    "WISH": {
-        "pdtrue": "all",
-        "true": "all",
-        "1": "all",
-        "pdfalse": "any",
-        "false": "any",
-        "0": "any",
-    },
-    "CLR": {
-        "pdtrue": "clear",
-        "true": "clear",
-        "1": "clear",
-        "pdfalse": "keep",
-        "false": "keep",
-        "0": "keep",
-    },
-    "clear|dec": {
-        "pdtrue": "clear",
-        "true": "clear",
-        "1": "clear",
-        "pdfalse": "dec",
-        "false": "dec",
-        "0": "dec",
-    },
-    "HEX": {"null": "-", "none": "-", '""': "-"},
-    "N": {"pdtrue": "1", "pdpass": "1", "true": "1", "pdfalse": "0", "pdfail": "0", "false": "0"},
+    "WISH": by_word({"all": YES, "any": NO}),
+    "CLR": by_word({"clear": YES, "keep": NO}),
+    "clear|dec": by_word({"clear": YES, "dec": NO}),
+    "HEX": by_word({"-": 'null none ""'}),
+    "N": by_word({"1": "pdtrue pdpass true", "0": "pdfalse pdfail false"}),
 }
 SUFFIX = "(?:u?l{0,2}|l{1,2}u)"
 C_NUMBERS = (

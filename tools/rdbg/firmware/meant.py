@@ -15,6 +15,7 @@ from rdbg.checking.freertos import called, sentence
 from rdbg.instructions import FORM_OF
 from rdbg.near import nearest
 from rdbg.checking.statements import statement
+from rdbg.wording import by_word
 
 FIRST_WORDS = (
     *FORM_OF,
@@ -39,26 +40,16 @@ CALLS = {
 }
 CREATED = {shape.freertos: word for word, shape in OBJECTS.items()}
 # What things are called elsewhere, in small letters, and the word of their line.
-OTHER_WORDS: Dict[str, str] = {
-    "event": "group",
-    "events": "group",
-    "eventgroup": "group",
-    "event_group": "group",
-    "flags": "group",
-    "streambuffer": "stream",
-    "stream_buffer": "stream",
-    "messagebuffer": "message",
-    "message_buffer": "message",
-    "queueset": "set",
-    "queue_set": "set",
-    "thread": "task",
-    "queuehandle_t": "queue",
-    "queuesethandle_t": "set",
-    "streambufferhandle_t": "stream",
-    "messagebufferhandle_t": "message",
-    "eventgrouphandle_t": "group",
-    "taskhandle_t": "task",
-}
+OTHER_WORDS = by_word(
+    {
+        "group": "event events eventgroup event_group flags eventgrouphandle_t",
+        "stream": "streambuffer stream_buffer streambufferhandle_t",
+        "message": "messagebuffer message_buffer messagebufferhandle_t",
+        "set": "queueset queue_set queuesethandle_t",
+        "task": "thread taskhandle_t",
+        "queue": "queuehandle_t",
+    }
+)
 SEMAPHORES = ("semaphores", "sem", "mutexes", "lock", "semaphorehandle_t")
 CONSTANTS = ("constant", "constexpr", "define", "static", "enum", "let", "cosnt", "conts", "cnst")
 TYPES = re.compile(r"const|static|constexpr|unsigned|long|short|int|char|size_t|u?int[0-9]+_t")

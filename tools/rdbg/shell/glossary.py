@@ -3,7 +3,6 @@ import re
 from typing import Dict, List
 
 from rdbg.checking import freertos
-
 from rdbg.shell.views import REGISTERS
 
 PHASES: Dict[str, str] = {
