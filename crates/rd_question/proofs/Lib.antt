@@ -1,4 +1,4 @@
 -- The files of lemmas of rd_question.
 pub mod AskedLaws
-pub mod PaceLaws
 pub mod SaidLaws
+pub mod TextLaws

@@ -1,9 +1,10 @@
 -- How an interrupt is said: how often it comes, which one it follows, and how far it is apart.
 use denote.Ref.{Bor}
 use Rattle.std.specs.Prelude.{ℕ, ◌&&◌, if◌then◌else◌, nat_le, List, Option, None, Some, codes}
-use Rattle.std.specs.Prelude.{option_and_then, option_map}
+use Rattle.std.specs.Prelude.{option_and_then, option_map, slice_get}
 use Rattle.std.specs.Str.{bytes_eq}
 use Rattle.rd_text.specs.Words.{number_of}
+use Rattle.rd_question.specs.declared.handler.Handler.{Handler}
 
 -- the number of at least so much that a text writes, up to 255
 abbrev pub small_number : ℕ → List ℕ → Option ℕ
@@ -21,6 +22,10 @@ times_said (Some text) =
 abbrev pub follows_said : Option (Bor (List ℕ)) → Option (Option ℕ)
 follows_said None = Some None
 follows_said (Some text) = option_map (λ n. Some n) (number_of text.now)
+
+-- how often the one at a place comes at the most, where one is there and that is limited
+abbrev pub times_at : List Handler → ℕ → Option ℕ
+times_at handlers place = option_and_then (λ handler. handler.times) (slice_get handlers place)
 
 -- how many ticks it is apart: none, where nothing is said
 abbrev pub apart_said : Option (Bor (List ℕ)) → Option ℕ

@@ -3,5 +3,6 @@ pub mod Asked
 pub mod EngineView
 pub mod Handlers
 pub mod Paces
+pub mod Parts
 pub mod Questions
 pub mod Said

@@ -226,12 +226,13 @@ fn line_in<'a>(keyword: &str, operand: &'a str) -> Result<Line<'a>, Fault>
 }
 
 /// What a line says: `from`, `from PATH`, `line COMMAND`, `pace M..N`, `pace none`, `surprises N`,
-/// `surprises none`, `moves N`, `moves none`, `states N`, `memory N`, `exact on`, `exact off`, `isr CALLS
-/// [times N|any] [after I] [apart T]`, `isr none`, `reach GOAL`, `lost GOAL`, `doomed GOAL`, `help` or
-/// `quit`. Spaces at either end are dropped. `NoLine` where it is none of these, `Number` where a number isn't one that may be asked
-/// for, `Pace` where the pace is none, `Switch` where it says neither on nor off, `Isr` where an option
-/// of an interrupt is said twice. Whether its goal, its
-/// command line or its calls are some, and what its path leads to, isn't asked here.
+/// `surprises none`, `moves N`, `moves none`, `states N`, `memory N`, `exact on`, `exact off`,
+/// `isr CALLS [times N|any] [after I] [apart T]`, `isr none`, `reach GOAL`, `lost GOAL`,
+/// `doomed GOAL`, `help` or `quit`. Spaces at either end are dropped. `NoLine` where it is none of
+/// these, `Number` where a number isn't one that may be asked for, `Pace` where the pace is none,
+/// `Switch` where it says neither on nor off, `Isr` where an option of an interrupt is said twice.
+/// Whether its goal, its command line or its calls are some, and what its path leads to, isn't asked
+/// here.
 pub fn line_of(text: &str) -> Result<Line<'_>, Fault>
     ensures said { IfOk result (IsSaid text.entry.now) }
     ensures limits { IfOk result IsLineWithinLimits }

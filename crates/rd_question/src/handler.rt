@@ -1,7 +1,8 @@
 //! Interrupts as they are asked for.
 
-ghost use Rattle.std.specs.Prelude.{◌≡◌, IfOk, Some};
-ghost use Rattle.rd_question.specs.Handlers.{apart_said, follows_said, small_number, times_said};
+ghost use Rattle.std.specs.Prelude.{◌≡◌, IfOk, IfSome, IsSome, Some};
+ghost use Rattle.rd_question.specs.Handlers.{apart_said, follows_said, small_number, times_at};
+ghost use Rattle.rd_question.specs.Handlers.{times_said};
 
 use rd_text::words::number;
 use std::alloc::{AllocError, AllocFailed, Global};
@@ -132,20 +133,33 @@ fn times_of(said: Option<&str>) -> Result<Option<u8>, NoHandler>
     }
 }
 
+// How often one of those before comes at the most, if that is limited.
+fn times_at(before: &[Handler], place: usize) -> Result<Option<u8>, NoHandler>
+    ensures { IfOk result (λ times. times_at before.now place ≡ times) }
+{
+    match before.get(place) {
+        Some(handler) => Ok(handler.times),
+        None => Err(NoHandler::After),
+    }
+}
+
 // The one that it follows, of those before, where it comes so often.
 fn follows_of(
     said: Option<&str>,
     times: Option<u8>,
     before: &[Handler],
 ) -> Result<Option<usize>, NoHandler>
-    ensures { IfOk result (λ follows. follows_said said.entry ≡ Some follows) }
+    ensures said { IfOk result (λ follows. follows_said said.entry ≡ Some follows) }
+    ensures own { IfOk result (λ follows. IfSome follows (λ place. IsSome times)) }
+    ensures other { IfOk result (λ follows. IfSome follows (λ place.
+        IsSome (times_at before.now place))) }
 {
     let Some(text) = said else {
         return Ok(None);
     };
     let follows = number(text.as_bytes()).ok_or(NoHandler::After)? as usize;
-    let followed = before.get(follows).ok_or(NoHandler::After)?;
-    if times.is_none() || followed.times.is_none() {
+    let followed = times_at(before, follows)?;
+    if times.is_none() || followed.is_none() {
         return Err(NoHandler::Unlimited);
     }
     Ok(Some(follows))
@@ -161,11 +175,16 @@ fn apart_of(said: Option<&str>) -> Result<u8, NoHandler>
     }
 }
 
-/// The interrupt of which this is said, behind those that were said before. `Times`, `After`,
-/// `Unlimited` and `Apart` where an option is wrong. Whether its calls are some isn't asked here.
+/// The interrupt of which this is said, behind those that were said before. One that follows another
+/// comes a limited number of times, and so does that other one, which was said before it. `Times`,
+/// `After`, `Unlimited` and `Apart` where an option is wrong. Whether its calls are some isn't asked here.
 pub fn handler_of(alloc: Global, said: Said<'_>, before: &[Handler]) -> Result<Handler, NoHandler>
     ensures times { IfOk result (λ handler. times_said said.entry.times ≡ Some handler.times) }
-    ensures follows { IfOk result (λ handler. follows_said said.entry.after ≡ Some handler.follows) }
+    ensures follows { IfOk result (λ handler.
+        follows_said said.entry.after ≡ Some handler.follows) }
+    ensures own { IfOk result (λ handler. IfSome handler.follows (λ place. IsSome handler.times)) }
+    ensures other { IfOk result (λ handler. IfSome handler.follows (λ place.
+        IsSome (times_at before.now place))) }
     ensures apart { IfOk result (λ handler. apart_said said.entry.apart ≡ Some handler.apart) }
 {
     let times = times_of(said.times)?;

@@ -323,10 +323,11 @@ fn without_question<'a>(alloc: Global, error: &clap::Error) -> Result<Request<'a
 }
 
 /// What the words of the command line ask for, without the program's own name: `FILE [GOAL..]
-/// [--lost | --doomed] [--from COMMANDS] [--moves N] [--pace M..N] [--isr CALLS [--times N] [--after I] [--apart T]]
-/// [--surprises N] [--states N] [--memory MIB] [--part K/N] [--exact] [--progress]`, an engine where no
-/// goal is said; or help. `Words` where they are no such line, `Pace` where the pace is none, `Isr` where
-/// an interrupt is none, `Part` where the part is none, `NoMemory` where there is no memory to read them or for the text of help.
+/// [--lost | --doomed] [--from COMMANDS] [--moves N] [--pace M..N]
+/// [--isr CALLS [--times N] [--after I] [--apart T]] [--surprises N] [--states N] [--memory MIB]
+/// [--part K/N] [--exact] [--progress]`, an engine where no goal is said; or help. `Words` where
+/// they are no such line, `Pace` where the pace is none, `Isr` where an interrupt is none, `Part`
+/// where the part is none, `NoMemory` where there is no memory to read them or for the text of help.
 pub fn options<'a>(alloc: Global, words: &'a [String]) -> Result<Request<'a>, Fault>
     ensures { IfOk result IsRequest }
 {

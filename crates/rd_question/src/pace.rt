@@ -82,7 +82,7 @@ fn is_crossed(pace: &Pace) -> bool
 
 /// The pace that a word is: `M..N`, `M..` or `..N`, where M is 0 to 255, N is 1 to 255 and M is at
 /// most N. `Form` where it is none of these, `Crossed` where M is above N.
-#[tactic(auto, using(crate::proofs::PaceLaws::in_parts))]
+#[tactic(auto, using(crate::proofs::TextLaws::in_parts))]
 pub fn pace_of(word: &str) -> Result<Pace, NoPace>
     ensures written { IfOk result (IsWritten word.now) }
     ensures comes { IfOk result CanCome }

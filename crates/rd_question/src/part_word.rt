@@ -1,5 +1,9 @@
 //! The part of all orders that a command line asks for.
 
+ghost use Rattle.std.specs.Prelude.{◌≡◌, IfOk, Some};
+ghost use Rattle.rd_text.specs.Words.{number_of};
+ghost use Rattle.rd_question.specs.Parts.{IsPart};
+
 use rd_dealt::part::Part;
 use rd_text::words::number;
 use thiserror::Error;
@@ -14,7 +18,9 @@ pub enum NoPart {
 }
 
 // The number of at most 255 that a text writes.
-fn number_in(text: &str) -> Result<u8, NoPart> {
+fn number_in(text: &str) -> Result<u8, NoPart>
+    ensures { IfOk result (λ number. number_of text.now ≡ Some number) }
+{
     match number(text.as_bytes()) {
         Some(number) if number <= 255 => Ok(number as u8),
         _ => Err(NoPart::Form),
@@ -22,8 +28,11 @@ fn number_in(text: &str) -> Result<u8, NoPart> {
 }
 
 /// The part that a word is: `K/N`, the Kth of N, where N is 255 at the most. `Form` where it is none.
-pub fn part_of(word: &str) -> Result<Part, NoPart> {
-    let (part, parts) = word.split_once("/").ok_or(NoPart::Form)?;
-    let (number, of) = (number_in(part)?, number_in(parts)?);
-    Part::new(number, of).ok_or(NoPart::Form)
+pub fn part_of(word: &str) -> Result<Part, NoPart>
+    ensures { IfOk result (IsPart word.now) }
+{
+    let (first, second) = word.split_once("/").ok_or(NoPart::Form)?;
+    let (number, parts) = (number_in(first)?, number_in(second)?);
+    let part = Part::new(number, parts).ok_or(NoPart::Form)?;
+    Ok(part)
 }
