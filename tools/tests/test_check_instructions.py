@@ -9,6 +9,9 @@ from rdbg.operands import KINDS, NAMED, Scope
 from rdbg.checking.reading import read
 from rdbg.tree import Node, Place
 from tests.paths import DOCS
+from tests.tables import rows, section
+
+OWN = "| Instruction | What it does |"
 
 NAMES: Dict[str, List[str]] = {
     "Q": ["jobs"],
@@ -52,10 +55,16 @@ WRONG = {
 
 
 def freertos_names() -> Dict[str, Set[str]]:
-    """The names of FreeRTOS for each word, in docs/MODEL.md."""
-    table = (DOCS / "MODEL.md").read_text().split("\n## Instructions\n")[1].split("\n## ")[0]
-    rows = [line.split("|") for line in table.splitlines() if line.startswith("| `")]
-    return {row[1].strip(" `").split(" ")[0]: set(re.findall(r"`(\w+)`", row[2])) for row in rows}
+    """The names of FreeRTOS for each word, in docs/CALLS.md."""
+    lines = (DOCS / "CALLS.md").read_text().partition("\n## Calls from an interrupt\n")
+    own = section("CALLS.md", "A task's own instructions")
+    names: Dict[str, Set[str]] = {row[0].strip("`").split()[0]: set() for row in rows(own, OWN)}
+    for line in lines[0].splitlines():
+        found = re.match(r"\| (`\w+`.*?) \| `(\w+)([^`]*)`", line)
+        # (a call without an index is written with the index 0)
+        if found and " 0 " not in found[3]:
+            names[found[2]] = set(re.findall(r"`(\w+)`", found[1]))
+    return names
 
 
 def faults(text: str) -> List[str]:
@@ -66,7 +75,7 @@ def faults(text: str) -> List[str]:
 class Table(unittest.TestCase):
     """The table of instructions."""
 
-    def test_has_the_names_of_the_model(self) -> None:
+    def test_has_the_names_of_the_page(self) -> None:
         names = freertos_names()
         self.assertEqual({form.word for form in FORMS}, set(names))
         for form in FORMS:
