@@ -87,9 +87,8 @@ def spelled(figure):
 
 
 def row(label, found):
-    """A row of figures, and of the commits at which they were measured."""
-    commits = list(dict.fromkeys(it.commit for it in found))
-    return [label, *(spelled(it.figure) for it in found), ", ".join(commits)]
+    """A row of figures."""
+    return [label, *(spelled(it.figure) for it in found)]
 
 
 def table(head, rows):
@@ -100,13 +99,13 @@ def table(head, rows):
 def lines_table(measures):
     of = lambda counter: [last(measures, f"line {app}", "instructions", (counter,)) for app in APPS]
     rows = [row("proved", of(COUNTED)), row("without proof", of(UNPROVED))]
-    return table(["instructions of a line", *APPS, "at"], rows)
+    return table(["instructions of a line", *APPS], rows)
 
 
 def views_table(measures):
     of = lambda counter: [last(measures, f"view {it}", "instructions", (counter,)) for it in VIEWS]
     rows = [row("proved", of(COUNTED)), row("without proof", of(UNPROVED))]
-    return table(["instructions of a view", *VIEWS, "at"], rows)
+    return table(["instructions of a view", *VIEWS], rows)
 
 
 def moves_table(measures):
@@ -119,22 +118,13 @@ def moves_table(measures):
         for run in RUNS:
             found = [last(measures, f"{run} {app}", unit, (machine,)) for app in MOVED]
             rows.append(row(f"`{run}`: {said}", found))
-    return table(["a move", *MOVED, "at"], rows)
-
-
-def choices_table(measures):
-    rows = []
-    for it in measures:
-        begins, _, choice = it.what.partition(": ")
-        if begins == "choice":
-            rows.append([choice, f"{spelled(it.figure)} {it.unit}", it.commit])
-    return table(["what is done", "instructions fewer", "at"], rows)
+    return table(["a move", *MOVED], rows)
 
 
 def lock_table(measures):
     found = [it for it in measures if it.what.startswith("under the lock: ")]
     rows = [row(it.what.partition(": ")[2], [it]) for it in found]
-    return table(["under the lock, a line of `turns`", "instructions", "at"], rows)
+    return table(["under the lock, a line of `turns`", "instructions"], rows)
 
 
 def kept_table(measures):
@@ -154,14 +144,14 @@ def kept_table(measures):
     rows = []
     for said, what, unit in wanted:
         it = last(measures, what, unit)
-        rows.append([said, f"{spelled(it.figure)} {unit}", it.commit])
-    return table(["what is kept", "figure", "at"], rows)
+        rows.append([said, f"{spelled(it.figure)} {unit}"])
+    return table(["what is kept", "figure"], rows)
 
 
 def sessions_table(measures):
     unit = "million lines a second"
     found = [last(measures, f"sessions {count}", unit) for count in (1, 4, 64)]
-    return table([unit, "1 session", "4 sessions", "64 sessions", "at"], [row("fast", found)])
+    return table([unit, "1 session", "4 sessions", "64 sessions"], [row("fast", found)])
 
 
 def named(measures, pattern):
@@ -218,22 +208,21 @@ def passed_table(measures):
     wanted += [("`rt ci`: must-fail edits refused", "must-fail edits refused", "edits")]
     wanted += [(f"`ci/{part}`", f"ci/{part} passed", "passed") for part in PARTS]
     rows = [row(said, [last(measures, what, unit)]) for said, what, unit in wanted]
-    return table(["what", "passed", "at"], rows)
+    return table(["what", "passed"], rows)
 
 
 def minutes_table(measures):
     rows = []
     for said, what, unit in MINUTES:
         it = last(measures, what, unit)
-        rows.append([said, spelled(it.figure), unit, it.machine, it.commit])
-    return table(["what", "figure", "unit", "machine", "at"], rows)
+        rows.append([said, spelled(it.figure), unit, it.machine])
+    return table(["what", "figure", "unit", "machine"], rows)
 
 
 TABLES = {
     "lines": lines_table,
     "views": views_table,
     "moves": moves_table,
-    "choices": choices_table,
     "lock": lock_table,
     "kept": kept_table,
     "sessions": sessions_table,
@@ -254,8 +243,8 @@ def with_tables(text, measures):
 
 
 def drawn(chosen, names):
-    """The commits of some measures, and a line for each of these names (what is measured, what the
-    plot calls it), over the commits."""
+    """The numbers of the commits of some measures, in order, and a line for each of these names (what
+    is measured, what the plot calls it), over them."""
     commits = list(dict.fromkeys(it.commit for it in chosen))
     lines = []
     for what, name in names.items():
@@ -264,7 +253,7 @@ def drawn(chosen, names):
         }
         if points:
             lines.append(Line(name, sorted(points.items())))
-    return commits, lines
+    return [str(at) for at in range(1, len(commits) + 1)], lines
 
 
 def speed_plot(measures):
