@@ -16,10 +16,8 @@ BLOCK = re.compile(r"(<!-- figures: (\w+) -->\n).*?(<!-- end -->)", re.DOTALL)
 # The counter, over few lines as it was done once, and over the program without proof.
 COUNTED, SHORT, UNPROVED = "callgrind", "callgrind, 6000 lines", "callgrind, unproved"
 APPS = ("turns", "exchange", "cores", "sixteen", "wide", "kernel")
-VIEWS = ("cores", "task", "queue", "set", "stream", "message", "group", "moves", "wheel")
 RUNS = ("forward", "redo", "back", "until", "back until")
 MOVED = ("turns", "exchange", "kernel")
-PARTS = ("examples", "limits", "memory", "together", "reach", "companions", "refused")
 # What the gate takes: what a page calls it, and the table; in which unit.
 MINUTES = (
     ("`rt ci`, all of it from nothing", "rt ci", "processor minutes"),
@@ -102,12 +100,6 @@ def lines_table(measures):
     return table(["instructions of a line", *APPS], rows)
 
 
-def views_table(measures):
-    of = lambda counter: [last(measures, f"view {it}", "instructions", (counter,)) for it in VIEWS]
-    rows = [row("proved", of(COUNTED)), row("without proof", of(UNPROVED))]
-    return table(["instructions of a view", *VIEWS], rows)
-
-
 def moves_table(measures):
     units = (
         ("instructions, without proof", "instructions", UNPROVED),
@@ -119,12 +111,6 @@ def moves_table(measures):
             found = [last(measures, f"{run} {app}", unit, (machine,)) for app in MOVED]
             rows.append(row(f"`{run}`: {said}", found))
     return table(["a move", *MOVED], rows)
-
-
-def lock_table(measures):
-    found = [it for it in measures if it.what.startswith("under the lock: ")]
-    rows = [row(it.what.partition(": ")[2], [it]) for it in found]
-    return table(["under the lock, a line of `turns`", "instructions"], rows)
 
 
 def kept_table(measures):
@@ -203,14 +189,6 @@ def spin_table(measures):
     return table(head, rows)
 
 
-def passed_table(measures):
-    wanted = [("`rt ci`: proofs and tests", "rt ci passed", "parts")]
-    wanted += [("`rt ci`: must-fail edits refused", "must-fail edits refused", "edits")]
-    wanted += [(f"`ci/{part}`", f"ci/{part} passed", "passed") for part in PARTS]
-    rows = [row(said, [last(measures, what, unit)]) for said, what, unit in wanted]
-    return table(["what", "passed"], rows)
-
-
 def minutes_table(measures):
     rows = []
     for said, what, unit in MINUTES:
@@ -221,15 +199,12 @@ def minutes_table(measures):
 
 TABLES = {
     "lines": lines_table,
-    "views": views_table,
     "moves": moves_table,
-    "lock": lock_table,
     "kept": kept_table,
     "sessions": sessions_table,
     "search": search_table,
     "whole": whole_table,
     "spin": spin_table,
-    "passed": passed_table,
     "minutes": minutes_table,
 }
 
