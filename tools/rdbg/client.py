@@ -194,10 +194,12 @@ class Session:
         return session
 
     @classmethod
-    def run(cls, file: Optional[str] = None, more: Sequence[str] = ()) -> "Session":
+    def run(
+        cls, file: Optional[str] = None, more: Sequence[str] = (), named: str = ""
+    ) -> "Session":
         """`rdbg run` on an application, or on the built-in one."""
         app = [] if file is None else ["--app", file]
-        return cls.start([program(), "run", *app, *more])
+        return cls.start([named or program(), "run", *app, *more])
 
     @classmethod
     def attach(cls, port: int, name: Optional[str] = None) -> "Session":

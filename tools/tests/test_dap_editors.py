@@ -119,9 +119,10 @@ class Folders(Held):
     def test_what_is_offered_is_answered(self) -> None:
         named: List[str] = []
         for name in CAN:
-            found = re.fullmatch(r"supports(\w+?)Request", name)
+            found = re.fullmatch(r"(\w+?)Request", name)
             if found:
                 named.append(found[1][0].lower() + found[1][1:])
+        self.assertIn("restart", named)
         self.assertEqual(set(named) - set(REQUESTS), set())
         self.assertIn("dap", main.names())
 

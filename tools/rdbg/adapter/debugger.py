@@ -280,10 +280,7 @@ class Debugger:
     def hear(self, notice: str) -> None:
         """Takes what a room says besides: what others do, the editor is told."""
         mover = MOVED.match(notice)
-        own: Optional[str] = (
-            getattr(self._shell.target.session, "name", None) if self._shell else None
-        )
-        if mover is None or mover[1] != own:
+        if mover is None or mover[1] != self.own_name:
             self.say(notice.lstrip("# "))
             self.others = self.others or (notice.lstrip("# ") if mover else "")
 

@@ -11,15 +11,15 @@ from rdbg.files import source as sources
 from rdbg.files.definitions import definition
 from rdbg.adapter.messages import Arguments, Wrong
 from rdbg.adapter.pausing import Pause
-from rdbg.client import Session
 from rdbg.ending import STARTED
 from rdbg.failure import Failure
 from rdbg.firmware.writer import text_of
 from rdbg.replies import Refused
-from rdbg.driving.opening import as_read, builtin, compare, greet
+from rdbg.driving.opening import attach as attached
+from rdbg.driving.opening import begin, builtin
 from rdbg.shell.shell import Shell
 from rdbg.driving.pacing import IS, TickPace, pace
-from rdbg.driving.target import Limits, Target, Unable
+from rdbg.driving.target import Limits, Unable
 from rdbg.shell import paces
 from rdbg.files.source import Source
 
@@ -123,8 +123,12 @@ def launch(given: Arguments, pause: Pause, tell: Tell) -> Shell:
     path = file_of(given)
     source = built_in() if path is None else read(path, given)
     limits = Limits(count(given, "moves", MOVES), count(given, "history", Limits.history, 2))
-    words = [program(given.flag("unproved"), tell), "run"]
-    target = begin(words, None if path is None else source, source, limits)
+    named = program(given.flag("unproved"), tell)
+    try:
+        target = begin(None if path is None else source, limits, named)
+    except Failure as failure:
+        raise Wrong(str(failure)) from None
+    target.application = source.application
     shell = EditorShell(target, source, pause)
     set_pace(shell, given)
     return shell
@@ -147,21 +151,6 @@ def set_pace(shell: Shell, given: Arguments) -> None:
         paces.take(shell, found or TickPace(1), coming)
 
 
-def begin(words: List[str], file: Optional[Source], source: Source, limits: Limits) -> Target:
-    """A program that reads an application as it was read here."""
-    try:
-        if file is None:
-            session = Session.start([*words, *limits.words()])
-            greet(session)
-        else:
-            with as_read(file) as path:
-                session = Session.start([*words, "--app", path, *limits.words()])
-                greet(session)  # (once it has answered it has read the file)
-    except Failure as failure:
-        raise Wrong(str(failure)) from None
-    return Target(session, source.application, limits)
-
-
 def attach(given: Arguments, pause: Pause, hear: Tell) -> Shell:
     """One more session at a server or in a room, whose notices `hear` is told. Raises `Wrong` where
     nobody is let in, or where a file was given that isn't the application there."""
@@ -171,17 +160,7 @@ def attach(given: Arguments, pause: Pause, hear: Tell) -> Shell:
     path = file_of(given)
     source = None if path is None else read(path, given)
     try:
-        session = connect(port, given.text("as", ""))
-        greet(session)
-        target = Target(session, source.application if source else None, None)
-        try:
-            target.places()
-            target.tell("show cores")
-            if source is not None and source.application is not None:
-                compare(target, source.application, source.path)
-        except BaseException:
-            session.close()
-            raise
+        target = attached(port, source, given.text("as", "") or None)
     except Failure as failure:
         raise Wrong(str(failure)) from None
     except Refused as refused:
@@ -189,9 +168,3 @@ def attach(given: Arguments, pause: Pause, hear: Tell) -> Shell:
     shell = EditorShell(target, source, pause)
     shell.hear = hear
     return shell
-
-
-def connect(port: int, name: str) -> Session:
-    """A session at a port, by a name where the server is a room."""
-    attached: Callable[..., Session] = Session.attach
-    return attached(port, name) if name else attached(port)

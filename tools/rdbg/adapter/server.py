@@ -29,14 +29,7 @@ REQUESTS: Dict[str, Request] = {
 }
 # What is answered while the target runs; all else waits for its stop.
 MEANWHILE = (
-    "threads",
-    "stackTrace",
-    "scopes",
-    "variables",
-    "pause",
-    "source",
-    "loadedSources",
-    "breakpointLocations",
+    *"threads stackTrace scopes variables pause source loadedSources breakpointLocations".split(),
     *(name for name in SETTING if name.startswith("set")),
 )
 # What ends what runs.

@@ -15,24 +15,13 @@ AT_A_PORT = (
     " its start, and who has started it starts it with another file"
 )
 Request = Callable[[Debugger, Arguments], Optional[Values]]
+# What is supported, as the protocol has it behind that word.
 CAN = (
-    "supportsConfigurationDoneRequest",
-    "supportsFunctionBreakpoints",
-    "supportsConditionalBreakpoints",
-    "supportsHitConditionalBreakpoints",
-    "supportsEvaluateForHovers",
-    "supportsStepBack",
-    "supportsSetVariable",
-    "supportsSetExpression",
-    "supportsGotoTargetsRequest",
-    "supportsCompletionsRequest",
-    "supportsRestartRequest",
-    "supportsValueFormattingOptions",
-    "supportsExceptionInfoRequest",
-    "supportsLoadedSourcesRequest",
-    "supportsDataBreakpoints",
-    "supportsBreakpointLocationsRequest",
-)
+    "ConfigurationDoneRequest FunctionBreakpoints ConditionalBreakpoints HitConditionalBreakpoints"
+    " EvaluateForHovers StepBack SetVariable SetExpression GotoTargetsRequest CompletionsRequest"
+    " RestartRequest ValueFormattingOptions ExceptionInfoRequest LoadedSourcesRequest"
+    " DataBreakpoints BreakpointLocationsRequest"
+).split()
 
 
 def initialize(it: Debugger, given: Arguments) -> Optional[Values]:
@@ -42,7 +31,7 @@ def initialize(it: Debugger, given: Arguments) -> Optional[Values]:
     line = int(given.flag("linesStartAt1", True))
     it.text.count_from(line, int(given.flag("columnsStartAt1", True)))
     it.shows_invalidated = given.flag("supportsInvalidatedEvent")
-    body: Values = {name: True for name in CAN}
+    body: Values = {f"supports{name}": True for name in CAN}
     body["completionTriggerCharacters"] = [" "]
     body["exceptionBreakpointFilters"] = [
         {"filter": name, "label": label, "default": is_on}

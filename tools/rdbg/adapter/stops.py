@@ -60,8 +60,8 @@ class Stop:
         return self.seen([read(target.tell(view)) for view in self.views(target)])
 
     def is_met_by(self, before: Any, after: Any) -> bool:
-        """Whether a move meets it, by what it hangs on before and after."""
-        raise NotImplementedError
+        """Whether a move meets it, by what it hangs on before and after; mostly, as that changes."""
+        return bool(before != after)
 
     def next(self, walk: Walk, limit: int) -> Optional[int]:
         """The first place behind this one, at most so many moves on, where it is met."""
@@ -127,13 +127,40 @@ class Stop:
         facts.met(self.key).learn(low, high, places)
 
 
-class Becomes(Stop):
+class Reaches(Stop):
+    """A goal becomes so: it didn't hold before a move, and does after it."""
+
+    def __init__(self, goal: Goal, text: str = "") -> None:
+        self.goal, self.text = goal, text or goal.text
+        self._way = To(goal, True)
+
+    @property
+    def key(self) -> Hashable:
+        return "reaches", self.goal
+
+    def views(self, target: Target) -> List[str]:
+        return self.goal.names(target.names).lines()
+
+    def seen(self, answers: Sequence[Any]) -> bool:
+        return self.goal.is_so(Look.of(0, answers))
+
+    def is_met_by(self, before: bool, after: bool) -> bool:
+        return after and not before
+
+    def next(self, walk: Walk, limit: int) -> Optional[int]:
+        return self._way.next(walk, limit)
+
+    def last(self, walk: Walk) -> Optional[int]:
+        return self._way.last(walk)
+
+
+class Becomes(Reaches):
     """A condition becomes so: it didn't hold before a move, and does after it. `is_at_start` says
     that it is met at boot, too, where it holds there."""
 
     def __init__(self, condition: Condition, text: str = "", is_at_start: bool = False) -> None:
-        self.condition, self.text = condition, text or condition.text
-        self._way, self.is_at_start = To(Holds(condition), True), is_at_start
+        super().__init__(Holds(condition), text)
+        self.condition, self.is_at_start = condition, is_at_start
 
     @property
     def key(self) -> Hashable:
@@ -145,14 +172,8 @@ class Becomes(Stop):
     def seen(self, answers: Sequence[Any]) -> bool:
         return self.condition.holds(answers[0])
 
-    def is_met_by(self, before: bool, after: bool) -> bool:
-        return after and not before
-
     def is_met_at_start(self, walk: Walk) -> bool:
         return self.is_at_start and walk.place == 0 and self.look(walk.target)
-
-    def next(self, walk: Walk, limit: int) -> Optional[int]:
-        return self._way.next(walk, limit)
 
     def last(self, walk: Walk) -> Optional[int]:
         if walk.place <= walk.target.base or walk.back_until(self.condition.text) is None:
@@ -168,9 +189,7 @@ class Becomes(Stop):
 
     def all_next(self, walk: Walk, limit: int, is_enough: Enough) -> Tuple[List[int], int]:
         sweep = Onwards(walk, self.condition, limit)
-        while not sweep.is_done and not is_enough(len(sweep.found)):
-            walk.interrupt.check()
-            sweep.go()
+        sweep.run(is_enough)
         return sweep.found, sweep.place
 
     def all_last(self, walk: Walk, low: int) -> List[int]:
@@ -208,9 +227,6 @@ class Amount(Stop):
             return answers[0].phase.word
         return AMOUNTS[self._shape.kind](answers[0], self._shape.index)
 
-    def is_met_by(self, before: Any, after: Any) -> bool:
-        return bool(before != after)
-
     def _others(self, target: Target, earlier: bool) -> List[Condition]:
         """Conditions of which one holds wherever it is otherwise than here."""
         now = self.look(target)
@@ -246,9 +262,6 @@ class Content(Stop):
 
     def seen(self, answers: Sequence[Any]) -> Any:
         return content_of(answers[0])
-
-    def is_met_by(self, before: Any, after: Any) -> bool:
-        return bool(before != after)
 
     def next(self, walk: Walk, limit: int) -> Optional[int]:
         if not self._parts:
@@ -302,33 +315,6 @@ def parts_of(application: Application, kind: str, name: str) -> List[Stop]:
         members += [words[1] for _, words in codes if words[0] == "setadd" and words[2] == name]
         done += [(word, member) for word in PUTTING for member in members]
     return [*amount, *(Becomes(behind) for behind, words in codes if tuple(words[:2]) in done)]
-
-
-class Reaches(Stop):
-    """A goal becomes so: it didn't hold before a move, and does after it."""
-
-    def __init__(self, goal: Goal, text: str = "") -> None:
-        self.goal, self.text = goal, text or goal.text
-        self._way = To(goal, True)
-
-    @property
-    def key(self) -> Hashable:
-        return "reaches", self.goal
-
-    def views(self, target: Target) -> List[str]:
-        return self.goal.names(target.names).lines()
-
-    def seen(self, answers: Sequence[Any]) -> bool:
-        return self.goal.is_so(Look.of(0, answers))
-
-    def is_met_by(self, before: bool, after: bool) -> bool:
-        return after and not before
-
-    def next(self, walk: Walk, limit: int) -> Optional[int]:
-        return self._way.next(walk, limit)
-
-    def last(self, walk: Walk) -> Optional[int]:
-        return self._way.last(walk)
 
 
 class Begins(Reaches):
@@ -424,17 +410,13 @@ class Where(Stop):
     def _next_of_all(self, walk: Walk, condition: Condition, limit: int) -> Optional[int]:
         """The first place of all where the other one is met, which are many."""
         sweep = Onwards(walk, condition, limit, self._condition)
-        while not sweep.is_done and not sweep.found:
-            walk.interrupt.check()
-            sweep.go()
+        sweep.run(bool)
         return sweep.found[0] if sweep.found else None
 
     def _last_of_all(self, walk: Walk, stop: Becomes) -> Optional[int]:
         """The last place of all where the other one is met, which are many."""
         sweep = Backwards(walk, stop.condition, walk.target.base, self._condition)
-        while not sweep.is_done and not sweep.found:
-            walk.interrupt.check()
-            sweep.go()
+        sweep.run(bool)
         if sweep.found:
             return sweep.found[0]
         return 0 if stop.began(sweep) else None

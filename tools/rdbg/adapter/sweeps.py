@@ -1,5 +1,5 @@
 """All places of a stretch at which a condition becomes so, found by many lines at a time."""
-from typing import List, Optional
+from typing import Callable, List, Optional
 
 from rdbg import replies
 from rdbg.replies import Refused
@@ -29,6 +29,12 @@ class Sweep:
     def is_done(self) -> bool:
         """Whether it has come to its end."""
         raise NotImplementedError
+
+    def run(self, is_enough: Callable[[int], bool]) -> None:
+        """Goes on to its end, or until so many places are enough."""
+        while not self.is_done and not is_enough(len(self.found)):
+            self.walk.interrupt.check()
+            self.go()
 
     def go(self) -> None:
         """Goes further. Raises `Unable` where the history has too little room."""

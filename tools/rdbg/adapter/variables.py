@@ -48,6 +48,11 @@ def putting(form: str, most: int = values.MOST) -> Setter:
     return lambda text: form.format(values.number(text, 0, most))
 
 
+def amount(word: str, name: str, value: str, put: Optional[Setter] = None) -> Variable:
+    """What a condition calls so, of a task or an object of this name."""
+    return Variable(word, value, None, put, f"{word} {name}", f"{name}.{word}")
+
+
 def task_of(shown: Shown, name: str) -> replies.Task:
     """A task as it is."""
     if name not in shown.look.tasks:
@@ -73,14 +78,8 @@ def parts(shown: Shown, name: str) -> List[Variable]:
     """The parts of a task beside its registers."""
     it = task_of(shown, name)
     found = [
-        Variable(
-            "pc",
-            str(it.pc),
-            put=putting(f"poke pc {name} {{}}"),
-            watched=f"pc {name}",
-            expression=f"{name}.pc",
-        ),
-        Variable("phase", phase_text(it), watched=f"phase {name}", expression=f"{name}.phase"),
+        amount("pc", name, str(it.pc), putting(f"poke pc {name} {{}}")),
+        amount("phase", name, phase_text(it)),
         Variable("core", "-" if it.core is None else str(it.core)),
         Variable(
             "data",
@@ -140,7 +139,7 @@ def within_object(shown: Shown, kind: str, name: str) -> List[Variable]:
 def within_queue(it: replies.Queue) -> List[Variable]:
     """A queue: its count, who waits, and its items, the oldest first."""
     found = [
-        Variable("count", str(it.count), watched=f"count {it.name}", expression=f"{it.name}.count"),
+        amount("count", it.name, str(it.count)),
         Variable("length", str(it.length)),
         Variable("waits to receive", values.names(it.receivers)),
         Variable("waits to send", values.names(it.senders)),
@@ -172,7 +171,7 @@ def within_set(it: replies.QueueSet) -> List[Variable]:
 def within_stream(it: replies.Stream) -> List[Variable]:
     """A stream buffer: how much is in it, who waits, and each byte, the oldest first."""
     found = [
-        Variable("bytes", str(it.held), watched=f"bytes {it.name}", expression=f"{it.name}.bytes"),
+        amount("bytes", it.name, str(it.held)),
         Variable("size", str(it.size)),
         Variable("trigger", str(it.trigger)),
         Variable("waits to read", it.reader or "-"),
@@ -192,12 +191,7 @@ def within_stream(it: replies.Stream) -> List[Variable]:
 def within_messages(it: replies.Messages) -> List[Variable]:
     """A message buffer: its messages, the oldest first, and who waits."""
     found = [
-        Variable(
-            "msgs",
-            str(len(it.messages)),
-            watched=f"msgs {it.name}",
-            expression=f"{it.name}.msgs",
-        ),
+        amount("msgs", it.name, str(len(it.messages))),
         Variable("held", str(it.held)),
         Variable("size", str(it.size)),
         Variable("waits to read", it.reader or "-"),
@@ -212,13 +206,8 @@ def within_messages(it: replies.Messages) -> List[Variable]:
 
 def within_group(it: replies.Group) -> List[Variable]:
     """An event group: its bits, and who waits for which, in the order of arrival."""
-    bits = Variable(
-        "bits",
-        f"0x{it.bits:06x}",
-        put=putting(f"poke group {it.name} {{}}", BITS),
-        watched=f"bits {it.name}",
-        expression=f"{it.name}.bits",
-    )
+    put = putting(f"poke group {it.name} {{}}", BITS)
+    bits = amount("bits", it.name, f"0x{it.bits:06x}", put)
     waiting = [
         Variable(
             f"[{at}]",

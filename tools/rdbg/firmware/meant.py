@@ -4,7 +4,7 @@ Such a line is refused. The names that it gives are kept all the same, so that t
 them aren't refused as well.
 """
 import re
-from typing import Container, Dict, Iterator, Optional, Sequence, Set, Tuple
+from typing import Container, Iterator, Optional, Sequence, Set, Tuple
 
 from rdbg.firmware import blocks
 from rdbg.firmware.numbers import LONGEST, NAME, near_to

@@ -16,17 +16,8 @@ PROGRESS = "--progress"
 OWN = {OUTPUT: "OUT", WITHIN: "SECONDS"}
 # Options of the program behind which a value stands.
 VALUED = {
-    "--from",
-    "--moves",
-    "--pace",
-    "--isr",
-    "--times",
-    "--after",
-    "--apart",
+    *"--from --moves --pace --isr --times --after --apart --states --memory --part".split(),
     SURPRISES,
-    "--states",
-    "--memory",
-    "--part",
 }
 # Behind it all words are a file and a goal.
 NO_MORE = "--"
