@@ -1,11 +1,15 @@
-"""`reach` and `again`: what can still come from here, asked of the program that searches."""
+"""`reach`, `lost`, `doomed` and `again`: what can still come from here, and at which move it was lost,
+asked of the program that searches."""
 import dataclasses
-from typing import TYPE_CHECKING, Callable, List, Sequence
+from typing import TYPE_CHECKING, Callable, List, Optional, Sequence
 
+from rdbg.driving import trail
 from rdbg.driving.opening import as_read
 from rdbg.driving.target import Unable
+from rdbg.effects import Move
 from rdbg.failure import Failure
 from rdbg.goals import words as goal_words
+from rdbg.reaching import losing
 from rdbg.reaching.asking import Asker, Question
 from rdbg.reaching.handlers import handlers
 from rdbg.reaching.said import Answer, Kind
@@ -32,16 +36,27 @@ def asks(question: Question) -> Callable[["Shell", Sequence[str]], None]:
     """What asks one of the program's questions about a goal, from here."""
 
     def ask(shell: "Shell", words: Sequence[str]) -> None:
-        word, goal = question.word, " ".join(words)
+        goal = " ".join(words) or shell.goal
         if not goal:
-            raise Unable(f"{word} what? `{word} asleep`, `{word} failed`; help {word} says more")
+            raise Unable(wanted(question))
         with shell.wheel():
             lines = replay.lines_of(shell)
         answer = asked(shell, question, goal, lines)
-        say(shell, answer)
+        if not words:
+            shell.say(f"of `{goal}`, the goal before:")
+        say(shell, question, answer)
+        shell.goal = goal
         shell.reached = Reached(question, goal, len(lines), answer.head())
 
     return ask
+
+
+def wanted(question: Question) -> str:
+    """What a question without a goal lacks."""
+    word = question.word
+    instances = ("asleep", "failed") if question.is_met else ("finished", "at worker 1")
+    texts = ", ".join(f"`{word} {it}`" for it in instances)
+    return f"{word} what? a goal, as {texts}; help {word} says more"
 
 
 def again(shell: "Shell", words: Sequence[str]) -> None:
@@ -55,7 +70,7 @@ def again(shell: "Shell", words: Sequence[str]) -> None:
     answer = asked(shell, before.question, before.goal, lines[: before.place] if is_there else [])
     where = f"from {before.place} on" if is_there and before.place else "from boot on"
     shell.say(f"{before.goal}, {where}: it was {before.said}, and is {answer.head()}")
-    say(shell, answer)
+    say(shell, before.question, answer)
     place = before.place if is_there else 0
     shell.reached = Reached(before.question, before.goal, place, answer.head())
 
@@ -84,12 +99,29 @@ def asked(shell: "Shell", question: Question, goal: str, lines: List[str]) -> An
     return dataclasses.replace(answer, order=answer.order[len(lines) :])
 
 
-def say(shell: "Shell", answer: Answer) -> None:
-    """Says an answer, and the order in it."""
+def say(shell: "Shell", question: Question, answer: Answer) -> None:
+    """Says an answer, and the order in it; of a goal that was lost, by which move."""
     shell.say(answer.head())
-    for line in answer.order[:MOST_LINES]:
+    loss = losing.loss_of(answer)
+    shell.lost = loss and lost_by(shell, loss)
+    if loss is not None:
+        move = shell.lost.row() if shell.lost else ""
+        for text in losing.told(loss, move, f"goto {loss.before}"):
+            shell.say(f"  {text}")
+    order = answer.order if loss is None else loss.order
+    for line in order[:MOST_LINES]:
         shell.say(f"  {line}")
-    if len(answer.order) > MOST_LINES:
-        shell.say(f"  and {len(answer.order) - MOST_LINES} more")
+    if len(order) > MOST_LINES:
+        shell.say(f"  and {len(order) - MOST_LINES} more")
+    if answer.kind is Kind.REACHED and not order:
+        shell.say(f"  {question.here}")
     if answer.kind is not Kind.REACHED and answer.why:
         shell.say(f"  {answer.why}")
+
+
+def lost_by(shell: "Shell", loss: losing.Loss) -> Optional[Move]:
+    """The move that lost a goal; none where there is none."""
+    if not loss.place:
+        return None
+    with shell.wheel():
+        return trail.moves(shell.walk, loss.place, loss.place)[0][0]

@@ -10,6 +10,7 @@ from typing import Iterator, Optional, Sequence, Tuple
 from rdbg import commands, kinds, record
 from rdbg.application import Interrupt as Handler
 from rdbg.client import ROOM_ENDED
+from rdbg.effects import Move
 from rdbg.looks import Look, Names
 from rdbg.replies import Cores, Refused
 from rdbg.goals.scope import Scope
@@ -46,8 +47,11 @@ class Shell:
         # The pace of runs, and the interrupts that come in them by themselves.
         self.pace: Optional[TickPace] = None
         self.coming: Tuple[Handler, ...] = ()
-        # What was asked last of what can still come.
+        # The goal of places that was asked for or gone to last; what was asked last of what can
+        # still come; and the move that lost a goal, where the last answer tells of one.
+        self.goal = ""
         self.reached: Optional[Reached] = None
+        self.lost: Optional[Move] = None
         self.take(target, source)
 
     def take(self, target: Target, source: Optional[Source]) -> None:
