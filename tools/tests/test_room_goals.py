@@ -35,6 +35,35 @@ class Goals(unittest.TestCase):
         self.assertEqual(("never", "never"), (first, never))
         self.assertRegex(found, "^found: ")
 
+    @unittest.skipUnless(real(), "no program that searches")
+    def test_where_it_was_lost(self) -> None:
+        run = (
+            "until count jobs > 0 50",
+            "step 1",
+            "step 1",
+            "step 1",
+            "step 0",
+            "back 1",
+            "redo 1",
+        )
+        lines = (*run, "lost at worker 1", "doomed", "reach", "trim 3", "lost failed", "lost")
+        *_, lost, doomed, never, _, nowhere, again = self.said(LOST, *lines)
+        move = "8  core 1  poller 0 recv jobs 0 -> 1, data 41, jobs 0/1"
+        way = "`back 2` goes before it, and from there it can still come: tick; step 0"
+        self.assertEqual(f"lost at 8: {move}; {way}", lost)
+        self.assertEqual(("found: from here no order leads there", "never"), (doomed, never))
+        self.assertEqual("lost at 0: no order leads there from boot: it could never come", nowhere)
+        self.assertEqual(nowhere, again)
+
+    @unittest.skipUnless(real(), "no program that searches")
+    def test_the_goal_before(self) -> None:
+        first, *_, stepped, moved, of_way = self.said(
+            LOST, "lost", "until count jobs > 0 50", "lost", "step 1", "back until tick = 0", "lost"
+        )
+        self.assertEqual("no: lost what? a goal, as `lost finished`, `lost at worker 1`", first)
+        self.assertEqual(("ok at 6", "ok at 2 met"), (stepped, moved))
+        self.assertEqual("still: it holds here", of_way)
+
     def test_what_is_no_goal(self) -> None:
         for line, why in (
             ("reach asleap", "no: word 1, 'asleap': a claim, .*; `asleep` would be right"),

@@ -28,6 +28,12 @@ class Question(NamedTuple):
     more: str = ""
     here: str = "it holds here"
 
+    def lacks_goal(self, task: str) -> str:
+        """What is said where no goal stands behind it, with a task that there is."""
+        instances = ("asleep", "failed") if self.is_met else ("finished", f"at {task} 1")
+        texts = ", ".join(f"`{self.word} {it}`" for it in instances)
+        return f"{self.word} what? a goal, as {texts}"
+
 
 REACH = Question(
     "reach",

@@ -1,27 +1,43 @@
 """Goals that are typed at a page: `reach GOAL`, whether some order of moves leads there from where the
-target stands, asked of the program that searches, while the room goes on; and why words are none."""
+target stands, `lost GOAL` and `doomed GOAL`, asked of the program that searches, while the room goes
+on; and why words are none."""
 import time
 from typing import Sequence
 
 from rdbg import record
-from rdbg.driving.opening import as_read
+from rdbg.driving.parts import move_to
 from rdbg.failure import Failure
 from rdbg.goals.reading import NoGoal
 from rdbg.goals.words import counted, for_search
 from rdbg.goals.scope import Scope
+from rdbg.reaching import losing
 from rdbg.reaching.asking import QUESTIONS, Asker
+from rdbg.reaching.behind import ask_behind
 from rdbg.rooms.room import Room
 
 # A search ends after so many seconds, or with so many mebibytes.
 SECONDS, MEBIBYTES = 20.0, 256
 SYNTAX = "no Syntax"
-# So many lines of an order are told at the most.
-MOST_LINES = 40
 
 
 def is_question(words: Sequence[str]) -> bool:
     """Whether a line asks for what can still come."""
     return words[:1] != [] and words[0] in QUESTIONS
+
+
+def lacks_goal(room: Room, words: Sequence[str]) -> str:
+    """What is answered to a question behind which no goal stands, nor was one asked for before."""
+    application = room.app_source.application
+    assert application is not None
+    return f"no: {QUESTIONS[words[0]].lacks_goal(application.tasks[0].name)}"
+
+
+def goal_in(line: str, reply: str) -> Sequence[str]:
+    """The goal of a run or a way back that was made, which has no COUNT behind it then."""
+    words = line.split()
+    behind = words[2:] if words[:2] == [record.BACK, "until"] else words[1:-1]
+    is_run = words[:1] == ["until"] or words[:2] == [record.BACK, "until"]
+    return behind if is_run and reply.startswith("ok ") else ()
 
 
 def told(room: Room, line: str, reply: str) -> str:
@@ -39,8 +55,8 @@ def told(room: Room, line: str, reply: str) -> str:
 
 
 def answered(room: Room, words: Sequence[str]) -> str:
-    """What is answered to such a line, in one."""
-    word, goal, source = QUESTIONS[words[0]], words[1:], room.app_source
+    """What is answered to such a line, behind which a goal stands, in one."""
+    question, goal, source = QUESTIONS[words[0]], words[1:], room.app_source
     try:
         _, asked = for_search(goal, Scope.of(source))
     except NoGoal as wrong:
@@ -48,13 +64,10 @@ def answered(room: Room, words: Sequence[str]) -> str:
     # (`back` leads no further then, but where the target stands is the same)
     lines = [it for it in room.lines() if it.split(" ")[0] != record.TRIM]
     options = ("--memory", str(MEBIBYTES))
+    asker = Asker(source.path, options, time.monotonic() + SECONDS)
     try:
-        with as_read(source) as path:
-            asker = Asker(path, options, time.monotonic() + SECONDS)
-            answer = asker.ask(asked, begin=lines, question=word)
+        answer = ask_behind(source, lines, question, asked, asker=asker)
+        texts = losing.in_one(question, answer, lambda place: move_to(source, lines, place).row())
     except Failure as failure:
         return f"no: {failure}"
-    order = answer.order[len(lines) :]
-    more = f"; and {len(order) - MOST_LINES} more" if len(order) > MOST_LINES else ""
-    told = "; ".join(order[:MOST_LINES]) + more or answer.why
-    return f"{answer.head()}: {told}" if told else answer.head()
+    return f"{answer.head()}: {texts}" if texts else answer.head()

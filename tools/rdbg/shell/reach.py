@@ -4,22 +4,18 @@ import dataclasses
 from typing import TYPE_CHECKING, Callable, List, Optional, Sequence
 
 from rdbg.driving import trail
-from rdbg.driving.opening import as_read
 from rdbg.driving.target import Unable
 from rdbg.effects import Move
 from rdbg.failure import Failure
 from rdbg.goals import words as goal_words
 from rdbg.reaching import losing
-from rdbg.reaching.asking import Asker, Question
-from rdbg.reaching.handlers import handlers
+from rdbg.reaching.asking import Question
+from rdbg.reaching.behind import ask_behind
 from rdbg.reaching.said import Answer, Kind
 from rdbg.shell import replay
 
 if TYPE_CHECKING:
     from rdbg.shell.shell import Shell
-
-# So many lines of an order are shown at the most.
-MOST_LINES = 40
 
 
 @dataclasses.dataclass(frozen=True)
@@ -38,7 +34,8 @@ def asks(question: Question) -> Callable[["Shell", Sequence[str]], None]:
     def ask(shell: "Shell", words: Sequence[str]) -> None:
         goal = " ".join(words) or shell.goal
         if not goal:
-            raise Unable(wanted(question))
+            text = question.lacks_goal("worker")
+            raise Unable(f"{text}; help {question.word} says more")
         with shell.wheel():
             lines = replay.lines_of(shell)
         answer = asked(shell, question, goal, lines)
@@ -49,14 +46,6 @@ def asks(question: Question) -> Callable[["Shell", Sequence[str]], None]:
         shell.reached = Reached(question, goal, len(lines), answer.head())
 
     return ask
-
-
-def wanted(question: Question) -> str:
-    """What a question without a goal lacks."""
-    word = question.word
-    instances = ("asleep", "failed") if question.is_met else ("finished", "at worker 1")
-    texts = ", ".join(f"`{word} {it}`" for it in instances)
-    return f"{word} what? a goal, as {texts}; help {word} says more"
 
 
 def again(shell: "Shell", words: Sequence[str]) -> None:
@@ -75,28 +64,20 @@ def again(shell: "Shell", words: Sequence[str]) -> None:
     shell.reached = Reached(before.question, before.goal, place, answer.head())
 
 
-def lines_at_pace(shell: "Shell") -> List[str]:
-    """The lines that tell the program the pace of the prompt, and which interrupts may come: those
-    that come by themselves here, as if none had come yet, and those that end waits."""
-    names = [it.name for it in shell.coming]
-    found = [it.line() for it in handlers(names, shell.target.application)]
-    return found + ([f"pace {shell.pace.text}"] if shell.pace is not None else [])
-
-
 def asked(shell: "Shell", question: Question, goal: str, lines: List[str]) -> Answer:
-    """What is answered behind these lines."""
-    source, application = shell.source, shell.target.application
-    if source is None or application is None:
-        raise Unable("`reach` needs the application's file: `rdbg sh FILE`")
+    """What is answered behind these lines, at the pace of the prompt; the interrupts that come by
+    themselves here may come, as if none had come yet."""
+    source = shell.source
+    if source is None or shell.target.application is None:
+        raise Unable(f"`{question.word}` needs the application's file: `rdbg sh FILE`")
+    names = [it.name for it in shell.coming]
+    pace = [f"pace {shell.pace.text}"] if shell.pace is not None else []
     try:
         _, words = goal_words.for_search(goal.split(), shell.scope())
-        with as_read(source) as path, shell.interrupt.at_prompt():
-            more = lines_at_pace(shell)
-            answer = Asker(path).ask(words, begin=lines, more=more, question=question)
+        with shell.interrupt.at_prompt():
+            return ask_behind(source, lines, question, words, names, pace)
     except Failure as failure:
         raise Unable(str(failure)) from None
-    # (the lines up to here stand before the order)
-    return dataclasses.replace(answer, order=answer.order[len(lines) :])
 
 
 def say(shell: "Shell", question: Question, answer: Answer) -> None:
@@ -109,10 +90,10 @@ def say(shell: "Shell", question: Question, answer: Answer) -> None:
         for text in losing.told(loss, move, f"goto {loss.before}"):
             shell.say(f"  {text}")
     order = answer.order if loss is None else loss.order
-    for line in order[:MOST_LINES]:
+    for line in order[: losing.MOST_LINES]:
         shell.say(f"  {line}")
-    if len(order) > MOST_LINES:
-        shell.say(f"  and {len(order) - MOST_LINES} more")
+    if len(order) > losing.MOST_LINES:
+        shell.say(f"  and {len(order) - losing.MOST_LINES} more")
     if answer.kind is Kind.REACHED and not order:
         shell.say(f"  {question.here}")
     if answer.kind is not Kind.REACHED and answer.why:

@@ -24,6 +24,7 @@ from rdbg.driving.opening import attach, builtin
 from rdbg.driving.target import Limits, Unable
 from rdbg.files.source import Source, standard_input
 from rdbg.tracing.events import Events
+from rdbg.tracing.losing import Lost, lost_in
 from rdbg.tracing.page import ways
 from rdbg.tracing.page.document import page
 from rdbg.driving.parts import AT_A_PORT, Part, Trim, part_at
@@ -85,13 +86,18 @@ def write_events(found: Iterable[Part], trims: Sequence[Trim], path: str) -> Non
 
 
 def write_page(
-    found: Iterable[Part], trims: Sequence[Trim], path: str, recorder: Recorder, way: Way
+    found: Iterable[Part],
+    trims: Sequence[Trim],
+    path: str,
+    recorder: Recorder,
+    way: Way,
+    lost: Optional[Lost] = None,
 ) -> None:
     """Writes the page of all parts, of which there is one at the least."""
     with written(path) as file:
         for part in found:
             recorder.add(part)
-        file.write(page(recorder.values(trims), way(recorder)))
+        file.write(page(recorder.values(trims), way(recorder), lost.values() if lost else None))
 
 
 def wanted(only: Optional[str], names: Names, cores: int) -> Optional[List[str]]:
@@ -156,6 +162,7 @@ def trace_run(given: argparse.Namespace, source: Optional[Source]) -> None:
     whole = plan(run)
     tell_refused(whole, given.commands or STANDARD_INPUT)
     found = whole.within(given.first or 1, given.last)
+    lost = None if given.lost is None else lost_in(source, whole.told, given.lost)
     workers = len(os.sched_getaffinity(0))
     seen = with_progress(parts(run, found.pieces, workers), found.count())
     if given.events:
@@ -164,11 +171,14 @@ def trace_run(given: argparse.Namespace, source: Optional[Source]) -> None:
     if given.page:
         way = ways.of_run(source, whole.told, given.moves, whole.base)
         shown = seen if found.pieces else [Part(whole.end, (), ())]
-        write_page(shown, found.trims, given.page, Recorder(application), lambda _: way)
+        write_page(shown, found.trims, given.page, Recorder(application), lambda _: way, lost)
         return
     told = [it.text for it in lines]
     table = Table.of(application, whole.done, whole.end.cores.tick, told)
-    print_rows(rows(moves_in(seen, goal), found.trims), table, names)
+    shown_rows = rows(moves_in(seen, goal), found.trims)
+    print_rows(shown_rows if lost is None else map(lost.mark, shown_rows), table, names)
+    if lost is not None:
+        print(lost.said)
 
 
 def trace_port(given: argparse.Namespace, source: Optional[Source]) -> None:

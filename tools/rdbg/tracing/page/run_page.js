@@ -4,7 +4,7 @@
 const QUIET = 150;
 
 class RunPage extends Viewer {
-  constructor({ title, way, run }) {
+  constructor({ title, way, run, lost }) {
     const shown = new Run(run);
     super(shown, new Timeline(shown, byId("canvas"), byId("lanes"), byId("scrolled")));
     this.way = new WayPanel(shown, way);
@@ -17,6 +17,7 @@ class RunPage extends Viewer {
       const place = this.placeOfLink();
       if (place !== null && place !== this.place) this.go(place);
     });
+    if (lost) this.setLost(lost.place, lost.words);
     this.go(this.placeOfLink() ?? shown.first);
   }
 
