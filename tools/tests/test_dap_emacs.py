@@ -74,6 +74,21 @@ HUNTS = (
             "r0 = 1",
         ),
     ),
+    # (the run of Continue gives the item to the worker: then the poller can have it no more)
+    Hunt(
+        "lost_item",
+        """
+(drive-launch)
+(drive-stop-where "lost reg poller 0 = 1")
+(drive-continue)
+(drive-back)
+""",
+        (
+            "entry | at 0: the start",
+            "function breakpoint | at 7: lost reg poller 0 = 1",
+            "step | at 6, before: worker 0 recv jobs max -> 1, data 41, jobs 0/1",
+        ),
+    ),
     Hunt(
         "meeting",
         """

@@ -7,6 +7,7 @@ from rdbg import record, replies
 from rdbg.adapter.breakpoints import Breakpoint, Breakpoints
 from rdbg.adapter.hearing import MOVED, Hearing
 from rdbg.adapter.known import Facts
+from rdbg.adapter.losing import Loses, listen
 from rdbg.adapter.messages import Arguments, Values, Wrong, event
 from rdbg.adapter.pausing import Pause
 from rdbg.adapter.paced import PacedRunner
@@ -96,6 +97,7 @@ class Debugger:
         first, column = self.text.first_line, self.text.first_column
         self._shell = shell
         Facts.of(shell.walk)  # (which hears of all moves from here on)
+        listen(shell)
         self.text = Text(shell.source)
         self.text.count_from(first, column)
         self.threads.learn(shell.target.names.tasks)
@@ -367,6 +369,9 @@ class Debugger:
             self.tell_failure(failures[0], self.mover())
             return
         text = "; ".join(stop.text for stop in met)
+        for stop in met:
+            if isinstance(stop, Loses):
+                self.say(stop.way)
         pairs = [pair for it in hit for pair in zip(it.stops, it.tasks)]
         tasks = [task for stop, task in pairs if stop in met]
         thread = self.threads.number(tasks[0]) if tasks else self.mover()
