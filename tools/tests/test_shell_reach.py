@@ -109,6 +109,27 @@ class Lost(unittest.TestCase):
             self.assertEqual("# never", said(shell, "doomed ended client")[0])
 
 
+class Play(unittest.TestCase):
+    """`play`."""
+
+    def test_the_order_that_was_answered(self) -> None:
+        with example("lost_item") as shell:
+            self.assertIn("`reach`, `lost` or `doomed` answered", said(shell, "play")[0])
+            said(shell, "forward 2", "reach reg poller 0 = 1")
+            said(shell, "play")
+            self.assertEqual(["# still", "#   it holds here"], said(shell, "lost")[1:])
+            self.assertIn("`reach`, `lost` or `doomed` answered", said(shell, "play")[0])
+
+    def test_it_begins_where_it_was_asked(self) -> None:
+        with example("lost_item") as shell:
+            said(shell, *RUN, "lost at worker 1")
+            self.assertEqual(
+                "# the order begins at 7: `goto 7`, then `play`", said(shell, "play")[0]
+            )
+            self.assertEqual(["ok at 7", "ok at 8", "ok at 9"], said(shell, "goto 7", "play"))
+            self.assertIn(" pc 1 ", said(shell, "show task worker")[0])
+
+
 class Again(unittest.TestCase):
     """`again`, once the file has another text."""
 

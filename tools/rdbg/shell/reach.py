@@ -28,6 +28,14 @@ class Reached:
     said: str
 
 
+@dataclasses.dataclass(frozen=True)
+class Order:
+    """The lines of an order that was answered, and the place where it begins."""
+
+    place: int
+    lines: Sequence[str]
+
+
 def asks(question: Question) -> Callable[["Shell", Sequence[str]], None]:
     """What asks one of the program's questions about a goal, from here."""
 
@@ -41,7 +49,7 @@ def asks(question: Question) -> Callable[["Shell", Sequence[str]], None]:
         answer = asked(shell, question, goal, lines)
         if not words:
             shell.say(f"of `{goal}`, the goal before:")
-        say(shell, question, answer)
+        say(shell, question, answer, len(lines))
         shell.goal = goal
         shell.reached = Reached(question, goal, len(lines), answer.head())
 
@@ -59,7 +67,7 @@ def again(shell: "Shell", words: Sequence[str]) -> None:
     answer = asked(shell, before.question, before.goal, lines[: before.place] if is_there else [])
     where = f"from {before.place} on" if is_there and before.place else "from boot on"
     shell.say(f"{before.goal}, {where}: it was {before.said}, and is {answer.head()}")
-    say(shell, before.question, answer)
+    say(shell, before.question, answer, before.place if is_there else 0)
     place = before.place if is_there else 0
     shell.reached = Reached(before.question, before.goal, place, answer.head())
 
@@ -80,8 +88,9 @@ def asked(shell: "Shell", question: Question, goal: str, lines: List[str]) -> An
         raise Unable(str(failure)) from None
 
 
-def say(shell: "Shell", question: Question, answer: Answer) -> None:
-    """Says an answer, and the order in it; of a goal that was lost, by which move."""
+def say(shell: "Shell", question: Question, answer: Answer, place: int) -> None:
+    """Says an answer, and the order in it, which begins at a place; of a goal that was lost, by which
+    move, and the order begins before that."""
     shell.say(answer.head())
     loss = losing.loss_of(answer)
     shell.lost = loss and lost_by(shell, loss)
@@ -90,6 +99,7 @@ def say(shell: "Shell", question: Question, answer: Answer) -> None:
         for text in losing.told(loss, move, f"goto {loss.before}"):
             shell.say(f"  {text}")
     order = answer.order if loss is None else loss.order
+    shell.order = Order(place if loss is None else loss.before, order)
     for line in order[: losing.MOST_LINES]:
         shell.say(f"  {line}")
     if len(order) > losing.MOST_LINES:
@@ -106,3 +116,19 @@ def lost_by(shell: "Shell", loss: losing.Loss) -> Optional[Move]:
         return None
     with shell.wheel():
         return trail.moves(shell.walk, loss.place, loss.place)[0][0]
+
+
+def play(shell: "Shell", words: Sequence[str]) -> None:
+    """`play`: makes the moves of the order that was answered."""
+    order = shell.order
+    if words or order is None or not order.lines:
+        raise Unable(
+            "`play` makes the moves of the order that `reach`, `lost` or `doomed` answered"
+        )
+    here = shell.target.places().done
+    if here != order.place:
+        raise Unable(f"the order begins at {order.place}: `goto {order.place}`, then `play`")
+    for line in order.lines:
+        shell.interrupt.check()
+        if not shell.command(line):
+            return

@@ -18,7 +18,7 @@ from rdbg.shell import hints, needs, views
 from rdbg.driving import trail
 from rdbg.driving.interrupt import Interrupt, Interrupted
 from rdbg.shell.notices import Notices, is_remark
-from rdbg.shell.reach import Reached
+from rdbg.shell.reach import Order, Reached
 from rdbg.shell.saved import Saved
 from rdbg.driving.target import SINGLE, Target, Unable, read
 from rdbg.driving.walk import Pieces, Walk
@@ -48,9 +48,10 @@ class Shell:
         self.pace: Optional[TickPace] = None
         self.coming: Tuple[Handler, ...] = ()
         # The goal of places that was asked for or gone to last; what was asked last of what can
-        # still come; and the move that lost a goal, where the last answer tells of one.
+        # still come, and the order in the answer; and the move that lost a goal, if it tells of one.
         self.goal = ""
         self.reached: Optional[Reached] = None
+        self.order: Optional[Order] = None
         self.lost: Optional[Move] = None
         self.take(target, source)
 

@@ -157,6 +157,7 @@ WORDS: Tuple[Word, ...] = (
         Word(f"{it.word} [GOAL]", it.asks, reach.asks(it), (), ("GOAL!",), QUESTION.format(it.more))
         for it in asking.QUESTIONS.values()
     ),
+    Word("play", "the moves of the order that was answered last", reach.play),
     Word("again", "reload, and what was asked by reach last", reach.again, more=AGAIN),
     Word(
         "set moves|echo on|off",
