@@ -126,7 +126,11 @@ class Play(unittest.TestCase):
             self.assertEqual(
                 "# the order begins at 7: `goto 7`, then `play`", said(shell, "play")[0]
             )
-            self.assertEqual(["ok at 7", "ok at 8", "ok at 9"], said(shell, "goto 7", "play"))
+            answers = said(shell, "set moves on", "goto 7", "play")
+            self.assertEqual(["ok at 9", "# 8  tick 2"], answers[2:4])
+            self.assertEqual(
+                "# 9  core 0  worker 0 recv jobs max -> 1, data 41, jobs 0/1", answers[4]
+            )
             self.assertIn(" pc 1 ", said(shell, "show task worker")[0])
 
 

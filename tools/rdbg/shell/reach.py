@@ -128,7 +128,21 @@ def play(shell: "Shell", words: Sequence[str]) -> None:
     here = shell.target.places().done
     if here != order.place:
         raise Unable(f"the order begins at {order.place}: `goto {order.place}`, then `play`")
-    for line in order.lines:
+    with shell.wheel():
+        start = shell.target.places().done
+        reply = made(shell, order.lines)
+        shell.answer(reply)
+        if reply.startswith("no "):
+            shell.say(f"the moves up to {shell.target.place} are made")
+        shell.after(start, None)
+
+
+def made(shell: "Shell", lines: Sequence[str]) -> str:
+    """The reply to the last of these lines, or to the first that is refused."""
+    reply = ""
+    for line in lines:
         shell.interrupt.check()
-        if not shell.command(line):
-            return
+        reply = shell.target.tell(line)
+        if reply.startswith("no "):
+            break
+    return reply
