@@ -70,11 +70,58 @@ class Goals(unittest.TestCase):
             ("reach sleeps worker", "no: the search through orders has no word for `sleeps`"),
             ("until count jobs>0 9", "no Syntax: word 2, .jobs>0.: .*; `count jobs > 0` would be"),
             ("back until count jobs == 0", "no Syntax: word 3, '==': .*; `count jobs = 0` would"),
-            ("until asleep 9", "no Syntax: a line of rdbg's has one condition"),
+            ("until! asleap", "no Syntax: word 1, 'asleap': .*; `asleep` would be right"),
+            ("rc! sleeps nobody", "no Syntax: word 2, 'nobody': the name of a task is wanted"),
+            ("rc", "no Syntax: to what. a goal, as `rc asleep`"),
             ("fly", "no Syntax$"),
         ):
             with self.subTest(line):
                 self.assertRegex(self.said(LOST, line)[0], f"^{why}")
+
+    def test_runs_to_goals(self) -> None:
+        found = self.said(
+            LOST,
+            "until! count jobs = 1 and not waits worker",
+            "rc! waits worker recv jobs",
+            "rc waits worker",
+            "until asleep 9",
+            "until! wakes worker",
+            "back until not waits worker",
+            "show moves",
+        )
+        expected = [
+            "at 5 met: count jobs = 1 and not waits worker",
+            "at 1 met: waits worker recv jobs",
+            "no: 'waits worker' wasn't met before; at 1 still",
+            "no: 'asleep' wasn't met in 9 moves; at 1 still",
+            "at 5 met: wakes worker",
+            "at 0 met: not waits worker",
+            "moves 0 undone 5 kept 0",
+        ]
+        self.assertEqual(expected, found)
+
+    def test_others_are_told_of_one_line(self) -> None:
+        room = Room.open(load(LOST), sessions=4)
+        try:
+            heard: List[str] = []
+            other = room.join("bo", heard.append)
+            pages = Pages(room)
+            page = pages.open("ada")
+            try:
+                page.ask("until! wakes worker")
+                told = [it for it in heard if it.startswith("# ada: ")]
+                self.assertEqual(["# ada: until! wakes worker -> ok at 5 met: wakes worker"], told)
+                self.assertEqual("ok wheel", other.ask("wheel take"))
+                self.assertEqual("no Held 1", page.ask("rc! waits worker"))
+                self.assertEqual("ok at 6", other.ask("step 1"))
+                other.ask("wheel give")
+                self.assertEqual("ok wheel", page.ask("wheel take"))
+                self.assertEqual("at 4 met: waits worker", page.ask("rc waits worker"))
+                self.assertEqual("no Held 2", other.ask("step 1"))
+            finally:
+                pages.close(page)
+        finally:
+            room.close()
 
 
 if __name__ == "__main__":

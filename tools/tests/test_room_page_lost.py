@@ -102,6 +102,22 @@ class Lost(OnPage):
             self.click("#ask-lost")
             self.said("lost at worker one -> no: word 3, 'one': the number of an instruction")
 
+    def test_runs_to_goals(self) -> None:
+        with web_room() as room:
+            self.visit(room)
+            self.browser.key("l")
+            goal = "count jobs = 1 and not waits worker"
+            for line, said in (
+                (f"until! {goal}", f"until! {goal} -> at 5 met: {goal}"),
+                ("rc! waits worker", "rc! waits worker -> at 1 met: waits worker"),
+                ("rc! wait worker", "rc! wait worker -> no Syntax: word 1, 'wait': a claim"),
+            ):
+                self.browser.call("Input.insertText", text=line)
+                self.browser.key("Enter")
+                self.said(said)
+            self.at(1)
+            self.assertEqual("waits worker", self.value("document.querySelector('#goal').value"))
+
 
 if __name__ == "__main__":
     unittest.main()

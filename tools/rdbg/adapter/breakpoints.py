@@ -24,8 +24,8 @@ from rdbg.driving.target import Unable
 
 # The failures at which one can be stopped: what the editor shows, and whether it is so by itself.
 FAILURES: Dict[str, Tuple[str, bool]] = {
-    "failed": ("A task fails", True),
-    "asleep": ("All that is left waits, and no task has a deadline", True),
+    "failed": ("failed: a task fails", True),
+    "asleep": ("asleep: all that is left waits, and no task has a deadline", True),
 }
 # How a number of hits can be compared.
 HITS: Dict[str, Callable[[int, int], bool]] = {

@@ -1,6 +1,6 @@
 """Goals that are typed at a page: `reach GOAL`, whether some order of moves leads there from where the
 target stands, `lost GOAL` and `doomed GOAL`, asked of the program that searches, while the room goes
-on; and why words are none."""
+on; and why words are none. Runs to them are in `web_ways`."""
 import time
 from typing import Sequence
 
@@ -8,7 +8,7 @@ from rdbg import record
 from rdbg.driving.parts import move_to
 from rdbg.failure import Failure
 from rdbg.goals.reading import NoGoal
-from rdbg.goals.words import counted, for_search
+from rdbg.goals.words import for_search
 from rdbg.goals.scope import Scope
 from rdbg.reaching import losing
 from rdbg.reaching.asking import QUESTIONS, Asker
@@ -17,7 +17,6 @@ from rdbg.rooms.room import Room
 
 # A search ends after so many seconds, or with so many mebibytes.
 SECONDS, MEBIBYTES = 20.0, 256
-SYNTAX = "no Syntax"
 
 
 def is_question(words: Sequence[str]) -> bool:
@@ -38,20 +37,6 @@ def goal_in(line: str, reply: str) -> Sequence[str]:
     behind = words[2:] if words[:2] == [record.BACK, "until"] else words[1:-1]
     is_run = words[:1] == ["until"] or words[:2] == [record.BACK, "until"]
     return behind if is_run and reply.startswith("ok ") else ()
-
-
-def told(room: Room, line: str, reply: str) -> str:
-    """A reply to a line; of a run or a way back that is refused as no command with what would be
-    right."""
-    words = line.split()
-    behind = words[2:] if words[:2] == [record.BACK, "until"] else words[1:]
-    if reply != SYNTAX or not behind or words[0] not in (record.BACK, "until"):
-        return reply
-    try:
-        counted(behind, Scope.of(room.app_source))
-    except NoGoal as wrong:
-        return f"{reply}: {wrong}"
-    return f"{reply}: a line of rdbg's has one condition; `rdbg sh --port` takes all goals"
 
 
 def answered(room: Room, words: Sequence[str]) -> str:

@@ -9,7 +9,7 @@ import threading
 import time
 from typing import Callable, Deque, Dict, List, Optional, Sequence, Tuple
 
-from rdbg.rooms import web_goals
+from rdbg.rooms import web_goals, web_ways
 from rdbg.rooms.room import Member, Refusal, Room
 from rdbg.rooms.web_follower import Follower, Values
 
@@ -137,11 +137,22 @@ class Page:
                 if line.lstrip(" ").startswith("#"):
                     self.member.remark(line)
                     return ""
+                way = web_ways.typed(line)
+                if way is not None:
+                    return self._gone(line, way)
                 reply = self.member.ask(line)
                 self._goal = web_goals.goal_in(line, reply) or self._goal
-                return web_goals.told(self._room, line, reply)
+                return reply
         finally:
             self._lines.release()
+
+    def _gone(self, line: str, way: web_ways.Typed) -> str:
+        """Goes to a goal for which rdbg has no line."""
+        assert self.member is not None
+        reply = web_ways.gone(self._room, self.member, line, way)
+        if reply.startswith("at "):
+            self._goal = reply.split(" met: ", 1)[1].split()
+        return reply
 
     def _answered(self, words: Sequence[str]) -> str:
         """The answer to a question, of the goal before where it says none."""

@@ -8,8 +8,9 @@ const BETWEEN = 250;
 // At first a move is so wide, that one sees those that come, and some before.
 const SCALE = 64;
 const LOOKS = /^\s*(show|reach|lost|doomed)(\s|$)/;
-// The goal of a line that asks for one or goes to one; and an answer that tells of a move.
+// The goal of a line that asks for one or goes to one, or of its answer; one that tells of a move.
 const GOALS = [/^\s*(?:reach|lost|doomed|back until) (.+)$/, /^\s*until (.+) \d+$/];
+const MET = /^at \d+ met: (.+)$/;
 const LOST_AT = /^lost at (\d+): (.*)$/;
 const MOVES = ["run", "more", "now", "trims"];
 
@@ -365,8 +366,10 @@ class RoomOnPage {
     const { reply, refused, ended } = await this.line.say("line", line);
     const no = refused ?? ended ?? (/^no:? /.test(reply) ? this.refusalWords(reply) : null);
     if (no !== null) return this.talk.say("refused", `${line} -> ${no}`);
-    if (LOOKS.test(line)) this.talk.say("reply", `${line} -> ${reply}`);
-    const [goal] = GOALS.map((it) => it.exec(line)?.[1]).filter(Boolean);
+    if (LOOKS.test(line) || MET.test(reply)) this.talk.say("reply", `${line} -> ${reply}`);
+    const [goal] = [MET.exec(reply), ...GOALS.map((it) => it.exec(line))]
+      .filter(Boolean)
+      .map((it) => it[1]);
     if (goal) byId("goal").value = goal.trim();
     // (where moves have become others meanwhile, it was said of those before)
     if (/^\s*lost\b/.test(line) && changes === this.page?.run.changes) this.mark(reply);
