@@ -4,11 +4,11 @@ on; and why words are none. Runs to them are in `web_ways`."""
 import time
 from typing import Sequence
 
-from rdbg import record
+from rdbg import commands, record
 from rdbg.driving.parts import move_to
 from rdbg.failure import Failure
 from rdbg.goals.reading import NoGoal
-from rdbg.goals.words import for_search
+from rdbg.goals.words import counted, for_search
 from rdbg.goals.scope import Scope
 from rdbg.reaching import losing
 from rdbg.reaching.asking import QUESTIONS, Asker
@@ -37,6 +37,20 @@ def goal_in(line: str, reply: str) -> Sequence[str]:
     behind = words[2:] if words[:2] == [record.BACK, "until"] else words[1:-1]
     is_run = words[:1] == ["until"] or words[:2] == [record.BACK, "until"]
     return behind if is_run and reply.startswith("ok ") else ()
+
+
+def told(room: Room, line: str, reply: str) -> str:
+    """A reply to a line; of one with a condition that is refused with what would be right."""
+    words = line.split()
+    behind = words[2:] if words[:2] == [record.BACK, "until"] else words[1:]
+    if not reply.startswith("no ") or words[:1] not in (["until"], ["watch"], [record.BACK]):
+        return reply
+    try:
+        counted(behind, Scope.of(room.app_source))
+    except NoGoal as wrong:
+        is_watch = commands.is_watch(behind[0]) if behind else True
+        return reply if is_watch else f"{reply}: {wrong}"
+    return reply
 
 
 def answered(room: Room, words: Sequence[str]) -> str:

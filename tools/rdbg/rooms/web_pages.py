@@ -142,7 +142,7 @@ class Page:
                     return self._gone(line, way)
                 reply = self.member.ask(line)
                 self._goal = web_goals.goal_in(line, reply) or self._goal
-                return reply
+                return web_goals.told(self._room, line, reply)
         finally:
             self._lines.release()
 
