@@ -23,11 +23,13 @@ FORMS = "send Q HEX, or notify K I N ACTION; more calls of one handler with ; be
 @dataclasses.dataclass(frozen=True)
 class Handler:
     """A handler, by the lines of its calls, how often it may come in one order, and when, as the
-    program that searches has it, where a text says that."""
+    program that searches has it, where a text says that. One that is endless comes any number of
+    times where it is searched; where its times are counted one by one, so many."""
 
     calls: Tuple[str, ...]
     times: int = 1
     when: Tuple[Tuple[str, str], ...] = ()
+    is_endless: bool = False
 
     @property
     def text(self) -> str:
@@ -36,7 +38,8 @@ class Handler:
 
     def line(self) -> str:
         """The line that lets it come, of the program that searches."""
-        return " ".join([f"{WORD} {self.text} times {self.times}", *map(" ".join, self.when)])
+        times = EVER if self.is_endless else str(self.times)
+        return " ".join([f"{WORD} {self.text} {TIMES} {times}", *map(" ".join, self.when)])
 
 
 def handlers(texts: Sequence[str], application: Application) -> Tuple[Handler, ...]:
@@ -54,8 +57,9 @@ def handlers(texts: Sequence[str], application: Application) -> Tuple[Handler, .
         if same and not it.when:
             found[same[0]] = Handler(calls, found[same[0]].times + 1)
         else:
-            most = MOST_TIMES if times == EVER else int(times)
-            found.append(Handler(calls, most, tuple(when.items())))
+            is_endless = times == EVER
+            most = MOST_TIMES if is_endless else int(times)
+            found.append(Handler(calls, most, tuple(when.items()), is_endless))
     return tuple(found)
 
 
