@@ -58,7 +58,7 @@ def side_by_side(begin: Begin[Job, Answer], jobs: Sequence[Job], count: int) -> 
             try:
                 answer, error = pipes[at % count].recv()
             except (EOFError, OSError):
-                raise Failure("a process that looks at moves has ended") from None
+                raise Failure("a process beside this one has ended") from None
             if error is not None:
                 raise error
             yield answer

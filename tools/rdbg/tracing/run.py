@@ -16,7 +16,7 @@ from rdbg.driving.target import RESERVE, Limits, Target
 from rdbg.driving.parts import Part, Told, Trim, look_through
 from rdbg.driving.walk import LEAST_PIECE
 from rdbg.files.source import Source
-from rdbg.tracing.workers import side_by_side
+from rdbg.workers import side_by_side
 
 # So many moves are looked at by one program at the most.
 MOST_MOVES = 4_096

@@ -1,0 +1,264 @@
+"""The cases of a folder, as its file `goals.json` lists them: of an application a goal, how it is asked
+for, and what is expected.
+"""
+import argparse
+import dataclasses
+import os
+import pathlib
+import re
+from typing import Any, Callable, Dict, List, NamedTuple, Optional, Tuple
+
+from rdbg import json_text
+from rdbg.digits import seconds
+from rdbg.driving.pacing import IS, pace
+from rdbg.failure import Failure
+from rdbg.fault import Fault
+from rdbg.files.definitions import definition
+from rdbg.near import nearest
+from rdbg.reaching.asking import QUESTIONS, REACH
+from rdbg.tree import Node, Number, Object, Place, kind_of
+from rdbg.wording import quoted, shown
+
+# The file that lists the cases of a folder, and its one key.
+FILE, CASES = "goals.json", "cases"
+# So many seconds a case may take where it says no number.
+WITHIN = 60.0
+KIND = "goals"
+# What may be expected: the first line of an answer, or its beginning.
+HEADS = ("found", "never", "not within", "still", "lost at", "full")
+EXPECTED = re.compile(
+    r"found|never|still|full|lost at( \d+)?"
+    r"|(full: )?not within( \d+ moves)?(( and)? \d+ surprises)?",
+    re.ASCII,
+)
+
+
+class Wrong(Exception):
+    """A value isn't one of its key: what it is to be."""
+
+
+@dataclasses.dataclass(frozen=True)
+class Case:
+    """A case: its place in the file, the application, the goal, the question, with the options of
+    `reach`, what is expected, and how many seconds that may take."""
+
+    place: Place
+    file: str
+    goal: str
+    expect: str
+    question: str = REACH.word
+    isr: Tuple[str, ...] = ()
+    consts: Tuple[str, ...] = ()
+    pace: str = ""
+    begin: str = ""
+    surprises: Optional[int] = None
+    moves: Optional[int] = None
+    states: Optional[int] = None
+    memory: Optional[int] = None
+    within: float = WITHIN
+
+    def options(self, folder: str) -> Tuple[str, ...]:
+        """The words of the program that searches, which say where it begins, at which pace, and how
+        much it may keep."""
+        begin = os.path.join(folder, self.begin) if self.begin else ""
+        states, memory = ("" if it is None else str(it) for it in (self.states, self.memory))
+        pairs = (
+            ("--from", begin),
+            ("--pace", self.pace),
+            ("--states", states),
+            ("--memory", memory),
+        )
+        return tuple(word for name, value in pairs if value for word in (name, value))
+
+    def is_met(self, head: str) -> bool:
+        """Whether the first line of an answer is what is expected, or begins with it."""
+        return re.match(rf"{re.escape(self.expect)}\b", head) is not None
+
+
+def text(node: Node) -> str:
+    """A text that isn't empty, on one line."""
+    if not isinstance(node.value, str) or not node.value.strip() or not node.value.isprintable():
+        raise Wrong("a text")
+    return node.value.strip()
+
+
+def texts(node: Node) -> Tuple[str, ...]:
+    """A list of texts."""
+    if not isinstance(node.value, tuple):
+        raise Wrong("a list of texts")
+    return tuple(text(it) for it in node.value)
+
+
+def question(node: Node) -> str:
+    """A question of the program that searches."""
+    if not isinstance(node.value, str) or node.value not in QUESTIONS:
+        raise Wrong(f"one of {', '.join(QUESTIONS)}")
+    return node.value
+
+
+def expected(node: Node) -> str:
+    """What the first line of an answer is to be, or begin with."""
+    if not isinstance(node.value, str) or not EXPECTED.fullmatch(node.value):
+        raise Wrong(f"the first line of an answer, or its beginning: {', '.join(HEADS)}")
+    return node.value
+
+
+def a_pace(node: Node) -> str:
+    """A pace."""
+    if not isinstance(node.value, str) or pace(node.value) is None:
+        raise Wrong(f"a text: {IS}")
+    return node.value
+
+
+def consts(node: Node) -> Tuple[str, ...]:
+    """A list of consts with their numbers."""
+    found = texts(node)
+    try:
+        for it in found:
+            definition(it)
+    except argparse.ArgumentTypeError as error:
+        raise Wrong(f"a list of consts: {error}") from None
+    return found
+
+
+def limit(node: Node) -> float:
+    """A number of seconds."""
+    found = seconds(node.value.text) if isinstance(node.value, Number) else None
+    if found is None:
+        raise Wrong("a number of seconds above 0")
+    return found
+
+
+def number(least: int, most: int) -> Callable[[Node], int]:
+    """Reads a number within limits."""
+
+    def read_number(node: Node) -> int:
+        found = node.value.natural() if isinstance(node.value, Number) else None
+        if found is None or not least <= found <= most:
+            raise Wrong(f"a number, {least} to {most:,}")
+        return found
+
+    return read_number
+
+
+class Key(NamedTuple):
+    """A key of a case: what it says, how its value is read, the field that it is, and whether each
+    case has it."""
+
+    name: str
+    says: str
+    read: Callable[[Node], Any]
+    field: str = ""
+    is_needed: bool = False
+
+
+BILLION = 1_000_000_000
+# Each is one row.
+KEYS = (
+    Key("file", "the application, JSON or in lines, beside this file", text, is_needed=True),
+    Key("goal", "the goal (docs/REACHING.md)", text, is_needed=True),
+    Key("expect", "the first line of the answer, or its beginning", expected, is_needed=True),
+    Key("question", "what is asked of the goal: reach by itself", question),
+    Key("isr", "the interrupts that may come, by name or by their calls", texts),
+    Key("consts", "consts of a text in lines with their numbers, NAME=N", consts),
+    Key("pace", "how many moves each busy core makes from one tick to the next", a_pace),
+    Key("from", "the file of command lines behind which orders begin", text, "begin"),
+    Key("surprises", "orders of so many surprises at the most", number(0, 255)),
+    Key("moves", "orders of so many moves at the most", number(0, BILLION)),
+    Key("states", "how many states are kept", number(1, BILLION)),
+    Key("memory", "for how many mebibytes states are kept", number(1, 1_048_576)),
+    Key("within", f"how many seconds it may take, {WITHIN:.0f} by itself", limit),
+)
+NAMES = tuple(key.name for key in KEYS)
+
+
+class Cases:
+    """The cases of a text, and what is wrong with it."""
+
+    def __init__(self) -> None:
+        self.cases: List[Case] = []
+        self.faults: List[Fault] = []
+
+    def fault(self, place: Place, message: str) -> None:
+        """Keeps a fault."""
+        self.faults.append(Fault(place, KIND, message))
+
+    def file(self, root: Node) -> None:
+        """The whole file: one object with the list of cases."""
+        found = self._members(root, "the file", (CASES,))
+        node = found.get(CASES)
+        if node is None:
+            if isinstance(root.value, Object) and not self.faults:
+                self.fault(root.place, f'the file lacks "{CASES}", its list of cases')
+            return
+        if not isinstance(node.value, tuple) or not node.value:
+            what = "an empty list" if node.value == () else shown(kind_of(node.value))
+            self.fault(node.place, f"{CASES} is {what}, and is to be a list of cases")
+            return
+        for at, it in enumerate(node.value, 1):
+            self._case(it, f"case {at}")
+
+    def _members(self, node: Node, label: str, names: Tuple[str, ...]) -> Dict[str, Node]:
+        """The values of an object by their keys, which are among these, each there once."""
+        found: Dict[str, Node] = {}
+        if not isinstance(node.value, Object):
+            what = shown(kind_of(node.value))
+            self.fault(node.place, f"{label} is {what}, and is to be an object")
+            return found
+        for it in node.value.members:
+            if it.key not in names:
+                near = nearest(it.key, names)
+                hint = f"{near}?" if near else f"these are: {', '.join(names)}"
+                self.fault(it.place, f"{label}: {quoted(it.key)} is none of its keys: {hint}")
+            elif it.key in found:
+                self.fault(it.place, f"{label}: {it.key} stands twice")
+            else:
+                found[it.key] = it.node
+        return found
+
+    def _case(self, node: Node, label: str) -> None:
+        """A case."""
+        before = len(self.faults)
+        found = self._members(node, label, NAMES)
+        if not isinstance(node.value, Object):
+            return
+        values: Dict[str, Any] = {}
+        for key in KEYS:
+            if key.name in found:
+                try:
+                    values[key.field or key.name] = key.read(found[key.name])
+                except Wrong as wrong:
+                    self.fault(found[key.name].place, f"{label}: {key.name} is to be {wrong}")
+            elif key.is_needed:
+                self.fault(node.place, f"{label} lacks {key.name}: {key.says}")
+        if len(self.faults) == before:
+            self.cases.append(Case(node.place, **values))
+
+
+def read(content: bytes) -> Tuple[List[Case], List[Fault]]:
+    """The cases of a file's content, and what is wrong with it."""
+    root, faults = json_text.read(content)
+    if root is None:
+        return [], faults
+    found = Cases()
+    found.file(root)
+    return found.cases, found.faults
+
+
+def file_of(path: str) -> str:
+    """The file that lists the cases of a folder, or the file that this is. Raises `Failure` where
+    there is none."""
+    if not os.path.isdir(path):
+        return path
+    found = os.path.join(path, FILE)
+    if not os.path.exists(found):
+        raise Failure(f"{path} has no {FILE}, which lists its applications with their goals", 2)
+    return found
+
+
+def load(path: str) -> Tuple[List[Case], List[Fault]]:
+    """The cases of a file, and what is wrong with it. Raises `Failure` where it can't be read."""
+    try:
+        return read(pathlib.Path(path).read_bytes())
+    except OSError as error:
+        raise Failure(f"cannot read {path}: {error.strerror}", 2) from None

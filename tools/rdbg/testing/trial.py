@@ -1,0 +1,125 @@
+"""A case that is tried: what the program that searches answers, and the order in it."""
+import contextlib
+import enum
+import functools
+import io
+import os
+import time
+from typing import Callable, Iterator, List, NamedTuple, Tuple
+
+from rdbg.driving.target import Unable
+from rdbg.failure import Failure
+from rdbg.files.definitions import definition
+from rdbg.files.source import Source, load
+from rdbg.hunting import report
+from rdbg.hunting.goals import DIFFERS, Goal
+from rdbg.hunting.goals import read as read_goal
+from rdbg.hunting.interrupts import Handler, handlers
+from rdbg.hunting.stage import Stage
+from rdbg.reaching.asking import LOST, QUESTIONS, Asker
+from rdbg.reaching.said import Answer, Bound
+from rdbg.replies import Refused
+from rdbg.testing.cases import Case
+
+
+class Verdict(enum.Enum):
+    """What became of a case."""
+
+    OK = "ok"
+    WRONG = "wrong"
+    REFUSED = "refused"
+
+
+class Result(NamedTuple):
+    """A case that was tried: what became of it, the first line of the answer or why there is none,
+    how long it took, and what is told of it: the order, or what was gone through."""
+
+    verdict: Verdict
+    came: str
+    seconds: float
+    told: Tuple[str, ...] = ()
+
+
+class Ready(NamedTuple):
+    """A case that can be asked."""
+
+    source: Source
+    goal: Goal
+    interrupts: Tuple[Handler, ...]
+
+
+def prepared(case: Case, folder: str) -> Ready:
+    """What a case asks. Raises `Failure` where its application, its goal or an interrupt is none."""
+    path = os.path.join(folder, case.file)
+    source = load(path, dict(map(definition, case.consts)))
+    if source.application is None:
+        raise Failure(f"{path}:{source.faults[0]}", 2)
+    words = case.goal.split()
+    if words == [DIFFERS]:
+        raise Failure(f"{DIFFERS} is a goal of hunt alone; a case has one of places", 2)
+    goal = read_goal(words, source, QUESTIONS[case.question])
+    return Ready(source, goal, handlers(case.isr, source.application))
+
+
+def wrong_with(case: Case, folder: str) -> str:
+    """Why a case can't be asked, as one line; empty where it can."""
+    try:
+        prepared(case, folder)
+    except Failure as failure:
+        said = str(failure)
+        return said if case.file in said else f"{case.file}: {said}"
+    return ""
+
+
+def asked(case: Case, folder: str, ready: Ready) -> Answer:
+    """What is answered. Raises `Failure` where it is refused."""
+    with ready.source.as_json() as path:
+        end = time.monotonic() + case.within
+        asker = Asker(path, case.options(folder), end)
+        bound = Bound(case.moves, case.surprises)
+        lines = [it.line() for it in ready.interrupts]
+        return asker.ask(ready.goal.asked, bound, (), lines, QUESTIONS[case.question])
+
+
+def order_of(case: Case, ready: Ready, answer: Answer) -> Iterator[str]:
+    """The order of an answer: who did what, where it begins at boot; else its lines."""
+    if case.begin or case.question == LOST.word:
+        yield from answer.order
+        return
+    stage = Stage(ready.source, ready.interrupts)
+    try:
+        find = stage.find(answer.order)
+        yield from report.found(ready.goal, stage, [find], False)
+        yield from ("lines:", *report.lines_of(ready.goal, stage, [find]))
+    finally:
+        stage.close()
+
+
+def told_of(case: Case, ready: Ready, answer: Answer) -> List[str]:
+    """What there is to tell of an answer: the order, else why not all was gone through; and how much
+    was."""
+    told = [*order_of(case, ready, answer)] if answer.order else [*report.ended(answer)]
+    return [*told, report.gone_through(answer.counts)]
+
+
+def tried(folder: str, case: Case) -> Result:
+    """What becomes of a case. What the program says besides is why it has refused one."""
+    began = time.monotonic()
+    said = io.StringIO()
+    try:
+        with contextlib.redirect_stderr(said):
+            ready = prepared(case, folder)
+            answer = asked(case, folder, ready)
+            took = time.monotonic() - began
+            told = told_of(case, ready, answer)
+    except (Failure, Refused, Unable) as failure:
+        why = str(failure) or " ".join(said.getvalue().split())
+        return Result(Verdict.REFUSED, why, time.monotonic() - began)
+    verdict = Verdict.OK if case.is_met(answer.head()) else Verdict.WRONG
+    return Result(verdict, answer.head(), took, tuple(told))
+
+
+@contextlib.contextmanager
+def trier(folder: str) -> Iterator[Callable[[Case], Result]]:
+    """What tries cases of a folder, as long as a block goes on."""
+    yield functools.partial(tried, folder)
