@@ -307,6 +307,12 @@ class Questions(unittest.TestCase):
         # (where a run lost a goal is no order)
         self.assertEqual(2, said(LOST, "lost", "at worker 1")[0])
 
+    def test_doomed_by_none(self) -> None:
+        # (within how many moves it comes is no reason why not all was gone through)
+        status, _, errors = said(path("stolen_answer_mended"), "doomed", "ended client")
+        self.assertEqual((0, "never"), (status, errors[1]))
+        self.assertEqual("within 11 moves it comes from anywhere", errors[-1])
+
 
 class Interrupted(unittest.TestCase):
     """Ctrl-C."""

@@ -91,9 +91,10 @@ def not_come_to(answer: Answer, application: Application) -> Iterator[str]:
 
 
 def ended(answer: Answer) -> Iterator[str]:
-    """Why not all was gone through, if it wasn't."""
+    """Why not all was gone through, if it wasn't; of what was, what else is said of it."""
     if answer.why:
-        yield f"that isn't all: {WHY.get(answer.why, answer.why)}"
+        why = WHY.get(answer.why, answer.why)
+        yield why if answer.kind is Kind.NONE else f"that isn't all: {why}"
 
 
 def others(answer: Answer) -> Iterator[str]:
