@@ -8,11 +8,12 @@ import unittest
 from typing import Any, Dict, Iterator, List, Tuple
 
 from tests.paths import EXAMPLES
-from tests.trials import tested
+from tests.trials import listing, tested
 
 FAULTS = EXAMPLES / "faults"
-MENDED, WRONG = "mended", "wrong_mend"
-HEADS = {"found", "never", "not within"}
+WRONG = "wrong_mend*.fw"
+# What is expected of a right one.
+RIGHT = ("never", "not within")
 
 
 def listed(folder: pathlib.Path = FAULTS) -> List[Dict[str, Any]]:
@@ -21,11 +22,19 @@ def listed(folder: pathlib.Path = FAULTS) -> List[Dict[str, Any]]:
     return found
 
 
-def pairs() -> Iterator[Tuple[pathlib.Path, pathlib.Path]]:
-    """Each right mend, with each wrong one beside it."""
-    for right in sorted(FAULTS.glob(f"*/{MENDED}.fw")):
-        for wrong in sorted(right.parent.glob(f"{WRONG}*.fw")):
-            yield right, wrong
+def pairs() -> Iterator[Tuple[Dict[str, Any], pathlib.Path]]:
+    """The case of each right mend, with each wrong one beside that."""
+    for case in listed():
+        if case["expect"].startswith(RIGHT):
+            for wrong in sorted((FAULTS / case["file"]).parent.glob(WRONG)):
+                yield case, wrong
+
+
+def order_of(output: List[str], head: str) -> List[str]:
+    """The line that begins so, and what is told below it."""
+    first = next(at for at, line in enumerate(output) if line.startswith(head))
+    after = [at for at, line in enumerate(output) if at > first and not line.startswith(" ")]
+    return output[first : after[0]]
 
 
 class Folder(unittest.TestCase):
@@ -52,25 +61,26 @@ class Folder(unittest.TestCase):
 class Mends(unittest.TestCase):
     """A wrong mend in the place of a right one."""
 
-    def test_a_wrong_mend_fails_the_folder(self) -> None:
-        for right, wrong in pairs():
-            with self.subTest(str(wrong.relative_to(FAULTS))):
-                self.check(right, wrong)
+    def test_each_fault_has_both(self) -> None:
+        folders = {folder.name for folder in FAULTS.iterdir() if folder.is_dir()}
+        self.assertEqual(folders, {wrong.parent.name for _, wrong in pairs()})
 
-    def check(self, right: pathlib.Path, wrong: pathlib.Path) -> None:
-        """The cases of a right mend are wrong with the wrong one, one of them at the least, and it is
-        said by which order."""
-        name = os.path.join(right.parent.name, right.name)
-        with tempfile.TemporaryDirectory() as folder:
-            (pathlib.Path(folder) / right.parent.name).mkdir()
-            shutil.copy(str(wrong), os.path.join(folder, name))
-            cases = [case for case in listed() if case["file"] == name]
-            (pathlib.Path(folder) / "goals.json").write_text(json.dumps({"cases": cases}))
-            status, output, errors = tested(folder)
+    def test_a_wrong_mend_fails_the_folder(self) -> None:
+        # (in one folder for all, so that they are tried side by side)
+        with tempfile.TemporaryDirectory() as made:
+            cases = []
+            for at, (case, wrong) in enumerate(pairs()):
+                name = f"{at}_{wrong.parent.name}.fw"
+                shutil.copy(str(wrong), os.path.join(made, name))
+                cases.append({**case, "file": name})
+            status, output, errors = tested(listing(made, *cases))
         self.assertEqual((1, []), (status, errors), output)
-        first = next(at for at, line in enumerate(output) if line.startswith("wrong"))
-        self.assertIn("was expected; found came", output[first])
-        self.assertTrue(any(line.split()[:1] == ["place"] for line in output[first:]), output)
+        self.assertEqual(f"{len(cases)} cases: {len(cases)} wrong", output[-1])
+        for case in cases:
+            told = order_of(output, f"wrong  {case['file']}: ")
+            self.assertIn("was expected; found came", told[0])
+            self.assertIn(["place", "tick"], [line.split()[:2] for line in told])
+            self.assertIn("lines:", [line.strip() for line in told])
 
 
 if __name__ == "__main__":
