@@ -193,7 +193,7 @@ class Refused(InFolder):
     def test_an_application_that_is_refused(self) -> None:
         self.written("wrong.fw", "cores 1\ntask a priority 1\n jmp a\n end\n")
         found = self.faults({**NEVER, "file": "wrong.fw"})
-        self.assertIn('wrong.fw:3:2: jmp a is written jump a', found[0])
+        self.assertIn("wrong.fw:3:2: jmp a is written jump a", found[0])
 
     def test_no_list(self) -> None:
         for text, wanted in (
