@@ -11,11 +11,12 @@ from typing import Any, Dict, List, Tuple
 from unittest import mock
 from xml.etree import ElementTree
 
-from rdbg.testing.cases import Case
+from rdbg.testing.cases import NAMES, Case
 from rdbg.testing.progress import Shown
 from rdbg.tree import Place
 from tests.paths import EXAMPLES
 from tests.started import Started, sleeper
+from tests.tables import codes, rows, section
 from tests.trials import listing, tested
 
 LOST, MENDED = "lost_item.json", "meeting_mended.json"
@@ -103,6 +104,11 @@ class Answers(InFolder):
             {"file": "few.fw", "goal": "reg a 1 = 3", "expect": "never"},
         )
         self.assertEqual((0, []), (status, errors), output)
+
+    def test_a_goal_that_holds_at_the_start(self) -> None:
+        status, output, errors = self.try_all({**FOUND, "goal": "tick = 0", "expect": "never"})
+        self.assertEqual((1, []), (status, errors), output)
+        self.assertIn("       found: tick = 0, at 0, without a surprise", output)
 
     def test_the_time_is_up(self) -> None:
         late = {"file": "slow.json", "goal": "asleep", "expect": "never", "within": 0.2}
@@ -257,7 +263,12 @@ class Report(InFolder):
 
 
 class Expected(unittest.TestCase):
-    """What an answer is held against."""
+    """What an answer is held against, and the keys of a case."""
+
+    def test_keys_are_those_of_the_page(self) -> None:
+        page = section("COMPANIONS.md", "`test`: a folder of applications with their goals")
+        table = rows(page, "| Key of a case | What it says |")
+        self.assertEqual(set(NAMES), codes([first for first, _ in table]))
 
     def test_is_met(self) -> None:
         for expect, head, is_met in (

@@ -1,6 +1,5 @@
 """Runs a folder of applications with their goals."""
 import argparse
-import io
 import os
 import sys
 from typing import Iterator, List, Sequence, Tuple
@@ -13,6 +12,7 @@ from rdbg.testing import cases, junit, words
 from rdbg.testing.cases import Case
 from rdbg.testing.progress import Shown
 from rdbg.testing.trial import Result, Verdict, trier, wrong_with
+from rdbg.wording import counted
 from rdbg.workers import side_by_side
 
 SUMMARY = "runs a folder of applications with their goals, each against what is expected"
@@ -55,8 +55,7 @@ def checked(path: str) -> Tuple[str, List[Case]]:
     if not said:
         return file, found
     print(*said, sep="\n", file=sys.stderr)
-    count = "1 fault" if len(said) == 1 else f"{len(said)} faults"
-    raise Failure(f"{file} has {count}; nothing is tried", NONE)
+    raise Failure(f"{file} has {counted(len(said), 'fault')}; nothing is tried", NONE)
 
 
 def results_of(folder: str, found: Sequence[Case], jobs: int) -> Iterator[Tuple[Case, Result]]:
@@ -95,9 +94,6 @@ def test(given: argparse.Namespace) -> int:
 def main(words: Sequence[str]) -> int:
     """Runs the cases of a folder."""
     given = parser().parse_args(words)
-    for stream in (sys.stdout, sys.stderr):
-        if isinstance(stream, io.TextIOWrapper):
-            stream.reconfigure(errors="backslashreplace")
     try:
         return test(given)
     except Failure as failure:

@@ -11,7 +11,7 @@ from typing import Any, Callable, Dict, List, NamedTuple, Optional, Tuple
 from rdbg import json_text
 from rdbg.digits import seconds
 from rdbg.driving.pacing import IS, pace
-from rdbg.failure import Failure
+from rdbg.failure import Failure, trying
 from rdbg.fault import Fault
 from rdbg.files.definitions import definition
 from rdbg.near import nearest
@@ -258,7 +258,6 @@ def file_of(path: str) -> str:
 
 def load(path: str) -> Tuple[List[Case], List[Fault]]:
     """The cases of a file, and what is wrong with it. Raises `Failure` where it can't be read."""
-    try:
-        return read(pathlib.Path(path).read_bytes())
-    except OSError as error:
-        raise Failure(f"cannot read {path}: {error.strerror}", 2) from None
+    with trying(f"read {path}"):
+        content = pathlib.Path(path).read_bytes()
+    return read(content)

@@ -98,7 +98,7 @@ def order_of(case: Case, ready: Ready, answer: Answer) -> Iterator[str]:
 def told_of(case: Case, ready: Ready, answer: Answer) -> List[str]:
     """What there is to tell of an answer: the order, else why not all was gone through; and how much
     was."""
-    told = [*order_of(case, ready, answer)] if answer.order else [*report.ended(answer)]
+    told = [*order_of(case, ready, answer)] if answer.has_order else [*report.ended(answer)]
     return [*told, report.gone_through(answer.counts)]
 
 

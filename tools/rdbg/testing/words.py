@@ -3,6 +3,7 @@ from typing import Iterator, Sequence
 
 from rdbg.testing.cases import Case
 from rdbg.testing.trial import Result, Verdict
+from rdbg.wording import counted
 
 
 def asked(case: Case) -> str:
@@ -35,6 +36,5 @@ def lines(case: Case, result: Result) -> Iterator[str]:
 def summary(results: Sequence[Result]) -> str:
     """How many are as expected, and how many not."""
     counts = {it: sum(result.verdict is it for result in results) for it in Verdict}
-    counted = ", ".join(f"{count} {it.value}" for it, count in counts.items() if count)
-    cases = "1 case" if len(results) == 1 else f"{len(results)} cases"
-    return f"{cases}: {counted}"
+    each = ", ".join(f"{count} {it.value}" for it, count in counts.items() if count)
+    return f"{counted(len(results), 'case')}: {each}"
