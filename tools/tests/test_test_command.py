@@ -3,6 +3,7 @@ import contextlib
 import io
 import os
 import pathlib
+import re
 import shutil
 import signal
 import tempfile
@@ -11,10 +12,11 @@ from typing import Any, Dict, List, Tuple
 from unittest import mock
 from xml.etree import ElementTree
 
+from rdbg.testing import schema
 from rdbg.testing.cases import NAMES, Case
 from rdbg.testing.progress import Shown
 from rdbg.tree import Place
-from tests.paths import EXAMPLES
+from tests.paths import DOCS, EXAMPLES
 from tests.started import Started, sleeper
 from tests.tables import codes, rows, section
 from tests.trials import listing, tested
@@ -269,6 +271,25 @@ class Expected(unittest.TestCase):
         page = section("COMPANIONS.md", "`test`: a folder of applications with their goals")
         table = rows(page, "| Key of a case | What it says |")
         self.assertEqual(set(NAMES), codes([first for first, _ in table]))
+
+    def test_the_schema_is_made_from_the_table(self) -> None:
+        why = "python3 -m rdbg.testing.schema makes it anew"
+        self.assertEqual(schema.text(), (DOCS / "goals.schema.json").read_text(), why)
+
+    def test_the_schema_takes_what_is_expected_of_a_case(self) -> None:
+        keys = schema.case()["properties"]
+        for key, good, wrong in (
+            (
+                "expect",
+                ("never", "lost at 12", "not within 7 moves and 1 surprises"),
+                ("fond", "7"),
+            ),
+            ("pace", ("4..", "1..4", "..9"), ("4", "none")),
+            ("consts", ("N=3",), ("N", "=3")),
+        ):
+            pattern = keys[key].get("items", keys[key])["pattern"]
+            self.assertTrue(all(re.search(pattern, it) for it in good), key)
+            self.assertFalse(any(re.search(pattern, it) for it in wrong), key)
 
     def test_is_met(self) -> None:
         for expect, head, is_met in (

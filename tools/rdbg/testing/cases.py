@@ -129,16 +129,18 @@ def limit(node: Node) -> float:
     return found
 
 
-def number(least: int, most: int) -> Callable[[Node], int]:
+@dataclasses.dataclass(frozen=True)
+class Between:
     """Reads a number within limits."""
 
-    def read_number(node: Node) -> int:
-        found = node.value.natural() if isinstance(node.value, Number) else None
-        if found is None or not least <= found <= most:
-            raise Wrong(f"a number, {least} to {most:,}")
-        return found
+    least: int
+    most: int
 
-    return read_number
+    def __call__(self, node: Node) -> int:
+        found = node.value.natural() if isinstance(node.value, Number) else None
+        if found is None or not self.least <= found <= self.most:
+            raise Wrong(f"a number, {self.least} to {self.most:,}")
+        return found
 
 
 class Key(NamedTuple):
@@ -163,10 +165,10 @@ KEYS = (
     Key("consts", "consts of a text in lines with their numbers, NAME=N", consts),
     Key("pace", "how many moves each busy core makes from one tick to the next", a_pace),
     Key("from", "the file of command lines behind which orders begin", text, "begin"),
-    Key("surprises", "orders of so many surprises at the most", number(0, 255)),
-    Key("moves", "orders of so many moves at the most", number(0, BILLION)),
-    Key("states", "how many states are kept", number(1, BILLION)),
-    Key("memory", "for how many mebibytes states are kept", number(1, 1_048_576)),
+    Key("surprises", "orders of so many surprises at the most", Between(0, 255)),
+    Key("moves", "orders of so many moves at the most", Between(0, BILLION)),
+    Key("states", "how many states are kept", Between(1, BILLION)),
+    Key("memory", "for how many mebibytes states are kept", Between(1, 1_048_576)),
     Key("within", f"how many seconds it may take, {WITHIN:.0f} by itself", limit),
 )
 NAMES = tuple(key.name for key in KEYS)

@@ -1,0 +1,67 @@
+"""The JSON Schema (draft 7) of a file of cases, for editors: made from the table of its keys.
+`python3 -m rdbg.testing.schema` prints it; docs/goals.schema.json is what it prints."""
+import json
+from typing import Any, Callable, Dict
+
+from rdbg.driving.pacing import PACE
+from rdbg.reaching.asking import QUESTIONS
+from rdbg.testing import cases
+from rdbg.testing.cases import CASES, FILE, KEYS, Between, Key
+from rdbg.tree import Node
+
+Schema = Dict[str, Any]
+ABOUT = (
+    f"The applications of a folder with their goals, {FILE}, as rdbg test tries them"
+    " (docs/COMPANIONS.md). rdbg asks for more: applications, goals and interrupts that are there."
+)
+TEXT: Schema = {"type": "string", "minLength": 1}
+# What a value is by how it is read. Each is one row.
+VALUES: Dict[Callable[[Node], Any], Schema] = {
+    cases.text: TEXT,
+    cases.texts: {"type": "array", "items": TEXT},
+    cases.question: {"enum": list(QUESTIONS)},
+    cases.expected: {"type": "string", "pattern": f"^({cases.EXPECTED.pattern})$"},
+    cases.a_pace: {"type": "string", "pattern": f"^{PACE.pattern}$"},
+    cases.consts: {"type": "array", "items": {"type": "string", "pattern": "^\\w+=."}},
+    cases.limit: {"type": "number", "exclusiveMinimum": 0},
+}
+
+
+def value_of(key: Key) -> Schema:
+    """The schema of a key's value."""
+    made: Schema = {"description": f"{key.says[0].upper()}{key.says[1:]}."}
+    if isinstance(key.read, Between):
+        return {**made, "type": "integer", "minimum": key.read.least, "maximum": key.read.most}
+    return {**made, **VALUES[key.read]}
+
+
+def case() -> Schema:
+    """The schema of a case."""
+    return {
+        "type": "object",
+        "additionalProperties": False,
+        "required": [key.name for key in KEYS if key.is_needed],
+        "properties": {key.name: value_of(key) for key in KEYS},
+    }
+
+
+def schema() -> Schema:
+    """The schema of a file."""
+    return {
+        "$schema": "http://json-schema.org/draft-07/schema#",
+        "title": "goals of rdbg applications",
+        "description": ABOUT,
+        "type": "object",
+        "additionalProperties": False,
+        "required": [CASES],
+        "properties": {CASES: {"type": "array", "minItems": 1, "items": case()}},
+    }
+
+
+def text() -> str:
+    """The schema as a text."""
+    return json.dumps(schema(), indent=2) + "\n"
+
+
+if __name__ == "__main__":
+    print(text(), end="")
