@@ -17,13 +17,15 @@ IMPL = re.compile(
 
 @dataclasses.dataclass
 class Function:
-    """A function from its first line to its last, counted from 0, and whether it belongs to a
-    trait: then no other may stand beside it."""
+    """A function from its first line to its last, counted from 0, whether it belongs to a trait:
+    then no other may stand beside it, and the places of the braces of its body."""
 
     first: int
     last: int
     path: str
     is_of_trait: bool = False
+    opens: int = -1
+    closes: int = -1
 
 
 @dataclasses.dataclass
@@ -97,12 +99,14 @@ def functions_of(crate, file, text, homes=()):
             is_clause = in_clause or bool(CLAUSE.search(head))
             is_of_trait = bool(re.search(r"\btrait\b|\bimpl\b.*\bfor\b", head, re.DOTALL))
             function = None if is_clause else begun
+            if function:
+                function.opens = at
             blocks.append(Block(*named(head), function, is_clause, is_of_trait))
             begun = begun if is_clause else None
         elif char == "}" and blocks:
             function = blocks.pop().function
             if function:
-                function.last = bisect.bisect_left(ends, at)
+                function.last, function.closes = bisect.bisect_left(ends, at), at
         elif char == ";" and not brackets and not in_clause:
             begun = None
         if char in "{}" or char == ";" and not brackets:
