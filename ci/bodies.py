@@ -10,6 +10,8 @@ begins: where a place has come to have another number, the nearest where it stan
 import csv
 import dataclasses
 import functools
+import hashlib
+import itertools
 import re
 
 from crate_words import Unmade, crate_at
@@ -58,9 +60,10 @@ def begun(words):
 
 
 def shown(site, span):
-    """What stands at a place, or behind it, where it is between two statements."""
-    own = site.own(span)
-    return begun(own or site.body.words[span.first : span.first + 2 * SHOWN])
+    """How what stands at a place begins, or the statement behind it, where it is between two."""
+    own, behind = site.own(span), site.body.words[span.first :]
+    ends = (at for at, word in enumerate(behind) if word in (";", "{", "}"))
+    return begun(own or behind[: next(ends, len(behind)) + 1])
 
 
 def label_of(own, words):
@@ -174,6 +177,57 @@ def made(crate, row):
     return Made(path, file, line, behind, lines[line : len(lines) - ends], whole)
 
 
+def is_body(name):
+    """Whether it is the name of a body that a rule makes of a crate."""
+    crate, function, rule, place, given = (name.split(" ", 4) + [""] * 5)[:5]
+    try:
+        path = crate_of(crate).path_of(function)
+        site = crate_of(crate).site(path)
+        was = shown(site, site.places(BY_NAME[rule])[int(place) - 1])
+        return bool(made(crate_of(crate), Row("", function, rule, int(place), was, given, "")))
+    except (Unmade, LookupError, ValueError):
+        return False
+
+
+# Bodies that no list has.
+
+
+def fate(*words):
+    """A number that hangs on the words alone."""
+    return hashlib.sha256(" ".join(map(str, words)).encode()).hexdigest()
+
+
+def in_turn(crate):
+    """The places of all rules in the crate, each rule's in an order by chance that is always the
+    same, and one of each rule after another."""
+    places = {}
+    for path in crate.functions:
+        for rule in RULES:
+            for place in range(1, len(crate.site(path).places(rule)) + 1):
+                places.setdefault(rule.name, []).append((path, rule, place))
+    for rule, found in places.items():
+        found.sort(key=lambda it: fate(crate.name, it[0], rule, it[2]))
+    rounds = itertools.zip_longest(*places.values())
+    return [it for found in rounds for it in found if it]
+
+
+def untried(crate, done):
+    """Bodies that aren't among those of which the path and the words are given, one a place."""
+    for path, rule, place in in_turn(crate):
+        site = crate.site(path)
+        span, old = site.places(rule)[place - 1], site.body.words
+        tries = rule.tries(site, span)
+        if not rule.is_of_parts:
+            tries = {label_of(site.own(span), words): words for words in tries}
+        for label in sorted(tries, key=lambda it: fate(path, rule.name, place, it)):
+            whole = tuple(old[: span.first] + tries[label] + old[span.last :])
+            if (path, whole) not in done and list(whole) != old:
+                done.add((path, whole))
+                was = shown(site, span)
+                yield Row("", crate.names[path], rule.name, place, was, label, "")
+                break
+
+
 # Lists.
 
 
@@ -184,10 +238,14 @@ def crate_of(name):
     return crate_at(name, TOP / "crates" / name, tuple(below))
 
 
+def list_of(name):
+    return TOP / "crates" / name / "planted" / LIST
+
+
 @functools.cache
 def rows_of(name):
     """The rows of a crate's list, by name."""
-    file = TOP / "crates" / name / "planted" / LIST
+    file = list_of(name)
     return {row.name: row for row in rows_in(file)} if file.is_file() else {}
 
 

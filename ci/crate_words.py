@@ -20,7 +20,12 @@ LONGEST = 16
 def kind_of(words, at):
     """What a word is: a method, a field, a function, .., or the type whose variant it is."""
     word, before, behind = words[at], words[at - 1 : at], words[at + 1 : at + 2]
-    if word in KEYWORDS or TEXT.match(word) or not (word[0].isalpha() or word[0] == "_"):
+    if (
+        word == "_"
+        or word in KEYWORDS
+        or TEXT.match(word)
+        or not (word[0].isalpha() or word[0] == "_")
+    ):
         return None
     if behind == ["!"] and words[at + 2 : at + 3] in (["("], ["["], ["{"]):
         return None

@@ -2,13 +2,14 @@
 import dataclasses
 import difflib
 import pathlib
+import re
 
 from bodies import crate_of, made, rows_of
 from crate_words import Unmade
 from functions import functions_of, homes_in
 from repository import TOP
+from spans import tokens_of, words_of
 
-TESTED = "left to a test"
 # The suffix of what stands in a list and not as a file.
 OF_A_ROW = ".row"
 
@@ -41,6 +42,14 @@ class Edit:
     grounds: str = ""
     goals: list = dataclasses.field(default_factory=list)
     expected: str = ""
+    # Of one that a row says to make: the row.
+    row: object = None
+
+    @property
+    def names(self):
+        """By what names docs/decisions/PROOFS.md may have it."""
+        own = f"{self.crate} {self.path.stem}"
+        return [own, self.row.body(self.crate)] if self.row else [own]
 
 
 class Unfit(Exception):
@@ -60,11 +69,23 @@ def span_of(name, crate, file, text):
     return first, first + len("".join(lines[found[0].first : found[0].last + 1]))
 
 
+def places_of(text, old):
+    """Where the old text stands: to the letter, or else by its words, however they are laid out."""
+    if old in text:
+        return [(it.start(), it.end()) for it in re.finditer(re.escape(old), text)]
+    tokens, words = tokens_of(text), words_of(old)
+    ends = range(len(words), len(tokens) + 1)
+    slices = [tokens[at - len(words) : at] for at in ends if words]
+    return [(it[0][1], it[-1][2]) for it in slices if [word for word, _, _ in it] == words]
+
+
 def replaced(text, span, old, new):
     first, last = span
-    if text[first:last].count(old) != 1:
-        raise Unfit(f"an 'old:' text stands {text[first:last].count(old)} times, and not once")
-    return text[:first] + text[first:last].replace(old, new) + text[last:]
+    found = places_of(text[first:last], old)
+    if len(found) != 1:
+        raise Unfit(f"an 'old:' text stands {len(found)} times, and not once")
+    begins, ends = found[0]
+    return text[: first + begins] + new + text[first + ends :]
 
 
 def edited_files(edit, folder):
@@ -81,8 +102,6 @@ def edited_files(edit, folder):
             edit.fails.append(text.strip())
         elif key == "expected":
             edit.expected = text
-        elif key == "tested":
-            edit.verdict = f"{TESTED}: {text}"
         elif key == "old":
             old = text
         elif key == "new":
@@ -140,7 +159,8 @@ def read_edit(crate, path, folder):
 
 def read_row(crate, path, folder):
     """The bug that a row of the crate's list says to make."""
-    edit, row = Edit(crate, path), rows_of(crate)[path.stem]
+    row = rows_of(crate)[path.stem]
+    edit = Edit(crate, path, row=row)
     try:
         body = made(crate_of(crate), row)
     except Unmade as error:

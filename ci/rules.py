@@ -19,6 +19,9 @@ METHODS = "first last min max len capacity push_front push_back pop_front pop_ba
 METHODS += " to_le_bytes saturating_add wrapping_add saturating_sub"
 OF_TYPES = "from_le_bytes from_be_bytes MAX MIN"
 WRAPPERS = ("Ok", "Err", "Some")
+BEFORE_WHOLE = set("( , { } ; = => : if while return && || [ |".split())
+BEHIND_WHOLE = set(") , } ; { && || ] =>".split())
+ANSWERS = (*WRAPPERS, "None", "true", "false")
 
 
 @dataclasses.dataclass(frozen=True)
@@ -100,9 +103,18 @@ def of_kind(site, span):
 
 
 def value_places(site):
-    """All values, arguments, fields and arms."""
+    """All values, arguments, fields and arms, but for names of what is called, and `self` before
+    what it has."""
+    words = site.body.words
     parts = {part for _, parts in site.body.lists for part in parts}
-    return in_order(site.body.values | parts | {arm for _, arm in site.body.arms})
+    found = site.body.values | parts | {arm for _, arm in site.body.arms}
+    behind = {it: "".join(words[it.last : it.last + 1]) for it in found}
+    return in_order(
+        it
+        for it in found
+        if (behind[it] != "(" or site.body.is_spaced(it.last))
+        and (behind[it] != "." or site.own(it) != ["self"])
+    )
 
 
 def other_values(site, span):
@@ -208,8 +220,13 @@ def turned(site, span):
 
 
 def condition_places(site):
-    sides = {side for one, _, other in site.body.binaries for side in (one, other)}
-    return in_order(site.body.conditions | sides | set(value_places(site)))
+    """The values that are whole, or one side of `&&` or `||`."""
+    words = ["{", *site.body.words, "}"]
+    return [
+        it
+        for it in value_places(site)
+        if words[it.first] in BEFORE_WHOLE and words[it.last + 1] in BEHIND_WHOLE
+    ]
 
 
 def binaries(site):
@@ -312,14 +329,27 @@ def is_spent(site, words):
 
 
 def before_places(site):
+    return in_order({Span(it.first, it.first) for it in site.body.statements})
+
+
+def early_returns(site, _span):
+    answers = [it for it in site.values if it[0] in ANSWERS] + [[]]
     return [
-        Span(it.first, it.first)
-        for it in in_order({Span(at.first, at.first) for at in statement_places(site)})
+        words_of(f"if {name} == 0 {{ return") + answer + [";", "}"]
+        for name in site.variables
+        for answer in answers
     ]
 
 
-def nothing(_site, _span):
-    return []
+def new_names(site, _span):
+    names = [it for it in site.variables if it != "self"]
+    found = [f"let {it} = {it}.saturating_sub(1);" for it in names]
+    found += [f"let {it} = {other};" for it in names for other in names if it != other]
+    return [words_of(it) for it in found]
+
+
+def other_calls(site, _span):
+    return [it + [";"] for it in site.values if it[-1] in (")", "?")]
 
 
 def is_answer(site, words):
@@ -403,8 +433,8 @@ RULES = [
         other_statements,
         is_other_statement,
     ),
-    Rule("return", "an early return", before_places, nothing, is_return),
-    Rule("name", "a name given anew", before_places, nothing, is_rebound),
-    Rule("call", "a call that stands elsewhere", before_places, nothing, is_call),
+    Rule("return", "an early return", before_places, early_returns, is_return),
+    Rule("name", "a name given anew", before_places, new_names, is_rebound),
+    Rule("call", "a call that stands elsewhere", before_places, other_calls, is_call),
 ]
 BY_NAME = {rule.name: rule for rule in RULES}

@@ -1,7 +1,13 @@
-"""Reads what a check says of planted bugs: which are refused, and on what grounds."""
+"""Reads what a check says of planted bugs: which are refused, and on what grounds. And which are
+known to get through, from docs/decisions/PROOFS.md."""
+import functools
 import re
 
+from repository import TOP
+
 REFUSED, LET_THROUGH = "refused", "let through"
+PAGE = "docs/decisions/PROOFS.md"
+HEADING = "## What `ci/planted` lets through"
 # On what grounds a bug is refused, the best first.
 BY_VALUES, OPEN_CLAUSE, PROOF_ALONE = "by values", "at an open clause", "for a proof alone"
 FATE = re.compile(r"^(?:fn|struct|enum|impl|trait|const|static) (\S+): (.*)$", re.MULTILINE)
@@ -108,3 +114,19 @@ def verdict_of(said, edit, twin):
     if not others and is_whole and not PROVED.search(said):
         return "the crate isn't proved, but no function failed by itself"
     return others[0] if others else LET_THROUGH
+
+
+@functools.cache
+def known_through():
+    """The bugs that are known to get through, by name, with the tests that fail with each."""
+    _, heading, text = (TOP / PAGE).read_text().partition(f"\n{HEADING}\n")
+    if not heading:
+        raise SystemExit(f"{PAGE}: there is no '{HEADING}'")
+    rows = [re.split(r"(?<!\\)\|", line) for line in text.partition("\n## ")[0].splitlines()]
+    named = [row for row in rows if len(row) == 5 and row[1].strip().startswith("`")]
+    return {row[1].strip(" `").replace("\\|", "|"): row[3].strip() for row in named}
+
+
+def is_known(edit):
+    """Whether the list of what gets through has the bug."""
+    return any(name in known_through() for name in edit.names)
