@@ -126,7 +126,7 @@ def named(crate, path, words):
 def place_of(site, row, rule):
     """The place that the row names, or the nearest at which what it says stands."""
     places = site.places(rule)
-    if row.place <= len(places) and shown(site, places[row.place - 1]) == row.was:
+    if 0 < row.place <= len(places) and shown(site, places[row.place - 1]) == row.was:
         return places[row.place - 1]
     fits = [at for at, span in enumerate(places, 1) if shown(site, span) == row.was]
     if not fits:
@@ -169,6 +169,8 @@ def made(crate, row):
     new = spliced(text, first, last, words)
     whole = old[: span.first] + words + old[span.last :]
     body = new[begins : function.closes + len(new) - len(text)]
+    if whole == old:
+        raise Unmade(f"{row.rule} {row.place}: it changes nothing")
     if words_of(body) != whole:
         raise Unmade(f"{row.rule} {row.place}: '{row.given}' runs into what stands beside it")
     line, behind = text.count("\n", 0, first), text.count("\n", 0, last) + 1

@@ -107,6 +107,7 @@ UNMADE = [
     Row("gone", "List::take", "comparison", 1, ">", "<", ""),
     Row("no_rule", "List::take", "guess", 1, "<", ">", ""),
     Row("no_function", "List::give", "comparison", 1, "<", ">", ""),
+    Row("no_change", "List::take", "comparison", 1, "<", "<", ""),
     Row("no_parts", "List::take", "order", 1, "count, low, false", "1 9", ""),
 ]
 
@@ -148,7 +149,9 @@ def faults():
     crate = Crate("small", {"src/lib.rt": SOURCE})
     found = [fault for case in CASES for fault in faults_of(crate, case)]
     found += [
-        f"{rule.name} isn't tried" for rule in RULES if rule.name not in {it[0] for it in CASES}
+        f"{rule.name} ({rule.says}) isn't tried"
+        for rule in RULES
+        if rule.name not in {it[0] for it in CASES}
     ]
     found += [f"{row.name} is made" for row in UNMADE if not is_unmade(crate, row)]
     rows = list(untried(crate, set()))
