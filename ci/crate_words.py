@@ -11,6 +11,8 @@ CONSTANT = re.compile(r"[A-Z][A-Z0-9_]+$")
 KEYWORDS = set("as break const continue crate else enum false fn for if impl in let loop".split())
 KEYWORDS |= set("match mod move mut pub ref return static struct super true type unsafe".split())
 KEYWORDS |= {"use", "where", "while"}
+INTEGERS = {f"{sign}{bits}" for sign in "iu" for bits in (8, 16, 32, 64, 128, "size")}
+TYPES = {*INTEGERS, "bool", "char", "str"}
 # Values that any function may answer, whatever stands in its crate.
 NOBODYS = ["true", "false", "0", "1", "None", "&[]", "&[][..]", '""', "Ok(())", "()", "{}"]
 # Longer ones aren't put in the place of others.
@@ -29,6 +31,8 @@ def kind_of(words, at):
         return None
     if behind == ["!"] and words[at + 2 : at + 3] in (["("], ["["], ["{"]):
         return None
+    if word in TYPES and behind != ["::"]:
+        return "type"
     if before == ["."]:
         return "method" if behind in (["("], ["::"]) else "field"
     if before == ["::"] and behind != ["::"]:

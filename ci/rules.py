@@ -338,6 +338,7 @@ def early_returns(site, _span):
         words_of(f"if {name} == 0 {{ return") + answer + [";", "}"]
         for name in site.variables
         for answer in answers
+        if name != "self"
     ]
 
 
