@@ -12,7 +12,7 @@ import signal
 import socket
 import subprocess
 import tempfile
-from typing import IO, Callable, Deque, Iterable, Iterator, List, Optional, Sequence, Union
+from typing import IO, Callable, Deque, Iterable, Iterator, List, Optional, Sequence, Tuple, Union
 
 from rdbg import children, replies
 from rdbg.commands import MOST_BYTES
@@ -69,10 +69,16 @@ def program() -> str:
     return os.environ.get("RDBG_PROGRAM") or built_by_wrapper("rdbg")
 
 
+def wrapper() -> Tuple[str, List[str]]:
+    """The file that `./rdbg` is, and the words of its own that it was called with."""
+    words = os.environ.get("RDBG_WRAPPER_WORDS", "")
+    return os.environ.get("RDBG_WRAPPER", str(WRAPPER)), words.split()
+
+
 def built_by_wrapper(name: str) -> str:
     """The program of a name that `./rdbg` starts, as it was called itself."""
-    wrapper = os.environ.get("RDBG_WRAPPER", str(WRAPPER))
-    return built_by(wrapper, os.environ.get("RDBG_WRAPPER_WORDS", ""), name)
+    file, words = wrapper()
+    return built_by(file, " ".join(words), name)
 
 
 class Incoming:

@@ -132,6 +132,14 @@ class Browser:
             self._session = first
             self.call("Page.bringToFront")
 
+    @contextlib.contextmanager
+    def saving(self, folder: pathlib.Path) -> Iterator[None]:
+        """Saves to a folder what the page offers, as long as the block goes on."""
+        session, self._session = self._session, None
+        self.call("Browser.setDownloadBehavior", behavior="allow", downloadPath=str(folder))
+        self._session = session
+        yield
+
     def __enter__(self) -> "Browser":
         return self
 

@@ -1,6 +1,6 @@
 // The lanes of a run, from top to bottom.
 
-const HEIGHTS = { core: 38, hand: 18, task: 20, level: 26, waiting: 17, head: 15 };
+const HEIGHTS = { flags: 18, core: 38, hand: 18, task: 20, level: 26, waiting: 17, head: 15 };
 
 function newLane(kind, label, more) {
   return { kind, label, height: HEIGHTS[kind], ...more };
@@ -8,7 +8,7 @@ function newLane(kind, label, more) {
 
 // All lanes that there can be. Those without anything to show are left out where they are laid out.
 function lanesOf(run) {
-  const lanes = [newLane("head", "cores")];
+  const lanes = [newLane("flags", "marks", { marks: [] }), newLane("head", "cores")];
   const count = run.value(run.cores.running, run.first).length;
   for (let core = 0; core < count; core++) {
     lanes.push(newLane("core", `core ${core}`, { core, segments: coreSegments(run, core) }));
@@ -35,7 +35,7 @@ function objectLanes(run, object) {
 
 // Whether there is something in a lane: of lists those where somebody waits some time.
 function isNeeded({ kind, marks, segments }) {
-  if (kind === "hand") return marks.length > 0;
+  if (marks) return marks.length > 0;
   return kind !== "waiting" || segments.shown.some(({ text }) => text);
 }
 

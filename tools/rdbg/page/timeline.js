@@ -74,6 +74,12 @@ class Timeline {
     this.hand.marks = all("hands");
   }
 
+  // Marks these places, in order, each with a word.
+  setFlags(flags) {
+    this.allLanes.find(({ kind }) => kind === "flags").marks = flags;
+    this.layOut();
+  }
+
   // Lays the lanes out, to be drawn anew.
   layOut() {
     this.groundOf = "";
@@ -234,7 +240,7 @@ class Timeline {
       });
     }
     if (lane.kind === "core") this.drawMoves(lane, y + high);
-    if (lane.kind === "hand") this.drawMarks(lane, y);
+    if (lane.marks) this.drawMarks(lane, y);
   }
 
   // The moves of a core, each as a box where there is room.
@@ -250,16 +256,22 @@ class Timeline {
     }
   }
 
-  // Edits and trims, each a sign with its line where there is room.
+  // Flags, edits and trims, each a sign with its line where there is room. What goes on behind one is
+  // underlined.
   drawMarks(lane, y) {
+    const end = y + lane.height - 1;
+    for (const { place } of lane.marks.filter(({ goesOn }) => goesOn)) {
+      const x = Math.max(GUTTER, this.x(place));
+      this.painter.stroke(this.painter.accent, x, end, Math.max(x, this.width), end, [], 2);
+    }
     const marks = lane.marks.map(({ place }) => place);
     for (let at = lastUpTo(marks, Math.floor(this.left)); at < marks.length; at++) {
       const x = this.x(marks[at]);
       if (x > this.width) break;
-      if (x < GUTTER) continue;
-      const next = at + 1 < marks.length ? this.x(marks[at + 1]) : this.width;
       const { text } = lane.marks[at];
       const { painter } = this;
+      if (x < GUTTER) continue;
+      const next = at + 1 < marks.length ? this.x(marks[at + 1]) : this.width;
       painter.stroke(painter.accent, x, y, x, this.seen, text[0] === "|" ? [8, 4] : [4, 2]);
       const room = Math.max(24, next - x - 6);
       painter.label(text, x + 3, y + 9, room, "bold");

@@ -1,22 +1,32 @@
 """The page of a run: a file of HTML in which style, scripts and the run's values stand, and that
 needs nothing else."""
 import pathlib
-from typing import Mapping
+from typing import Mapping, Optional
 
 from rdbg.page.document import body_of, document, json_of
+from rdbg.tracing.page.report import Report
 
 HERE = pathlib.Path(__file__).resolve().parent
-SCRIPTS = (HERE / "ways.js", HERE / "run_page.js")
+SCRIPTS = tuple(HERE / name for name in ("ways.js", "report.js", "run_page.js"))
+STYLES = (HERE / "report.css",)
 LINK = '<a id="link" href="#">link to this place</a>'
 
 
 def title_of(run: Mapping[str, object], way: Mapping[str, object]) -> str:
-    """What the page is called."""
+    """What the page is called where nobody says it."""
     return f"{way['file'] or 'rdbg'}: places {run['first']} to {run['last']}"
 
 
-def page(run: Mapping[str, object], way: Mapping[str, object]) -> str:
-    """The whole page of a run's values, and of what leads to its places."""
+def page(
+    run: Mapping[str, object],
+    way: Mapping[str, object],
+    report: Report = Report(),
+    at: Optional[int] = None,
+) -> str:
+    """The whole page of a run's values, of what leads to its places, and of what is said beside it;
+    it opens at a place, or at the first."""
     title = title_of(run, way)
-    values = json_of({"title": title, "way": way, "run": run})
-    return document(title, body_of(HERE / "run.html", {"run": values}, LINK), SCRIPTS)
+    values = {"title": title, "way": way, "run": run, "report": report.values(at)}
+    parts = {"run": json_of(values), "note": report.note_as_html()}
+    body = body_of(HERE / "run.html", parts, LINK)
+    return document(report.title or title, body, SCRIPTS, STYLES)

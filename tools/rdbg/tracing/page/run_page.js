@@ -4,20 +4,23 @@
 const QUIET = 150;
 
 class RunPage extends Viewer {
-  constructor({ title, way, run }) {
+  constructor({ title, way, run, report }) {
     const shown = new Run(run);
     super(shown, new Timeline(shown, byId("canvas"), byId("lanes"), byId("scrolled")));
     this.way = new WayPanel(shown, way);
     this.panels.push(this.way);
-    document.title = title;
-    byId("title").textContent = title;
+    this.report = new ReportPanel(shown, report, (place) => this.go(place));
+    this.timeline.setFlags(this.report.flags);
+    document.title = report.title || title;
+    byId("title").textContent = report.title || title;
     this.begin();
+    if (report.title) byId("about").textContent = `${title}; ${byId("about").textContent}`;
     byId("link").addEventListener("click", () => this.keepLink());
     window.addEventListener("hashchange", () => {
       const place = this.placeOfLink();
       if (place !== null && place !== this.place) this.go(place);
     });
-    this.go(this.placeOfLink() ?? shown.first);
+    this.go(this.placeOfLink() ?? report.at ?? shown.first);
   }
 
   get moreKeys() {
@@ -26,6 +29,10 @@ class RunPage extends Viewer {
 
   keys() {
     return { ...super.keys(), c: () => this.way.copy() };
+  }
+
+  readout(place) {
+    return super.readout(place) + this.report.said(place);
   }
 
   show() {
