@@ -34,6 +34,9 @@ class Scripts(unittest.TestCase):
     def test_lanes(self) -> None:
         self.check("lanes")
 
+    def test_counts(self) -> None:
+        self.check("counts")
+
     def test_keys(self) -> None:
         self.check("keys")
 

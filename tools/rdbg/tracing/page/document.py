@@ -7,7 +7,9 @@ from rdbg.page.document import body_of, document, json_of
 from rdbg.tracing.page.report import Report
 
 HERE = pathlib.Path(__file__).resolve().parent
-SCRIPTS = tuple(HERE / name for name in ("ways.js", "report.js", "run_page.js"))
+SCRIPTS = tuple(
+    HERE / name for name in ("ways.js", "counts.js", "summary.js", "report.js", "run_page.js")
+)
 STYLES = (HERE / "report.css",)
 LINK = '<a id="link" href="#">link to this place</a>'
 

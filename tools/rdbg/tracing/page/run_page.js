@@ -10,6 +10,7 @@ class RunPage extends Viewer {
     this.way = new WayPanel(shown, way);
     this.panels.push(this.way);
     this.report = new ReportPanel(shown, report, (place) => this.go(place));
+    this.summary = new SummaryPanel(shown, (place) => this.go(place));
     this.timeline.setFlags(this.report.flags);
     document.title = report.title || title;
     byId("title").textContent = report.title || title;
