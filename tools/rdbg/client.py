@@ -41,6 +41,7 @@ def cut(line: str) -> bytes:
     return content + b"\n"
 
 
+@functools.lru_cache(maxsize=4_096)
 def text_of(line: bytes) -> str:
     """A line that has come, without its end, as a terminal can show it, whoever wrote it."""
     return shown(line[:-1].decode("utf-8", "replace"))
@@ -297,7 +298,7 @@ class Session:
 
     def _reply(self) -> str:
         reply = self._line()
-        while reply.startswith(NOTICE):
+        while reply[:1] == NOTICE:
             self._hear(reply)
             reply = self._line()
         self._owed -= 1
@@ -310,7 +311,7 @@ class Session:
             line = self._answers.readline()
         except OSError:
             line = b""
-        if not line.endswith(b"\n"):
+        if line[-1:] != b"\n":
             self._owed = 0
             raise Failure(self.why_ended())
         return line
