@@ -304,6 +304,20 @@ class Browser:
             self.call("Input.dispatchMouseEvent", type=kind, **at)
         self.settle()
 
+    def drag(self, begin: Tuple[float, float], end: Tuple[float, float]) -> None:
+        """Presses a button at a point, and lets it go at another."""
+        points = (("mousePressed", begin), ("mouseMoved", end), ("mouseReleased", end))
+        for kind, (x, y) in points:
+            at: Message = {"x": x, "y": y, "button": "left", "buttons": 1, "clickCount": 1}
+            self.call("Input.dispatchMouseEvent", type=kind, **at)
+        self.settle()
+
+    def wheel(self, x: float, y: float, delta: float) -> None:
+        """Turns the wheel there."""
+        at: Message = {"x": x, "y": y, "deltaX": 0, "deltaY": delta}
+        self.call("Input.dispatchMouseEvent", type="mouseWheel", **at)
+        self.settle()
+
     def size(self, width: int, height: int) -> None:
         """Gives the window a size."""
         self.call(

@@ -42,6 +42,11 @@ def parser() -> argparse.ArgumentParser:
     made.add_argument(
         "--page", metavar="OUT.html", help="writes the run as one page of HTML; - as above"
     )
+    made.add_argument(
+        "--against",
+        metavar="COMMANDS2",
+        help="of a page: another run of the same application below it, and where they first differ",
+    )
     take_report(made)
     made.add_argument("--moves", type=bounded(1), metavar="N", help="how many moves may be done")
     take_definitions(made)
@@ -67,7 +72,7 @@ def take_report(made: argparse.ArgumentParser) -> None:
 
 
 # What is said of a page alone.
-OF_PAGES = ("title", "note", "at", "ask")
+OF_PAGES = ("title", "note", "at", "ask", "against")
 
 
 def check_words(given: argparse.Namespace) -> None:
@@ -83,8 +88,9 @@ def check_words(given: argparse.Namespace) -> None:
     for name in OF_PAGES:
         if getattr(given, name) is not None and not given.page:
             raise Failure(f"--{name} is for a page: --page OUT.html", 2)
-    if given.ask is not None and given.port is not None:
-        raise Failure("--ask is of a run by its lines; --port takes none", 2)
+    for name in ("ask", "against"):
+        if getattr(given, name) is not None and given.port is not None:
+            raise Failure(f"--{name} is of a run by its lines; --port takes none", 2)
     if given.note == "-" and given.port is None and given.commands in (None, "-"):
         raise Failure(
             "--note -: standard input is COMMANDS already; name a file for one of them", 2

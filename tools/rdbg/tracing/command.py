@@ -10,6 +10,7 @@ from typing import Callable, Dict, Iterable, Iterator, List, Optional, Sequence,
 
 from rdbg import commands, record
 from rdbg.digits import is_digits
+from rdbg.application import Application
 from rdbg.wording import shown
 from rdbg.effects import Move
 from rdbg.failure import Failure, trying
@@ -95,8 +96,9 @@ def write_page(
     recorder: Recorder,
     way: Way,
     report: Report,
+    other: Optional[Dict[str, object]] = None,
 ) -> None:
-    """Writes the page of all parts, of which there is one at the least."""
+    """Writes the page of all parts, of which there is one at the least, and of another run."""
     opening = Opening(report)
     with written(path) as file:
         for part in found:
@@ -104,7 +106,7 @@ def write_page(
             recorder.add(part)
         assert recorder.first is not None
         at = opening.place(recorder.first, recorder.last)
-        file.write(page(recorder.values(trims), way(recorder), report, at))
+        file.write(page(recorder.values(trims), way(recorder), report, at, other))
 
 
 def wanted(only: Optional[str], names: Names, cores: int) -> Optional[List[str]]:
@@ -163,7 +165,7 @@ def page_of(source: Source, told: Sequence[str], path: str, asked: Callable[[int
     lines = tuple(Line(at, text) for at, text in enumerate(told, 1))
     run = Run(source, lines, Limits(Limits.moves, commands.MOST_COUNT))
     whole = plan(run)
-    seen = parts(run, whole.pieces, processors()) if whole.pieces else [Part(whole.end, (), ())]
+    seen = parts(run, whole.pieces, processors()) if whole.pieces else [end_of(whole)]
     way = ways.of_run(source, whole.told, None, whole.base)
     text = Text("", "".join(f"{line}\n" for line in told))
     report = Report(asked=asked(whole.done), source=source, lines=text)
@@ -173,6 +175,25 @@ def page_of(source: Source, told: Sequence[str], path: str, asked: Callable[[int
 def processors() -> int:
     """How many processors there are for this process."""
     return len(os.sched_getaffinity(0))
+
+
+def other_run(
+    given: argparse.Namespace, run: Run, text: Text, application: Application
+) -> Dict[str, object]:
+    """The run that these lines make beside another one, as a page has it."""
+    other = dataclasses.replace(run, lines=lines_in(text.text))
+    whole = plan(other)
+    tell_refused(whole, text.name)
+    found = whole.within(given.first or 1, given.last)
+    recorder = Recorder(application)
+    for part in parts(other, found.pieces, processors()) if found.pieces else [end_of(whole)]:
+        recorder.add(part)
+    return {"name": os.path.basename(text.name), "run": recorder.values(found.trims)}
+
+
+def end_of(whole: Plan) -> Part:
+    """The end of a run of which no moves are looked at."""
+    return Part(whole.end, (), ())
 
 
 def trace_run(given: argparse.Namespace, source: Optional[Source]) -> None:
@@ -194,10 +215,13 @@ def trace_run(given: argparse.Namespace, source: Optional[Source]) -> None:
         return
     if given.page:
         way = ways.of_run(source, whole.told, given.moves, whole.base)
-        seen = seen if found.pieces else iter([Part(whole.end, (), ())])
+        seen = seen if found.pieces else iter([end_of(whole)])
         asked = ask(given.ask, source, whole.told)
-        report = dataclasses.replace(report, asked=asked, source=source, lines=text)
-        write_page(seen, found.trims, given.page, Recorder(application), lambda _: way, report)
+        beside = None if given.against is None else text_of(given.against)
+        other = other_run(given, run, beside, application) if beside else None
+        report = dataclasses.replace(report, asked=asked, source=source, lines=text, other=beside)
+        recorder = Recorder(application)
+        write_page(seen, found.trims, given.page, recorder, lambda _: way, report, other)
         return
     told = [it.text for it in lines]
     table = Table.of(application, whole.done, whole.end.cores.tick, told)

@@ -8,7 +8,18 @@ from rdbg.tracing.page.report import Report
 
 HERE = pathlib.Path(__file__).resolve().parent
 SCRIPTS = tuple(
-    HERE / name for name in ("ways.js", "counts.js", "summary.js", "report.js", "run_page.js")
+    HERE / f"{name}.js"
+    for name in (
+        "ways",
+        "counts",
+        "summary",
+        "report",
+        "links",
+        "marks",
+        "beside",
+        "printed",
+        "run_page",
+    )
 )
 STYLES = (HERE / "report.css",)
 LINK = '<a id="link" href="#">link to this place</a>'
@@ -24,11 +35,12 @@ def page(
     way: Mapping[str, object],
     report: Report = Report(),
     at: Optional[int] = None,
+    other: Optional[Mapping[str, object]] = None,
 ) -> str:
     """The whole page of a run's values, of what leads to its places, and of what is said beside it;
-    it opens at a place, or at the first."""
+    it opens at a place, or at the first. Another run stands below it where one is given."""
     title = title_of(run, way)
-    values = {"title": title, "way": way, "run": run, "report": report.values(at)}
+    values = {"title": title, "way": way, "run": run, "report": report.values(at), "other": other}
     parts = {"run": json_of(values), "note": report.note_as_html()}
     body = body_of(HERE / "run.html", parts, LINK)
     return document(report.title or title, body, SCRIPTS, STYLES)

@@ -14,22 +14,33 @@ function offerText(details, what, it) {
   details.hidden = !it;
   if (!it) return;
   details.querySelector("summary").textContent = what;
-  const pre = details.querySelector("pre");
-  const fill = () => (pre.textContent = it.text);
-  details.addEventListener("toggle", () => details.open && !pre.textContent && fill());
+  details.addEventListener("toggle", () => details.open && fillText(details, it));
   details.querySelector("button").addEventListener("click", () => saveText(it.name, it.text));
+}
+
+function fillText(details, it) {
+  const pre = details.querySelector("pre");
+  if (it && !pre.textContent) pre.textContent = it.text;
 }
 
 class ReportPanel {
   constructor(run, report, go) {
     this.run = run;
-    const { asked, application, consts, lines, day, made: maker } = report;
+    const { application, lines, other } = report;
+    this.texts = { application, lines, "other-lines": other };
+    const { asked, consts, day, made: maker } = report;
     byId("made-by").textContent = `Made on ${day} by ${maker}.`;
     const given = consts.map((it) => ` -D ${it}`).join("");
     offerText(byId("application"), `Application: ${application?.name}${given}`, application);
     offerText(byId("lines"), `Command lines: ${lines?.name}`, lines);
+    offerText(byId("other-lines"), `Command lines of the other run: ${other?.name}`, other);
     this.lost = asked ? asked.lost : null;
     if (asked) this.showAsked(asked, go);
+  }
+
+  // Has all texts there, as far as one page takes them.
+  fill() {
+    for (const [id, it] of Object.entries(this.texts)) fillText(byId(id), it);
   }
 
   // The question with its answer, and a link to where that is seen.
