@@ -267,7 +267,32 @@ class Names(Held):
             self.assertEqual(client.stopped("continue", threadId=uart)["reason"], "exception")
             self.assertEqual(client.ask("exceptionInfo", threadId=1)["exceptionId"], "asleep")
             stop = client.stopped("continue", threadId=uart)
-            self.assertIn("nothing goes on: all that is left waits", stop["description"])
+            self.assertIn("asleep: all that is left waits", stop["description"])
+
+
+class Endings(Held):
+    """How a run ends where nothing goes on."""
+
+    def test_they_are_told_apart(self) -> None:
+        waits = "task waits priority 1\n    recv q portMAX_DELAY\n    end\n"
+        ends = "task ends priority 1\n    end\n"
+        fails = "task fails priority 1\n    set r1 0x2000000\n    gset g r1\n    end\n"
+        for tasks, filters, reason, said in (
+            ((ends,), ["asleep"], "pause", "finished: all tasks have ended"),
+            ((ends, waits), ["asleep"], "exception", "asleep: ends ended; waits waits at recv:q"),
+            ((ends, waits), [], "pause", "asleep: all that is left waits, and no task has a"),
+            ((waits, fails), [], "pause", "asleep: all that is left waits, and no task has a"),
+            ((ends, fails), [], "pause", "stuck: no task waits, and one has failed"),
+            ((ends, fails), ["failed"], "exception", "fails failed"),
+        ):
+            with self.subTest(said), tempfile.TemporaryDirectory() as folder, editor() as client:
+                file = pathlib.Path(folder) / "ends.fw"
+                file.write_text("cores 1\nqueue q length 1 item 1\ngroup g\n" + "".join(tasks))
+                client.begin(file, limit=500)
+                client.ask("setExceptionBreakpoints", filters=filters)
+                stop = client.stopped("continue", threadId=2)
+                self.assertEqual(reason, stop["reason"])
+                self.assertIn(said, stop["description"])
 
 
 class Causes(unittest.TestCase):

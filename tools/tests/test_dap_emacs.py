@@ -74,6 +74,21 @@ HUNTS = (
             "r0 = 1",
         ),
     ),
+    # (the run of Continue gives the item to the worker: then the poller can have it no more)
+    Hunt(
+        "lost_item",
+        """
+(drive-launch)
+(drive-stop-where "lost reg poller 0 = 1")
+(drive-continue)
+(drive-back)
+""",
+        (
+            "entry | at 0: the start",
+            "function breakpoint | at 7: lost reg poller 0 = 1",
+            "step | at 6, before: worker 0 recv jobs max -> 1, data 41, jobs 0/1",
+        ),
+    ),
     Hunt(
         "meeting",
         """
@@ -98,7 +113,7 @@ HUNTS = (
             "step | at 2: right 0 gset there 2 -> 3, there bits 3",
             "step | at 3: left 1 gwait there 3 all keep max -> 3",
             "step | at 4: left 2 gclear there 3 -> 3, there bits 0",
-            "exception | at 11: nothing goes on: left waits at group:there without end; right waits at group:there without end",
+            "exception | at 11: asleep: left waits at group:there without end; right waits at group:there without end",
             "function breakpoint | at 9: changes there",
             "function breakpoint | at 4: changes there",
             "group there = 0x000000",
@@ -127,7 +142,7 @@ HUNTS = (
             "entry | at 0: the start",
             "step | at 1: host 0 data 4142",
             "step | at 2: host 1 swrite rx 0 -> 2, rx 2/8 bytes",
-            "exception | at 26: nothing goes on: parser waits at sread:rx without end; host waits at recv:acks without end",
+            "exception | at 26: asleep: parser waits at sread:rx without end; host waits at recv:acks without end",
             "stream rx = 2/8 bytes 4344, waits: read: parser",
             "function breakpoint | at 24: changes rx",
             "function breakpoint | at 4: changes rx",
@@ -186,7 +201,7 @@ HUNTS = (
             "entry | at 0: the start",
             "function breakpoint | at 5: worker comes to 1",
             "step | at 6: worker 1 recv items 0 -> 0",
-            "exception | at 12: nothing goes on: sender waits at recv:acks without end; worker waits at note:0 without end",
+            "exception | at 12: asleep: sender waits at recv:acks without end; worker waits at note:0 without end",
             "queue items = 1/4 41",
             "function breakpoint | at 8: changes items",
             "function breakpoint | at 5: worker comes to 1",

@@ -5,6 +5,7 @@ from typing import Set
 
 from rdbg import commands, instructions
 from rdbg.checking import freertos
+from tests.paths import DOCS, TOP
 from tests.tables import codes, rows, section
 
 CALLS = "| FreeRTOS | Instruction | r0 |"
@@ -18,6 +19,29 @@ def line_of(form: str) -> str:
     """A line of a form of interrupts."""
     words = {"Q": "q0", "K": "t0", "I": "0", "N": "1", "HEX": "41", "ACTION": "set"}
     return " ".join(words.get(word, word) for word in form.split())
+
+
+# What is to be read before a first model, at the most, and of that the first page.
+KIBIBYTE = 1_024
+MOST, MOST_OF_FIRST = 20 * KIBIBYTE, 8 * KIBIBYTE
+PAGE = re.compile(r"`docs/(\w+\.md)`")
+
+
+class First(unittest.TestCase):
+    """docs/FIRST.md, and what it says is needed besides."""
+
+    def test_they_are_short(self) -> None:
+        needed = {
+            "FIRST.md",
+            *PAGE.findall(section("FIRST.md", "A model of your own").split("Then:")[0]),
+        }
+        self.assertEqual({"FIRST.md", "CALLS.md"}, needed)
+        self.assertLessEqual((DOCS / "FIRST.md").stat().st_size, MOST_OF_FIRST)
+        self.assertLessEqual(sum((DOCS / it).stat().st_size for it in needed), MOST)
+
+    def test_it_comes_first(self) -> None:
+        for page in (TOP / "README.md", DOCS / "README.md"):
+            self.assertEqual("FIRST.md", PAGE.findall(page.read_text())[0], page)
 
 
 class Calls(unittest.TestCase):

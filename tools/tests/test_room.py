@@ -10,7 +10,7 @@ from typing import Iterator, List, Optional, Tuple
 from rdbg import commands
 from rdbg.client import Session
 from rdbg.replies import read
-from rdbg.rooms.journal import Journal
+from rdbg.driving.journal import Journal
 from rdbg.rooms.room import Ended, Member, Refusal, Room
 from rdbg.rooms.talk import field
 from rdbg.rooms.turns import Turns

@@ -35,17 +35,93 @@ class Goals(unittest.TestCase):
         self.assertEqual(("never", "never"), (first, never))
         self.assertRegex(found, "^found: ")
 
+    @unittest.skipUnless(real(), "no program that searches")
+    def test_where_it_was_lost(self) -> None:
+        run = (
+            "until count jobs > 0 50",
+            "step 1",
+            "step 1",
+            "step 1",
+            "step 0",
+            "back 1",
+            "redo 1",
+        )
+        lines = (*run, "lost at worker 1", "doomed", "reach", "trim 3", "lost failed", "lost")
+        *_, lost, doomed, never, _, nowhere, again = self.said(LOST, *lines)
+        move = "8  core 1  poller 0 recv jobs 0 -> 1, data 41, jobs 0/1"
+        way = "`back 2` goes before it, and from there it can still come: tick; step 0"
+        self.assertEqual(f"lost at 8: {move}; {way}", lost)
+        self.assertEqual(("found: from here no order leads there", "never"), (doomed, never))
+        self.assertEqual("lost at 0: no order leads there from boot: it could never come", nowhere)
+        self.assertEqual(nowhere, again)
+
+    @unittest.skipUnless(real(), "no program that searches")
+    def test_the_goal_before(self) -> None:
+        first, *_, stepped, moved, of_way = self.said(
+            LOST, "lost", "until count jobs > 0 50", "lost", "step 1", "back until tick = 0", "lost"
+        )
+        self.assertEqual("no: lost what? a goal, as `lost finished`, `lost at worker 1`", first)
+        self.assertEqual(("ok at 6", "ok at 2 met"), (stepped, moved))
+        self.assertEqual("still: it holds here", of_way)
+
     def test_what_is_no_goal(self) -> None:
         for line, why in (
             ("reach asleap", "no: word 1, 'asleap': a claim, .*; `asleep` would be right"),
             ("reach sleeps worker", "no: the search through orders has no word for `sleeps`"),
             ("until count jobs>0 9", "no Syntax: word 2, .jobs>0.: .*; `count jobs > 0` would be"),
             ("back until count jobs == 0", "no Syntax: word 3, '==': .*; `count jobs = 0` would"),
-            ("until asleep 9", "no Syntax: a line of rdbg's has one condition"),
+            ("until! asleap", "no Syntax: word 1, 'asleap': .*; `asleep` would be right"),
+            ("rc! sleeps nobody", "no Syntax: word 2, 'nobody': the name of a task is wanted"),
+            ("rc", "no Syntax: to what. a goal, as `rc asleep`"),
             ("fly", "no Syntax$"),
         ):
             with self.subTest(line):
                 self.assertRegex(self.said(LOST, line)[0], f"^{why}")
+
+    def test_runs_to_goals(self) -> None:
+        found = self.said(
+            LOST,
+            "until! count jobs = 1 and not waits worker",
+            "rc! waits worker recv jobs",
+            "rc waits worker",
+            "until asleep 9",
+            "until! wakes worker",
+            "back until not waits worker",
+            "show moves",
+        )
+        expected = [
+            "at 5 met: count jobs = 1 and not waits worker",
+            "at 1 met: waits worker recv jobs",
+            "no: 'waits worker' wasn't met before; at 1 still",
+            "no: 'asleep' wasn't met in 9 moves; at 1 still",
+            "at 5 met: wakes worker",
+            "at 0 met: not waits worker",
+            "moves 0 undone 5 kept 0",
+        ]
+        self.assertEqual(expected, found)
+
+    def test_others_are_told_of_one_line(self) -> None:
+        room = Room.open(load(LOST), sessions=4)
+        try:
+            heard: List[str] = []
+            other = room.join("bo", heard.append)
+            pages = Pages(room)
+            page = pages.open("ada")
+            try:
+                page.ask("until! wakes worker")
+                told = [it for it in heard if it.startswith("# ada: ")]
+                self.assertEqual(["# ada: until! wakes worker -> ok at 5 met: wakes worker"], told)
+                self.assertEqual("ok wheel", other.ask("wheel take"))
+                self.assertEqual("no Held 1", page.ask("rc! waits worker"))
+                self.assertEqual("ok at 6", other.ask("step 1"))
+                other.ask("wheel give")
+                self.assertEqual("ok wheel", page.ask("wheel take"))
+                self.assertEqual("at 4 met: waits worker", page.ask("rc waits worker"))
+                self.assertEqual("no Held 2", other.ask("step 1"))
+            finally:
+                pages.close(page)
+        finally:
+            room.close()
 
 
 if __name__ == "__main__":

@@ -17,6 +17,9 @@ class Sessions(unittest.TestCase):
     def test_readme(self) -> None:
         self.check(TOP / "README.md")
 
+    def test_first(self) -> None:
+        self.check(DOCS / "FIRST.md")
+
     def test_companions(self) -> None:
         self.check(DOCS / "COMPANIONS.md")
 

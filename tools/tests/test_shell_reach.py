@@ -9,6 +9,11 @@ from tests.paths import EXAMPLES
 from tests.shell_talk import both, example, file, opened, said
 
 
+# A run in which the poller takes the item, and the worker waits again.
+RUN = ("until count jobs > 0 50", "step 1", "step 1", "step 1", "step 0")
+NOWHERE = "#   no order leads there from boot: it could never come"
+
+
 class Reach(unittest.TestCase):
     """`reach GOAL`."""
 
@@ -44,6 +49,89 @@ class Reach(unittest.TestCase):
             answers = said(shell, "forward 2", "poke note worker 0 1", "reach stuck")
             self.assertIn(answers[2], ("# never", "# found"))
             self.assertNotIn("refused", " ".join(answers))
+
+
+class Lost(unittest.TestCase):
+    """`lost GOAL` and `doomed GOAL`."""
+
+    def test_the_move_that_lost_it(self) -> None:
+        with example("lost_item") as shell:
+            answers = said(shell, *RUN, "lost at worker 1")
+            self.assertEqual(
+                [
+                    "# lost at 8",
+                    "#   8  core 1  poller 0 recv jobs 0 -> 1, data 41, jobs 0/1",
+                    "#   `goto 7` goes before it, and from there it can still come:",
+                ],
+                answers[-5:-2],
+            )
+            # (the place stays; and the order that is told leads there)
+            order = [it.lstrip("# ") for it in answers[-2:]]
+            self.assertEqual("moves 9 undone 0 kept 9", said(shell, "show moves")[0])
+            said(shell, "goto 7", *order)
+            self.assertIn(" pc 1 ", said(shell, "show task worker")[0])
+
+    def test_what_wasnt_lost(self) -> None:
+        with example("lost_item") as shell:
+            self.assertEqual(["# lost at 0", NOWHERE], said(shell, "lost failed"))
+            answers = said(shell, "forward 7", "lost at worker 1")
+            self.assertEqual("# still", answers[1])
+            said(shell, *(it.lstrip("# ") for it in answers[2:]))
+            self.assertEqual(["# still", "#   it holds here"], said(shell, "lost at worker 1"))
+
+    def test_the_goal_before(self) -> None:
+        with example("lost_item") as shell:
+            for word in ("reach", "lost", "doomed"):
+                self.assertIn(f"{word} what? a goal, as `{word} ", said(shell, word)[0])
+            said(shell, *RUN)
+            for line, goal in (
+                ("until! count jobs > 0 1", "count jobs > 0"),
+                ("rc! waits worker", "waits worker"),
+                ("rc! wakes worker", "waits worker"),
+                ("until asleep 1", "asleep"),
+                ("reach reg poller 0 = 1", "reg poller 0 = 1"),
+                ("lost at worker 1", "at worker 1"),
+                ("reach no goal", "at worker 1"),
+            ):
+                with self.subTest(line):
+                    said(shell, line, "goto 9")
+                    self.assertEqual(f"# of `{goal}`, the goal before:", said(shell, "lost")[0])
+
+    def test_doomed(self) -> None:
+        with example("lost_item") as shell:
+            answers = said(shell, "doomed at worker 1")
+            self.assertEqual("# found", answers[0])
+            said(shell, *(it.lstrip("# ") for it in answers[1:]))
+            self.assertEqual("# never", said(shell, "reach at worker 1")[0])
+            here = ["# found", "#   from here no order leads there"]
+            self.assertEqual(here, said(shell, "doomed at worker 1"))
+        with example("stolen_answer_mended") as shell:
+            self.assertEqual("# never", said(shell, "doomed ended client")[0])
+
+
+class Play(unittest.TestCase):
+    """`play`."""
+
+    def test_the_order_that_was_answered(self) -> None:
+        with example("lost_item") as shell:
+            self.assertIn("`reach`, `lost` or `doomed` answered", said(shell, "play")[0])
+            said(shell, "forward 2", "reach reg poller 0 = 1")
+            said(shell, "play")
+            self.assertEqual(["# still", "#   it holds here"], said(shell, "lost")[1:])
+            self.assertIn("`reach`, `lost` or `doomed` answered", said(shell, "play")[0])
+
+    def test_it_begins_where_it_was_asked(self) -> None:
+        with example("lost_item") as shell:
+            said(shell, *RUN, "lost at worker 1")
+            self.assertEqual(
+                "# the order begins at 7: `goto 7`, then `play`", said(shell, "play")[0]
+            )
+            answers = said(shell, "set moves on", "goto 7", "play")
+            self.assertEqual(["ok at 9", "# 8  tick 2"], answers[2:4])
+            self.assertEqual(
+                "# 9  core 0  worker 0 recv jobs max -> 1, data 41, jobs 0/1", answers[4]
+            )
+            self.assertIn(" pc 1 ", said(shell, "show task worker")[0])
 
 
 class Again(unittest.TestCase):

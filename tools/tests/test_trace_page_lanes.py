@@ -70,7 +70,7 @@ class Lanes(Shown):
         self.assertTrue(self.label().endswith("pinned: task worker"))
         self.browser.key("p")
         self.assertNotIn("pinned", self.label())
-        self.browser.key("x")
+        self.browser.key("y")
         self.assertEqual("lane-filter", self.browser.value(focused))
         whole = self.reader.picture()
         self.browser.type("poller")

@@ -34,8 +34,8 @@ ROWS = [
 ]
 
 
-class Rows(unittest.TestCase):
-    """What it prints of commands, in a folder of its own."""
+class Traced(unittest.TestCase):
+    """What it says of commands, in a folder of its own."""
 
     def setUp(self) -> None:
         folder = tempfile.TemporaryDirectory()
@@ -59,6 +59,10 @@ class Rows(unittest.TestCase):
             ):
                 status = main(["trace", *words])
         return status, output.getvalue().splitlines(), errors.getvalue().splitlines()
+
+
+class Rows(Traced):
+    """What it prints."""
 
     def test_a_run(self) -> None:
         self.assertEqual((0, [HEAD, *ROWS], []), self.traced(RUN))

@@ -4,6 +4,7 @@ import re
 from typing import Callable, Dict, List, Optional, Sequence, Tuple
 
 from rdbg import commands, instructions
+from rdbg.adapter.losing import Loses
 from rdbg.adapter.messages import Arguments, Values, Wrong
 from rdbg.adapter.sources import Spot, Text
 from rdbg.adapter.stops import Amount, Becomes, Content, Counted, Stop, Where, becoming
@@ -16,14 +17,15 @@ from rdbg.goals.changes import Changes
 from rdbg.goals.claims import Goal
 from rdbg.goals.reading import NoGoal
 from rdbg.goals.ways import To
+from rdbg.reaching.asking import LOST
 from rdbg.shell.hints import refusal
 from rdbg.shell.shell import Shell
 from rdbg.driving.target import Unable
 
 # The failures at which one can be stopped: what the editor shows, and whether it is so by itself.
 FAILURES: Dict[str, Tuple[str, bool]] = {
-    "failed": ("A task fails", True),
-    "asleep": ("All that is left waits, and no task has a deadline", True),
+    "failed": ("failed: a task fails", True),
+    "asleep": ("asleep: all that is left waits, and no task has a deadline", True),
 }
 # How a number of hits can be compared.
 HITS: Dict[str, Callable[[int, int], bool]] = {
@@ -78,6 +80,8 @@ def hits_of(text: str) -> Callable[[int], bool]:
 def limited(shell: Shell, stop: Stop, given: Arguments) -> Stop:
     """A stop with the condition and the hits that are given."""
     condition, hits = given.text("condition", "").strip(), given.text("hitCondition", "").strip()
+    if isinstance(stop, Loses) and (condition or hits):
+        raise Wrong(f"{stop.text} is met once, and takes no condition and no number of hits")
     if condition:
         stop = Where(stop, goal_in(shell, condition))
     return Counted(stop, hits, hits_of(hits)) if hits else stop
@@ -90,13 +94,15 @@ def arrival(spot: Spot) -> Stop:
 
 
 def named(shell: Shell, text: Text, name: str) -> List[Stop]:
-    """What a name stands for: a goal, a place of a task, an instruction, or what FreeRTOS calls
-    one."""
+    """What a name stands for: a goal, that one is lost, a place of a task, an instruction, or what
+    FreeRTOS calls one."""
     words = name.replace(":", " ").split()
     if not words:
         raise Wrong("a condition, as count jobs > 0, or send, xQueueSend, worker 2")
     if words[0] in reading.OF_MOVES:
         return [of_move(shell, words)]
+    if words[0] == LOST.word and LOST.word not in shell.target.names.tasks:
+        return [Loses(shell, goal_in(shell, lost_goal(shell, words)))]
     if words[0] in shell.target.names.tasks and len(words) <= 2:
         number = words[1] if words[1:] else "0"
         spot = text.of(words[0], int(number)) if commands.is_number(number) else None
@@ -105,6 +111,14 @@ def named(shell: Shell, text: Text, name: str) -> List[Stop]:
         return [arrival(spot)]
     calls = [spot for spot in text.spots if is_call(spot, words)]
     return [arrival(spot) for spot in calls] or [becoming(goal_in(shell, name))]
+
+
+def lost_goal(shell: Shell, words: Sequence[str]) -> str:
+    """The goal behind `lost`, or the one before. Raises `Wrong` where there is none."""
+    text = " ".join(words[1:]) or shell.goal
+    if not text:
+        raise Wrong(shell.in_its_names(LOST.lacks_goal("worker")))
+    return text
 
 
 def is_call(spot: Spot, words: Sequence[str]) -> bool:

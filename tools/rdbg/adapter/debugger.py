@@ -7,6 +7,7 @@ from rdbg import record, replies
 from rdbg.adapter.breakpoints import Breakpoint, Breakpoints
 from rdbg.adapter.hearing import MOVED, Hearing
 from rdbg.adapter.known import Facts
+from rdbg.adapter.losing import Loses, listen
 from rdbg.adapter.messages import Arguments, Values, Wrong, event
 from rdbg.adapter.pausing import Pause
 from rdbg.adapter.paced import PacedRunner
@@ -19,7 +20,7 @@ from rdbg.effects import Move
 from rdbg.looks import Look
 from rdbg.replies import Refused
 from rdbg.goals import conditions
-from rdbg.goals.claims import ASLEEP, Finished, SomeFailed
+from rdbg.goals.claims import ASLEEP, Finished, SomeFailed, Stuck
 from rdbg.driving import trail
 from rdbg.shell.hints import refusal
 from rdbg.shell.shell import Shell
@@ -96,6 +97,7 @@ class Debugger:
         first, column = self.text.first_line, self.text.first_column
         self._shell = shell
         Facts.of(shell.walk)  # (which hears of all moves from here on)
+        listen(shell)
         self.text = Text(shell.source)
         self.text.count_from(first, column)
         self.threads.learn(shell.target.names.tasks)
@@ -329,7 +331,7 @@ class Debugger:
             gone = [it for it in tasks.values() if it.phase.word == "failed"]
             return "; ".join(f"{it.name} {phase_text(it)}" for it in gone)
         texts = "; ".join(f"{name} {phase_text(it)}" for name, it in tasks.items())
-        return f"nothing goes on: {texts}"
+        return f"{ASLEEP.text}: {texts}"
 
     def tell_outcome(self, outcome: Outcome, start: int) -> None:
         """Stops behind a run, and says why."""
@@ -351,13 +353,13 @@ class Debugger:
         self.stopped(reason, f"at {here}: {texts[outcome.how]}", self.mover(self.focus))
 
     def _ending(self) -> str:
-        """Why nothing goes on, where that is so."""
+        """Why nothing goes on, where that is so, and the goal that this is."""
         look = self.look()
         if Finished().is_so(look):
-            return "finished: all tasks have ended"
-        waits = ASLEEP.is_so(look)
-        why = "all that is left waits, and no task has a deadline" if waits else "no task waits"
-        return f"nothing goes on: {why}"
+            return f"{Finished().text}: all tasks have ended"
+        if ASLEEP.is_so(look):
+            return f"{ASLEEP.text}: all that is left waits, and no task has a deadline"
+        return f"{Stuck().text}: no task waits, and one has failed at the least"
 
     def _tell_met(self, met: Sequence[Stop]) -> None:
         """Stops at what was met."""
@@ -367,6 +369,9 @@ class Debugger:
             self.tell_failure(failures[0], self.mover())
             return
         text = "; ".join(stop.text for stop in met)
+        for stop in met:
+            if isinstance(stop, Loses):
+                self.say(stop.way)
         pairs = [pair for it in hit for pair in zip(it.stops, it.tasks)]
         tasks = [task for stop, task in pairs if stop in met]
         thread = self.threads.number(tasks[0]) if tasks else self.mover()

@@ -46,11 +46,13 @@ def typed(it: Debugger, lines: List[str]) -> str:
     shell = it.shell
     target, changes, place = shell.target, shell.target.changes, shell.target.place
     it.pause.forget()
-    shell.shows_moves = True
+    shell.shows_moves, shell.lost = True, None
     with gathered() as pieces:
         for line in lines:
             shell.line(line)
     it.changed()
+    if shell.lost is not None:
+        it.say(f"lost at {shell.lost.place}: {shell.lost.text()}", shell.lost)
     if shell.target is not target:
         reloaded(it)
     elif target.changes != changes or target.place != place:

@@ -73,7 +73,7 @@ IN_LINES = by_word(
     {
         "add R -1": "dec",
         "add R -N": "sub",
-        "set R N, and while R with add R -1 in it": "for",
+        "loop, or set R N and while R with add R -1 in it": "for",
         "loop, with if TEST break in it": "do until",
         "if R = N goto L, a line for each N": "switch",
         "if R = N goto L": "cmp",

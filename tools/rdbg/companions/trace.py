@@ -33,6 +33,11 @@ def parser() -> argparse.ArgumentParser:
         metavar="GOAL",
         help="rows of moves behind which it holds: 'count jobs > 0 and not runs worker'; as above",
     )
+    made.add_argument(
+        "--lost",
+        metavar="GOAL",
+        help="marks the move behind which it could come no more, in rows or in the page, and says it",
+    )
     place = bounded(0)
     made.add_argument("--from", dest="first", type=place, metavar="N", help="from place N on")
     made.add_argument("--to", dest="last", type=place, metavar="N", help="up to place N")
@@ -95,6 +100,9 @@ def check_words(given: argparse.Namespace) -> None:
         raise Failure(
             "--note -: standard input is COMMANDS already; name a file for one of them", 2
         )
+    if given.lost is not None and (given.events or given.port is not None):
+        word = "--events" if given.events else "--port"
+        raise Failure(f"--lost is for rows or --page of a run that is told here, not {word}", 2)
     if given.events and given.page:
         raise Failure("--events or --page, one at a time", 2)
     if given.first is not None and given.last is not None and given.first > given.last:

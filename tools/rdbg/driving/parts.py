@@ -1,12 +1,15 @@
 """Moves that were made, with the look behind each."""
 import dataclasses
-from typing import List, Optional, Tuple
+from typing import List, Optional, Sequence, Tuple
 
+from rdbg import commands
 from rdbg.driving import trail
 from rdbg.driving.interrupt import Interrupt
-from rdbg.driving.target import Target
+from rdbg.driving.opening import begin
+from rdbg.driving.target import Limits, Target
 from rdbg.driving.walk import Walk
 from rdbg.effects import Move
+from rdbg.files.source import Source
 from rdbg.looks import Look
 
 # So many of the moves at a port are looked at where nothing is said: the history there is of all.
@@ -61,6 +64,14 @@ def walk_through(walk: Walk, first: int, last: int) -> Part:
             moves.append(trail.between(target, looks[-1] if looks else before, look))
             looks.append(look)
     return Part(before, tuple(moves), tuple(looks))
+
+
+def move_to(source: Optional[Source], lines: Sequence[str], place: int) -> Move:
+    """The move to a place of the run that these lines make, in a program of its own."""
+    target = begin(source, Limits(Limits.moves, commands.MOST_COUNT))
+    with target.session:
+        target.tell_all(lines)
+        return look_through(target, place, place).moves[0]
 
 
 def part_at(target: Target, first: Optional[int], last: Optional[int]) -> Tuple[Part, int]:

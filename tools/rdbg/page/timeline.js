@@ -13,6 +13,8 @@ const MOST_SCALE = 240;
 // From these scales on there is room for moves, and for arrows.
 const MOVE_SCALE = 3;
 const ARROW_SCALE = 5;
+// What stands above the move that lost a goal.
+const LOST = "lost";
 
 class Timeline {
   constructor(run, canvas, frame, scrolled) {
@@ -25,6 +27,8 @@ class Timeline {
     this.groundOf = "";
     this.scrolled = scrolled;
     this.found = [];
+    // The place of the move that lost a goal; none where none is known.
+    this.lost = null;
     this.place = run.first;
     this.left = run.first - 0.5;
     this.scale = 0;
@@ -218,7 +222,8 @@ class Timeline {
 
   draw() {
     const { left, scale, width, seen, painter } = this;
-    const part = [left, scale, width, seen, this.frame.scrollTop, painter.theme, this.found.join()];
+    const marked = [this.lost, ...this.found].join();
+    const part = [left, scale, width, seen, this.frame.scrollTop, painter.theme, marked];
     const key = part.join(" ");
     if (width <= 0 || seen <= 0) return; // (on paper they aren't there)
     if (key !== this.groundOf) {
@@ -246,6 +251,7 @@ class Timeline {
       this.drawLanes(pinned, RULER + this.pinned);
     }
     this.drawArrows();
+    this.drawLost();
     painter.fill(painter.paper, 0, 0, GUTTER - 1, this.seen);
     others.forEach((it) => this.drawLabel(it));
     if (pinned.length) {
@@ -283,6 +289,21 @@ class Timeline {
       const x = this.x(place);
       this.painter.stroke(this.painter.line, x, RULER, x, bottom, [1, 3]);
     });
+  }
+
+  // The column of the move that lost a goal: a word above it, crossed lines, and a line behind it.
+  drawLost() {
+    const { painter, lost } = this;
+    if (lost === null || lost > this.run.last) return;
+    const x = this.x(lost);
+    const from = Math.max(GUTTER, this.x(lost - 1));
+    if (x < GUTTER || from > this.width) return;
+    painter.stroke(painter.ink, from, RULER, from, this.seen, [2, 2]);
+    painter.stroke(painter.ink, x, RULER, x, this.seen, [], 3);
+    const width = (LOST.length + 1) * painter.letter;
+    painter.fill(painter.cross, from, RULER, x - from, 15);
+    painter.fill(painter.ink, x - width, RULER, width, 15);
+    painter.text(LOST, x - width + 3, RULER + 8, width, painter.paper, "bold");
   }
 
   // The place that is shown, and the move that led to it.
@@ -478,6 +499,7 @@ class Timeline {
     const words = `places ${first} to ${last} of ${this.run.first} to ${this.run.last}`;
     const pinned = this.lanes.filter((it) => it.isPinned && it.kind !== "waiting");
     const names = pinned.length ? `; pinned: ${pinned.map(({ key }) => key).join(", ")}` : "";
-    this.canvas.setAttribute("aria-label", `Lanes: ${words}, at ${this.place}${names}`);
+    const lost = this.lost === null ? "" : `; lost at ${this.lost}`;
+    this.canvas.setAttribute("aria-label", `Lanes: ${words}, at ${this.place}${lost}${names}`);
   }
 }

@@ -9,12 +9,13 @@ const MOVING_KEYS = [
   ["[ and ]", "the tick before, the next tick"],
   ["w and W", "the next move that wakes somebody, the one before"],
   ["e and E", "the next edit, interrupt or trim, the one before"],
+  ["x", "the move that lost a goal, where it is marked"],
   ["/", "search; Enter finds the next, Escape leaves it"],
   ["n and N", "the next that was found, the one before"],
   ["g", "go to a place by its number"],
   ["+ and -, 0", "fewer moves, more, all; so does the wheel over the ruler, or with Ctrl"],
   ["p, v", "pins the lane that is chosen, or lets it go; pins what this move was of, whom it woke too"],
-  ["o, x", "chooses a lane; leaves out all but some"],
+  ["o, y", "chooses a lane; leaves out all but some"],
   ["Up, Down", "scrolls lanes or state, where the focus is (Tab)"],
 ];
 
@@ -35,6 +36,7 @@ const SIGNS = [
   ["a level that is filled", "how much a queue, a set or a buffer holds"],
   ["names in a box below it", "who waits there, who is served first stands first"],
   ["*, ! and | with dashes", "an edit by hand; an interrupt; a trim"],
+  ["lost, above crossed lines", "the move behind which a goal could come no more, whatever came"],
 ];
 
 const LEGEND = [
@@ -153,6 +155,20 @@ class Viewer {
   // Marks a range, where a page has one.
   mark() {}
 
+  // Marks the move that lost a goal, none where it is null, and says what there is to say of it.
+  setLost(place, words) {
+    this.timeline.lost = place;
+    byId("loss").hidden = !words;
+    byId("to-loss").hidden = place === null;
+    byId("to-loss").textContent = place === null ? "" : `lost at ${place}`;
+    document.querySelector("#loss span").textContent = words;
+    this.again();
+  }
+
+  goLost() {
+    if (this.timeline.lost !== null) this.go(this.timeline.lost);
+  }
+
   find(words) {
     this.timeline.found = this.search.find(words);
     this.again();
@@ -202,6 +218,7 @@ class Viewer {
       W: () => this.before(timeline.wakingPlaces),
       e: () => this.next(this.hands),
       E: () => this.before(this.hands),
+      x: () => this.goLost(),
       "/": () => byId("search").select(),
       n: () => this.goFound(true),
       N: () => this.goFound(false),
@@ -213,7 +230,7 @@ class Viewer {
       p: () => this.lanePanel.pin(byId("lane").value),
       v: () => this.lanePanel.pinMoved(run, run.move(this.place)),
       o: () => byId("lane").focus(),
-      x: () => byId("lane-filter").select(),
+      y: () => byId("lane-filter").select(),
       t: () => this.changeTheme(),
       "?": () => byId("help").showModal(),
     };
@@ -259,7 +276,7 @@ class Viewer {
     const keys = this.keys();
     const buttons = { first: "Home", back: "ArrowLeft", forward: "ArrowRight", last: "End" };
     Object.assign(buttons, { out: "-", in: "+", whole: "0", theme: "t", "help-button": "?" });
-    Object.assign(buttons, { "previous-found": "N", "next-found": "n" });
+    Object.assign(buttons, { "previous-found": "N", "next-found": "n", "to-loss": "x" });
     for (const id in buttons) byId(id).addEventListener("click", () => keys[buttons[id]]());
   }
 

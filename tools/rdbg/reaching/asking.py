@@ -19,12 +19,20 @@ TIME, CTRL_C, STOPPED = "the time was up", "Ctrl-C came", "it was stopped"
 
 class Question(NamedTuple):
     """A question that the program has: the word that stands before the goal, whether the goal holds
-    behind the order that is its answer, and what it asks, with more on it."""
+    behind the order that is its answer, what it asks, with more on it, and what an answer says whose
+    order is empty."""
 
     word: str
     is_met: bool
     asks: str = ""
     more: str = ""
+    here: str = "it holds here"
+
+    def lacks_goal(self, task: str) -> str:
+        """What is said where no goal stands behind it, with a task that there is."""
+        instances = ("asleep", "failed") if self.is_met else ("finished", f"at {task} 1")
+        texts = ", ".join(f"`{self.word} {it}`" for it in instances)
+        return f"{self.word} what? a goal, as {texts}"
 
 
 REACH = Question(
@@ -38,8 +46,8 @@ LOST = Question(
     "lost",
     False,
     "at which move it was lost, if it was",
-    "Of the moves that are done: the last place from which an order leads there, with the order, and\n"
-    "the move behind it, behind which none does, of whatever length; or still, with an order from here.",
+    "Of the moves that are done: from which place on no order leads there, of whatever length, the move\n"
+    "that made it so, and an order from before it; or still, with an order from here.",
 )
 DOOMED = Question(
     "doomed",
@@ -47,6 +55,7 @@ DOOMED = Question(
     "whether an order leads to where it is lost",
     "Found, with an order to a place from which none leads there any more, of whatever length; or never:\n"
     "from every place that an order leads to some order leads there.",
+    "from here no order leads there",
 )
 # Each is one row; what its answer begins with is a row of `said.HEADS`.
 QUESTIONS: Dict[str, Question] = {it.word: it for it in (REACH, LOST, DOOMED)}

@@ -9,7 +9,7 @@ from rdbg.commands import Command
 from rdbg.failure import Failure
 from rdbg.looks import Look
 from rdbg.rooms.host import Audit, Ended, Host
-from rdbg.rooms.journal import Journal
+from rdbg.driving.journal import Journal
 from rdbg.rooms.memory import Memory
 from rdbg.rooms.seats import Seat
 from rdbg.rooms.sight import Sight

@@ -1,22 +1,22 @@
 """Goals that are typed at a page: `reach GOAL`, whether some order of moves leads there from where the
-target stands, asked of the program that searches, while the room goes on; and why words are none."""
+target stands, `lost GOAL` and `doomed GOAL`, asked of the program that searches, while the room goes
+on; and why words are none. Runs to them are in `web_ways`."""
 import time
 from typing import Sequence
 
-from rdbg import record
-from rdbg.driving.opening import as_read
+from rdbg import commands, record
+from rdbg.driving.parts import move_to
 from rdbg.failure import Failure
 from rdbg.goals.reading import NoGoal
 from rdbg.goals.words import counted, for_search
 from rdbg.goals.scope import Scope
+from rdbg.reaching import losing
 from rdbg.reaching.asking import QUESTIONS, Asker
+from rdbg.reaching.behind import ask_behind
 from rdbg.rooms.room import Room
 
 # A search ends after so many seconds, or with so many mebibytes.
 SECONDS, MEBIBYTES = 20.0, 256
-SYNTAX = "no Syntax"
-# So many lines of an order are told at the most.
-MOST_LINES = 40
 
 
 def is_question(words: Sequence[str]) -> bool:
@@ -24,23 +24,38 @@ def is_question(words: Sequence[str]) -> bool:
     return words[:1] != [] and words[0] in QUESTIONS
 
 
+def lacks_goal(room: Room, words: Sequence[str]) -> str:
+    """What is answered to a question behind which no goal stands, nor was one asked for before."""
+    application = room.app_source.application
+    assert application is not None
+    return f"no: {QUESTIONS[words[0]].lacks_goal(application.tasks[0].name)}"
+
+
+def goal_in(line: str, reply: str) -> Sequence[str]:
+    """The goal of a run or a way back that was made, which has no COUNT behind it then."""
+    words = line.split()
+    behind = words[2:] if words[:2] == [record.BACK, "until"] else words[1:-1]
+    is_run = words[:1] == ["until"] or words[:2] == [record.BACK, "until"]
+    return behind if is_run and reply.startswith("ok ") else ()
+
+
 def told(room: Room, line: str, reply: str) -> str:
-    """A reply to a line; of a run or a way back that is refused as no command with what would be
-    right."""
+    """A reply to a line; of one with a condition that is refused with what would be right."""
     words = line.split()
     behind = words[2:] if words[:2] == [record.BACK, "until"] else words[1:]
-    if reply != SYNTAX or not behind or words[0] not in (record.BACK, "until"):
+    if not reply.startswith("no ") or words[:1] not in (["until"], ["watch"], [record.BACK]):
         return reply
     try:
         counted(behind, Scope.of(room.app_source))
     except NoGoal as wrong:
-        return f"{reply}: {wrong}"
-    return f"{reply}: a line of rdbg's has one condition; `rdbg sh --port` takes all goals"
+        is_watch = commands.is_watch(behind[0]) if behind else True
+        return reply if is_watch else f"{reply}: {wrong}"
+    return reply
 
 
 def answered(room: Room, words: Sequence[str]) -> str:
-    """What is answered to such a line, in one."""
-    word, goal, source = QUESTIONS[words[0]], words[1:], room.app_source
+    """What is answered to such a line, behind which a goal stands, in one."""
+    question, goal, source = QUESTIONS[words[0]], words[1:], room.app_source
     try:
         _, asked = for_search(goal, Scope.of(source))
     except NoGoal as wrong:
@@ -48,13 +63,10 @@ def answered(room: Room, words: Sequence[str]) -> str:
     # (`back` leads no further then, but where the target stands is the same)
     lines = [it for it in room.lines() if it.split(" ")[0] != record.TRIM]
     options = ("--memory", str(MEBIBYTES))
+    asker = Asker(source.path, options, time.monotonic() + SECONDS)
     try:
-        with as_read(source) as path:
-            asker = Asker(path, options, time.monotonic() + SECONDS)
-            answer = asker.ask(asked, begin=lines, question=word)
+        answer = ask_behind(source, lines, question, asked, asker=asker)
+        texts = losing.in_one(question, answer, lambda place: move_to(source, lines, place).row())
     except Failure as failure:
         return f"no: {failure}"
-    order = answer.order[len(lines) :]
-    more = f"; and {len(order) - MOST_LINES} more" if len(order) > MOST_LINES else ""
-    told = "; ".join(order[:MOST_LINES]) + more or answer.why
-    return f"{answer.head()}: {told}" if told else answer.head()
+    return f"{answer.head()}: {texts}" if texts else answer.head()

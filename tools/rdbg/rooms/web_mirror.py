@@ -9,7 +9,7 @@ from rdbg.commands import MOST_COUNT
 from rdbg.failure import Failure
 from rdbg.looks import Look
 from rdbg.replies import Moved
-from rdbg.rooms.journal import Journal
+from rdbg.driving.journal import Journal
 from rdbg.driving import trail
 from rdbg.driving.interrupt import Interrupt
 from rdbg.driving.opening import begin

@@ -7,9 +7,9 @@ import secrets
 import socket
 import threading
 import time
-from typing import Callable, Deque, Dict, List, Optional, Tuple
+from typing import Callable, Deque, Dict, List, Optional, Sequence, Tuple
 
-from rdbg.rooms import web_goals
+from rdbg.rooms import web_goals, web_ways
 from rdbg.rooms.room import Member, Refusal, Room
 from rdbg.rooms.web_follower import Follower, Values
 
@@ -43,6 +43,8 @@ class Page:
         self._dropped = 0
         self._needs_run = True
         self._who = ""
+        # The goal that was asked for or gone to last.
+        self._goal: Sequence[str] = ()
         self._lines = threading.Semaphore(MOST_LINES)
         self._turn = threading.Lock()
         self._waking, self.woken = socket.socketpair()
@@ -131,13 +133,36 @@ class Page:
             with self._turn:
                 assert self.member is not None
                 if web_goals.is_question(line.split()):
-                    return web_goals.answered(self._room, line.split())
+                    return self._answered(line.split())
                 if line.lstrip(" ").startswith("#"):
                     self.member.remark(line)
                     return ""
-                return web_goals.told(self._room, line, self.member.ask(line))
+                way = web_ways.typed(line)
+                if way is not None:
+                    return self._gone(line, way)
+                reply = self.member.ask(line)
+                self._goal = web_goals.goal_in(line, reply) or self._goal
+                return web_goals.told(self._room, line, reply)
         finally:
             self._lines.release()
+
+    def _gone(self, line: str, way: web_ways.Typed) -> str:
+        """Goes to a goal for which rdbg has no line."""
+        assert self.member is not None
+        reply = web_ways.gone(self._room, self.member, line, way)
+        if reply.startswith("at "):
+            self._goal = reply.split(" met: ", 1)[1].split()
+        return reply
+
+    def _answered(self, words: Sequence[str]) -> str:
+        """The answer to a question, of the goal before where it says none."""
+        asked = words if words[1:] else [*words, *self._goal]
+        if not asked[1:]:
+            return web_goals.lacks_goal(self._room, words)
+        reply = web_goals.answered(self._room, asked)
+        if not reply.startswith("no: "):
+            self._goal = asked[1:]
+        return reply
 
     def begin_anew(self) -> Dict[str, str]:
         """Is told all anew: it isn't shown where the target is."""

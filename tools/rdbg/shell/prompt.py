@@ -20,7 +20,7 @@ MOST_LINES = 2_000
 WIPE = "\r\x1b[K"
 # Lines with these words aren't repeated by Enter.
 ONCE = (
-    "watch", "unwatch", "break", "b", "delete", "d", "save", "save!", "reload", "reach", "again", "set", "help", "h", "?",
+    "watch", "unwatch", "break", "b", "delete", "d", "save", "save!", "reload", "reach", "lost", "doomed", "play", "again", "set", "help", "h", "?",
     "wheel", "poke", "isr", "goto", "g", "#",
 )  # fmt: skip
 

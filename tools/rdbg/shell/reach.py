@@ -1,21 +1,21 @@
-"""`reach` and `again`: what can still come from here, asked of the program that searches."""
+"""`reach`, `lost`, `doomed` and `again`: what can still come from here, and at which move it was lost,
+asked of the program that searches."""
 import dataclasses
-from typing import TYPE_CHECKING, Callable, List, Sequence
+from typing import TYPE_CHECKING, Callable, List, Optional, Sequence
 
-from rdbg.driving.opening import as_read
+from rdbg.driving import trail
 from rdbg.driving.target import Unable
+from rdbg.effects import Move
 from rdbg.failure import Failure
 from rdbg.goals import words as goal_words
-from rdbg.reaching.asking import Asker, Question
-from rdbg.reaching.handlers import handlers
+from rdbg.reaching import losing
+from rdbg.reaching.asking import Question
+from rdbg.reaching.behind import ask_behind
 from rdbg.reaching.said import Answer, Kind
 from rdbg.shell import replay
 
 if TYPE_CHECKING:
     from rdbg.shell.shell import Shell
-
-# So many lines of an order are shown at the most.
-MOST_LINES = 40
 
 
 @dataclasses.dataclass(frozen=True)
@@ -28,17 +28,29 @@ class Reached:
     said: str
 
 
+@dataclasses.dataclass(frozen=True)
+class Order:
+    """The lines of an order that was answered, and the place where it begins."""
+
+    place: int
+    lines: Sequence[str]
+
+
 def asks(question: Question) -> Callable[["Shell", Sequence[str]], None]:
     """What asks one of the program's questions about a goal, from here."""
 
     def ask(shell: "Shell", words: Sequence[str]) -> None:
-        word, goal = question.word, " ".join(words)
+        goal = " ".join(words) or shell.goal
         if not goal:
-            raise Unable(f"{word} what? `{word} asleep`, `{word} failed`; help {word} says more")
+            text = question.lacks_goal("worker")
+            raise Unable(f"{text}; help {question.word} says more")
         with shell.wheel():
             lines = replay.lines_of(shell)
         answer = asked(shell, question, goal, lines)
-        say(shell, answer)
+        if not words:
+            shell.say(f"of `{goal}`, the goal before:")
+        say(shell, question, answer, len(lines))
+        shell.goal = goal
         shell.reached = Reached(question, goal, len(lines), answer.head())
 
     return ask
@@ -55,41 +67,82 @@ def again(shell: "Shell", words: Sequence[str]) -> None:
     answer = asked(shell, before.question, before.goal, lines[: before.place] if is_there else [])
     where = f"from {before.place} on" if is_there and before.place else "from boot on"
     shell.say(f"{before.goal}, {where}: it was {before.said}, and is {answer.head()}")
-    say(shell, answer)
+    say(shell, before.question, answer, before.place if is_there else 0)
     place = before.place if is_there else 0
     shell.reached = Reached(before.question, before.goal, place, answer.head())
 
 
-def lines_at_pace(shell: "Shell") -> List[str]:
-    """The lines that tell the program the pace of the prompt, and which interrupts may come: those
-    that come by themselves here, as if none had come yet, and those that end waits."""
-    names = [it.name for it in shell.coming]
-    found = [it.line() for it in handlers(names, shell.target.application)]
-    return found + ([f"pace {shell.pace.text}"] if shell.pace is not None else [])
-
-
 def asked(shell: "Shell", question: Question, goal: str, lines: List[str]) -> Answer:
-    """What is answered behind these lines."""
-    source, application = shell.source, shell.target.application
-    if source is None or application is None:
-        raise Unable("`reach` needs the application's file: `rdbg sh FILE`")
+    """What is answered behind these lines, at the pace of the prompt; the interrupts that come by
+    themselves here may come, as if none had come yet."""
+    source = shell.source
+    if source is None or shell.target.application is None:
+        raise Unable(f"`{question.word}` needs the application's file: `rdbg sh FILE`")
+    names = [it.name for it in shell.coming]
+    pace = [f"pace {shell.pace.text}"] if shell.pace is not None else []
     try:
         _, words = goal_words.for_search(goal.split(), shell.scope())
-        with as_read(source) as path, shell.interrupt.at_prompt():
-            more = lines_at_pace(shell)
-            answer = Asker(path).ask(words, begin=lines, more=more, question=question)
+        with shell.interrupt.at_prompt():
+            return ask_behind(source, lines, question, words, names, pace)
     except Failure as failure:
         raise Unable(str(failure)) from None
-    # (the lines up to here stand before the order)
-    return dataclasses.replace(answer, order=answer.order[len(lines) :])
 
 
-def say(shell: "Shell", answer: Answer) -> None:
-    """Says an answer, and the order in it."""
+def say(shell: "Shell", question: Question, answer: Answer, place: int) -> None:
+    """Says an answer, and the order in it, which begins at a place; of a goal that was lost, by which
+    move, and the order begins before that."""
     shell.say(answer.head())
-    for line in answer.order[:MOST_LINES]:
+    loss = losing.loss_of(answer)
+    shell.lost = loss and lost_by(shell, loss)
+    if loss is not None:
+        move = shell.lost.row() if shell.lost else ""
+        for text in losing.told(loss, move, f"goto {loss.before}"):
+            shell.say(f"  {text}")
+    order = answer.order if loss is None else loss.order
+    shell.order = Order(place if loss is None else loss.before, order)
+    for line in order[: losing.MOST_LINES]:
         shell.say(f"  {line}")
-    if len(answer.order) > MOST_LINES:
-        shell.say(f"  and {len(answer.order) - MOST_LINES} more")
+    if len(order) > losing.MOST_LINES:
+        shell.say(f"  and {len(order) - losing.MOST_LINES} more")
+    if answer.kind is Kind.REACHED and not order:
+        shell.say(f"  {question.here}")
     if answer.kind is not Kind.REACHED and answer.why:
         shell.say(f"  {answer.why}")
+
+
+def lost_by(shell: "Shell", loss: losing.Loss) -> Optional[Move]:
+    """The move that lost a goal; none where there is none."""
+    if not loss.place:
+        return None
+    with shell.wheel():
+        return trail.moves(shell.walk, loss.place, loss.place)[0][0]
+
+
+def play(shell: "Shell", words: Sequence[str]) -> None:
+    """`play`: makes the moves of the order that was answered."""
+    order = shell.order
+    if words or order is None or not order.lines:
+        raise Unable(
+            "`play` makes the moves of the order that `reach`, `lost` or `doomed` answered"
+        )
+    here = shell.target.places().done
+    if here != order.place:
+        raise Unable(f"the order begins at {order.place}: `goto {order.place}`, then `play`")
+    with shell.wheel():
+        start = shell.target.places().done
+        reply = made(shell, order.lines)
+        shell.answer(reply)
+        if reply.startswith("no "):
+            shell.say(f"the moves up to {shell.target.place} are made")
+        shell.after(start, None)
+
+
+def made(shell: "Shell", lines: Sequence[str]) -> str:
+    """The reply to the last of these lines, or to the first that is refused."""
+    reply = ""
+    for line in lines:
+        shell.interrupt.check()
+        reply = shell.target.tell(line)
+        if reply.startswith("no "):
+            break
+    return reply

@@ -10,7 +10,7 @@ from rdbg.goals import words as goal_words
 from rdbg.goals.claims import Goal, Holds, SomeFailed, Stuck
 from rdbg.goals.reading import NoGoal
 from rdbg.goals.scope import Scope
-from rdbg.goals.ways import AnyOf, To, Way, is_so, is_stuck
+from rdbg.goals.ways import AnyOf, To, Wakes, Way, is_so, is_stuck
 from rdbg.instructions import form_of
 from rdbg.replies import Refused
 from rdbg.shell.views import check_instruction, phase_text, script_of
@@ -57,6 +57,12 @@ def goal_of(shell: "Shell", words: Sequence[str], becoming: bool) -> Tuple[Way, 
     return way, count
 
 
+def keep_goal(shell: "Shell", way: Way) -> None:
+    """Takes note of a goal of places, so that a question without one is of it."""
+    if isinstance(way, To) and not isinstance(way, Wakes):
+        shell.goal = way.text
+
+
 def check_goal(shell: "Shell", goal: Goal) -> None:
     """Raises `Refused` where rdbg doesn't know what a goal names, and `Unable` where it is of an
     instruction that its task doesn't have."""
@@ -82,6 +88,7 @@ def run_to(shell: "Shell", words: Sequence[str], becoming: bool = True) -> None:
     if not words:
         raise Unable("until what? `until! COND [COUNT]`, `until asleep`; help until! says more")
     goal, count = goal_of(shell, words, becoming)
+    keep_goal(shell, goal)
     forwards(shell, goal, DEFAULT_COUNT if count is None else count)
 
 
@@ -285,6 +292,7 @@ def back_to(shell: "Shell", words: Sequence[str], becoming: bool) -> None:
     goal, count = goal_of(shell, words, becoming)
     if count is not None:
         raise Unable(f"'{count}' is too much: a way back takes no COUNT")
+    keep_goal(shell, goal)
     backwards(shell, goal)
 
 

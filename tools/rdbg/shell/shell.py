@@ -10,6 +10,7 @@ from typing import Iterator, Optional, Sequence, Tuple
 from rdbg import commands, kinds, record
 from rdbg.application import Interrupt as Handler
 from rdbg.client import ROOM_ENDED
+from rdbg.effects import Move
 from rdbg.looks import Look, Names
 from rdbg.replies import Cores, Refused
 from rdbg.goals.scope import Scope
@@ -17,7 +18,7 @@ from rdbg.shell import hints, needs, views
 from rdbg.driving import trail
 from rdbg.driving.interrupt import Interrupt, Interrupted
 from rdbg.shell.notices import Notices, is_remark
-from rdbg.shell.reach import Reached
+from rdbg.shell.reach import Order, Reached
 from rdbg.shell.saved import Saved
 from rdbg.driving.target import SINGLE, Target, Unable, read
 from rdbg.driving.walk import Pieces, Walk
@@ -46,8 +47,12 @@ class Shell:
         # The pace of runs, and the interrupts that come in them by themselves.
         self.pace: Optional[TickPace] = None
         self.coming: Tuple[Handler, ...] = ()
-        # What was asked last of what can still come.
+        # The goal of places that was asked for or gone to last; what was asked last of what can
+        # still come, and the order in the answer; and the move that lost a goal, if it tells of one.
+        self.goal = ""
         self.reached: Optional[Reached] = None
+        self.order: Optional[Order] = None
+        self.lost: Optional[Move] = None
         self.take(target, source)
 
     def take(self, target: Target, source: Optional[Source]) -> None:

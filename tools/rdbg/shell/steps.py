@@ -5,7 +5,9 @@ from typing import TYPE_CHECKING, List, Optional, Sequence
 
 from rdbg import commands, record, replies
 from rdbg.looks import Names
-from rdbg.goals import conditions
+from rdbg.goals import conditions, reading
+from rdbg.goals import words as goal_words
+from rdbg.goals.reading import NoGoal
 from rdbg.shell import seek
 from rdbg.driving import trail
 from rdbg.driving.target import Unable
@@ -152,6 +154,7 @@ def goto(shell: "Shell", words: Sequence[str]) -> None:
 def break_at(shell: "Shell", words: Sequence[str]) -> None:
     """`break TASK PC`, `break FILE:LINE`, `break COND`: a watch, to which `continue` goes."""
     if not seek.is_rdbgs(words) and seek.is_goal(words, shell.scope()):
+        check_goal(shell, words)
         goal = " ".join(words)
         raise Unable(f"a watch is a condition; `until {goal}` runs there, `rc {goal}` goes back")
     line = re.fullmatch(r"(?:(.+):)?([0-9]{1,9})", " ".join(words))
@@ -160,6 +163,16 @@ def break_at(shell: "Shell", words: Sequence[str]) -> None:
             put_break(shell, place)
     else:
         put_break(shell, words)
+
+
+def check_goal(shell: "Shell", words: Sequence[str]) -> None:
+    """Raises `Unable` where words are no goal of places, nor of a move, with what would be right."""
+    if words[0] in reading.OF_MOVES:
+        return
+    try:
+        goal_words.read(words, shell.scope())
+    except NoGoal as wrong:
+        raise Unable(str(wrong)) from None
 
 
 def put_break(shell: "Shell", words: Sequence[str]) -> None:
@@ -172,6 +185,8 @@ def put_break(shell: "Shell", words: Sequence[str]) -> None:
     elif len(parts) == 1 and parts[0] in shell.target.names.tasks:
         raise Unable(f"at which instruction? `list {parts[0]}` numbers them, `break {parts[0]} 2`")
     elif words:
+        if not seek.is_rdbgs(words):
+            check_goal(shell, words)
         seek.check_instructions(shell, conditions.read(words))
         is_made = shell.command(f"watch {' '.join(words)}")
     else:

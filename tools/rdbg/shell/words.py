@@ -61,7 +61,8 @@ RELOAD = (
 )
 
 QUESTION = (
-    "GOAL is one of places, as of `until`.\n"
+    "GOAL is one of places, as of `until`; without one it is the goal before, of until, rc or such a\n"
+    "question.\n"
     "{}\n"
     "The target stays as it is. Ctrl-C ends the search."
 )
@@ -153,9 +154,10 @@ WORDS: Tuple[Word, ...] = (
     Word("save! FILE", "the same, onto a file that is there", SAVE_ANEW, (), ("FILE",), SAVE),
     Word("reload", "the same moves on the edited file", replay.reload, more=RELOAD),
     *(
-        Word(f"{it.word} GOAL", it.asks, reach.asks(it), (), ("GOAL!",), QUESTION.format(it.more))
+        Word(f"{it.word} [GOAL]", it.asks, reach.asks(it), (), ("GOAL!",), QUESTION.format(it.more))
         for it in asking.QUESTIONS.values()
     ),
+    Word("play", "the moves of the order that was answered last", reach.play),
     Word("again", "reload, and what was asked by reach last", reach.again, more=AGAIN),
     Word(
         "set moves|echo on|off",

@@ -27,6 +27,7 @@ from rdbg.driving.target import Limits, Unable
 from rdbg.files.source import Source, standard_input
 from rdbg.tracing.asking import ask
 from rdbg.tracing.events import Events
+from rdbg.tracing.losing import lost_in
 from rdbg.tracing.page import ways
 from rdbg.tracing.page.asked import Asked
 from rdbg.tracing.page.document import page
@@ -209,6 +210,7 @@ def trace_run(given: argparse.Namespace, source: Optional[Source]) -> None:
     whole = plan(run)
     tell_refused(whole, given.commands or STANDARD_INPUT)
     found = whole.within(given.first or 1, given.last)
+    lost = None if given.lost is None else lost_in(source, whole.told, given.lost)
     seen = with_progress(parts(run, found.pieces, processors()), found.count())
     if given.events:
         write_events(seen, found.trims, given.events)
@@ -220,12 +222,16 @@ def trace_run(given: argparse.Namespace, source: Optional[Source]) -> None:
         beside = None if given.against is None else text_of(given.against)
         other = other_run(given, run, beside, application) if beside else None
         report = dataclasses.replace(report, asked=asked, source=source, lines=text, other=beside)
+        report = dataclasses.replace(report, lost=lost.values() if lost else None)
         recorder = Recorder(application)
         write_page(seen, found.trims, given.page, recorder, lambda _: way, report, other)
         return
     told = [it.text for it in lines]
     table = Table.of(application, whole.done, whole.end.cores.tick, told)
-    print_rows(rows(moves_in(seen, goal), found.trims), table, names)
+    shown_rows = rows(moves_in(seen, goal), found.trims)
+    print_rows(shown_rows if lost is None else map(lost.mark, shown_rows), table, names)
+    if lost is not None:
+        print(lost.said)
 
 
 def trace_port(given: argparse.Namespace, source: Optional[Source]) -> None:

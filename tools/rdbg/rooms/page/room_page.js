@@ -7,7 +7,11 @@ const MOST_REFUSALS = 10;
 const BETWEEN = 250;
 // At first a move is so wide, that one sees those that come, and some before.
 const SCALE = 64;
-const LOOKS = /^\s*(show|reach)(\s|$)/;
+const LOOKS = /^\s*(show|reach|lost|doomed)(\s|$)/;
+// The goal of a line that asks for one or goes to one, or of its answer; one that tells of a move.
+const GOALS = [/^\s*(?:reach|lost|doomed|back until) (.+)$/, /^\s*until (.+) \d+$/];
+const MET = /^at \d+ met: (.+)$/;
+const LOST_AT = /^lost at (\d+): (.*)$/;
 const MOVES = ["run", "more", "now", "trims"];
 
 // The name by which this page was here before it was loaded anew, or by which somebody was in this
@@ -197,9 +201,11 @@ class RoomPage extends Viewer {
     this.follows = this.place === this.run.done;
   }
 
-  // Takes what has come of moves.
+  // Takes what has come of moves. (Where others are made in its place, a move isn't lost any more.)
   take(kind, values) {
     const { run, timeline } = this;
+    const isOther = kind === "run" || (kind === "more" && values.cut < timeline.lost);
+    if (timeline.lost !== null && isOther) this.setLost(null, "");
     const behind = kind === "more" ? Math.min(values.cut, run.last) : run.last;
     if (kind === "run") run.take(values);
     if (kind === "more") run.more(values);
@@ -356,10 +362,30 @@ class RoomOnPage {
   // Says a line, and what is answered; of one that all are told, the notice tells it.
   async tell(line) {
     if (!this.isHere) return;
+    const changes = this.page?.run.changes;
     const { reply, refused, ended } = await this.line.say("line", line);
     const no = refused ?? ended ?? (/^no:? /.test(reply) ? this.refusalWords(reply) : null);
-    if (no !== null) this.talk.say("refused", `${line} -> ${no}`);
-    else if (LOOKS.test(line)) this.talk.say("reply", `${line} -> ${reply}`);
+    if (no !== null) return this.talk.say("refused", `${line} -> ${no}`);
+    if (LOOKS.test(line) || MET.test(reply)) this.talk.say("reply", `${line} -> ${reply}`);
+    const [goal] = [MET.exec(reply), ...GOALS.map((it) => it.exec(line))]
+      .filter(Boolean)
+      .map((it) => it[1]);
+    if (goal) byId("goal").value = goal.trim();
+    // (where moves have become others meanwhile, it was said of those before)
+    if (/^\s*lost\b/.test(line) && changes === this.page?.run.changes) this.mark(reply);
+  }
+
+  // Marks the move that an answer tells of.
+  mark(reply) {
+    const [, place, words] = LOST_AT.exec(reply) ?? [];
+    const isOfMove = Number(place) > 0;
+    this.page?.setLost(isOfMove ? Number(place) : null, isOfMove ? words : "");
+  }
+
+  // Asks a question of the goal that stands in the field, or of the one before.
+  ask(word) {
+    this.tell(`${word} ${byId("goal").value.trim()}`.trim());
+    if (!byId("goal").value.trim()) byId("goal").focus();
   }
 
   // A refusal with what it means; of the wheel with who has it.
@@ -398,6 +424,12 @@ class RoomOnPage {
       give: () => "wheel give",
       wish: () => "# wheel",
     };
+    byId("ask-lost").addEventListener("click", () => this.ask("lost"));
+    byId("ask-doomed").addEventListener("click", () => this.ask("doomed"));
+    byId("ask").addEventListener("submit", (event) => {
+      event.preventDefault();
+      this.ask("reach");
+    });
     for (const id in acts) byId(id).addEventListener("click", () => tell(acts[id]()));
     byId("until").addEventListener("submit", (event) => {
       event.preventDefault();

@@ -21,6 +21,7 @@ class RunPage extends Viewer {
     byId("title").textContent = report.title || title;
     this.begin();
     if (report.title) byId("about").textContent = `${title}; ${byId("about").textContent}`;
+    if (report.lost) this.setLost(report.lost.place, report.lost.words);
     this.takeLink(report.at ?? shown.first);
   }
 

@@ -1,0 +1,121 @@
+"""A stop where a goal is lost for good: no order of moves, of whatever length, leads there any more.
+
+It is asked of the program that searches, at few places, since what was lost stays so. Where an editor
+has rdbg start at a goal's name, as its breakpoints by name let it, `lost GOAL` is one of these.
+"""
+import time
+import weakref
+from typing import Dict, Hashable, List, Optional, Sequence, Tuple
+
+from rdbg import commands, record, replies
+from rdbg.adapter.messages import Wrong
+from rdbg.adapter.stops import Begins
+from rdbg.driving.journal import Journal
+from rdbg.driving.target import Target, read
+from rdbg.driving.walk import Walk
+from rdbg.failure import Failure
+from rdbg.goals.claims import Goal
+from rdbg.goals.words import NOT_ASKED
+from rdbg.reaching import losing
+from rdbg.reaching.asking import LOST, REACH, Asker, Question
+from rdbg.reaching.behind import ask_behind
+from rdbg.reaching.said import Answer, Kind
+from rdbg.shell import replay
+from rdbg.shell.shell import Shell
+
+# A search ends after so many seconds.
+SECONDS = 20.0
+AT_A_PORT = (
+    "`lost` stops a program that is launched here; typed in the console it is asked at a port, too"
+)
+
+
+class Lines:
+    """The lines that lead to where a target of one's own stands, of which some have led there until
+    now, a move each."""
+
+    def __init__(self, target: Target, before: Sequence[str]) -> None:
+        self._journal, self._told = Journal(), target.session.on_line
+        for place, line in enumerate(before, 1):
+            self._take(line, replies.Moved(place))
+        target.session.on_line = self._seen
+
+    def _seen(self, line: str, reply: str) -> None:
+        if self._told is not None:
+            self._told(line, reply)
+        value = read(reply) if reply.startswith("ok at ") else None
+        if isinstance(value, replies.Moved):
+            self._take(line, value)
+
+    def _take(self, line: str, moved: replies.Moved) -> None:
+        command = commands.read(line)
+        if command is not None:
+            self._journal.moved(command, moved)
+
+    def now(self) -> Tuple[str, ...]:
+        """They. (`back` leads no further behind a trim, but where the target stands is the same.)"""
+        lines = self._journal.lines()
+        return tuple(it for it in lines if it.split(" ")[0] != record.TRIM)
+
+
+# Of each target, from its start on.
+ALL: "weakref.WeakKeyDictionary[Target, Lines]" = weakref.WeakKeyDictionary()
+
+
+def listen(shell: Shell) -> None:
+    """Takes note of the lines of a target that begins, or that was brought where it stands."""
+    if shell.target.is_own and shell.target not in ALL:
+        ALL[shell.target] = Lines(shell.target, replay.lines_of(shell))
+
+
+class Loses(Begins):
+    """A goal is lost: from the place before a move some order led there, and behind it none does.
+    `way` says how one goes before that move, once it was met."""
+
+    def __init__(self, shell: Shell, goal: Goal) -> None:
+        super().__init__(goal, f"{LOST.word} {goal.text}")
+        asked = goal.asked(shell.target.names.tasks)
+        if shell.target not in ALL:
+            raise Wrong(AT_A_PORT)
+        if asked is None:
+            raise Wrong(NOT_ASKED)
+        self._shell, self._asked = shell, asked
+        self._known: Dict[Tuple[str, ...], bool] = {}
+        self.way = ""
+
+    @property
+    def key(self) -> Hashable:
+        return "lost", self.goal
+
+    def views(self, target: Target) -> List[str]:
+        raise AssertionError("it is seen by no view")
+
+    def look(self, target: Target) -> bool:
+        lines = ALL[target].now()
+        if lines not in self._known:
+            self._known[lines] = self._answer(REACH, lines).kind is not Kind.REACHED
+        return self._known[lines]
+
+    def began(self, walk: Walk, low: int) -> Optional[int]:
+        answer = self._answer(LOST, ALL[walk.target].now())
+        loss = losing.loss_of(answer)
+        if loss is None or not low < loss.place <= walk.place:
+            return None
+        order = losing.joined(loss.order)
+        self.way = "; ".join(losing.told(loss, self.text, f"goto {loss.before}")) + f" {order}"
+        return loss.place
+
+    def _answer(self, question: Question, lines: Sequence[str]) -> Answer:
+        """What is answered behind these lines. Raises `Wrong` where that can't be told."""
+        shell, source = self._shell, self._shell.source
+        assert source is not None
+        names = [it.name for it in shell.coming]
+        pace = [f"pace {shell.pace.text}"] if shell.pace is not None else []
+        asker = Asker(source.path, (), time.monotonic() + SECONDS)
+        try:
+            found = ask_behind(source, lines, question, self._asked, names, pace, asker)
+        except Failure as failure:
+            raise Wrong(f"{self.text}: {failure}") from None
+        if found.kind is Kind.UNTOLD:
+            raise Wrong(f"{self.text} can't be told here: {found.head()}, {found.why}")
+        return found

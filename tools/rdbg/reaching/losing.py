@@ -1,0 +1,65 @@
+"""Where a run lost a goal for good, as an answer to `lost` says it, and how that is told."""
+import re
+from typing import Callable, Iterator, NamedTuple, Optional, Sequence, Tuple
+
+from rdbg.reaching.asking import Question
+from rdbg.reaching.said import Answer, Kind
+
+LOST_AT = re.compile(r"lost at (\d+)", re.ASCII)
+# So many lines of an order are told at the most.
+MOST_LINES = 40
+NOWHERE = "no order leads there from boot: it could never come"
+
+
+class Loss(NamedTuple):
+    """From `place` on no order leads to the goal, and from the place before this one does; `back` is
+    the line that goes there from the end of the run. Where the place is the first that there is, it
+    came from nowhere, and there is neither."""
+
+    place: int
+    back: str
+    order: Tuple[str, ...]
+
+    @property
+    def before(self) -> int:
+        """The last place from which it could still come."""
+        return self.place - 1
+
+
+def loss_of(answer: Answer) -> Optional[Loss]:
+    """The loss that an answer tells, whose order begins where the run ends; none where it tells of
+    none."""
+    found = LOST_AT.fullmatch(answer.title)
+    if found is None:
+        return None
+    back, *order = answer.order or [""]
+    return Loss(int(found[1]), back, tuple(order))
+
+
+def told(loss: Loss, move: str, way: str) -> Iterator[str]:
+    """What there is to say of a loss: the move that made it, in words, and the line by which one goes
+    before it; the order is said behind that."""
+    if not loss.place:
+        yield NOWHERE
+        return
+    yield move
+    yield f"`{way}` goes before it, and from there it can still come:"
+
+
+def in_one(question: Question, answer: Answer, row: Callable[[int], str]) -> str:
+    """What stands behind the first line of an answer, in one line, and of a loss by which move; `row`
+    says the move to a place in words."""
+    loss = loss_of(answer)
+    if loss is None:
+        if answer.kind is Kind.REACHED and not answer.order:
+            return question.here
+        return joined(answer.order) or answer.why
+    move = row(loss.place) if loss.place else ""
+    head = "; ".join(told(loss, move, loss.back))
+    return f"{head} {joined(loss.order) or question.here}" if loss.place else head
+
+
+def joined(order: Sequence[str]) -> str:
+    """The lines of an order, the first of many."""
+    more = f"; and {len(order) - MOST_LINES} more" if len(order) > MOST_LINES else ""
+    return "; ".join(order[:MOST_LINES]) + more
