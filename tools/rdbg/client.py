@@ -12,7 +12,7 @@ import signal
 import socket
 import subprocess
 import tempfile
-from typing import IO, Callable, Deque, Iterable, Iterator, List, Optional, Sequence, Union
+from typing import IO, Callable, Deque, Iterable, Iterator, List, Optional, Sequence, Tuple, Union
 
 from rdbg import children, replies
 from rdbg.commands import MOST_BYTES
@@ -41,6 +41,7 @@ def cut(line: str) -> bytes:
     return content + b"\n"
 
 
+@functools.lru_cache(maxsize=4_096)
 def text_of(line: bytes) -> str:
     """A line that has come, without its end, as a terminal can show it, whoever wrote it."""
     return shown(line[:-1].decode("utf-8", "replace"))
@@ -69,10 +70,16 @@ def program() -> str:
     return os.environ.get("RDBG_PROGRAM") or built_by_wrapper("rdbg")
 
 
+def wrapper() -> Tuple[str, List[str]]:
+    """The file that `./rdbg` is, and the words of its own that it was called with."""
+    words = os.environ.get("RDBG_WRAPPER_WORDS", "")
+    return os.environ.get("RDBG_WRAPPER", str(WRAPPER)), words.split()
+
+
 def built_by_wrapper(name: str) -> str:
     """The program of a name that `./rdbg` starts, as it was called itself."""
-    wrapper = os.environ.get("RDBG_WRAPPER", str(WRAPPER))
-    return built_by(wrapper, os.environ.get("RDBG_WRAPPER_WORDS", ""), name)
+    file, words = wrapper()
+    return built_by(file, " ".join(words), name)
 
 
 class Incoming:
@@ -291,7 +298,7 @@ class Session:
 
     def _reply(self) -> str:
         reply = self._line()
-        while reply.startswith(NOTICE):
+        while reply[:1] == NOTICE:
             self._hear(reply)
             reply = self._line()
         self._owed -= 1
@@ -304,7 +311,7 @@ class Session:
             line = self._answers.readline()
         except OSError:
             line = b""
-        if not line.endswith(b"\n"):
+        if line[-1:] != b"\n":
             self._owed = 0
             raise Failure(self.why_ended())
         return line

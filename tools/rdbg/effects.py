@@ -111,7 +111,7 @@ def woken(before: Look, after: Look, at_tick: bool) -> Iterator[Effect]:
     """The tasks that waited and don't wait any more."""
     for name, task in after.tasks.items():
         was = before.tasks.get(name)
-        if was is None or was.phase.word != "wait" or task.phase.word == "wait":
+        if was is task or was is None or was.phase.word != "wait" or task.phase.word == "wait":
             continue
         if task.phase.word == "given":
             yield Effect("given", name, task.core, f"bits {task.phase.bits}")
@@ -151,7 +151,8 @@ def holdings(before: Look, after: Look) -> Iterator[Effect]:
     """The objects that hold something else now."""
     for key, now in after.objects.items():
         was = before.objects.get(key)
-        if was is not None and content_of(was) != content_of(now):
+        # (a reply that says the same is mostly the same value)
+        if was is not now and was is not None and content_of(was) != content_of(now):
             yield Effect("holds", now.name, None, change_of(was, now))
 
 
@@ -159,8 +160,10 @@ def notes(before: Look, after: Look) -> Iterator[Effect]:
     """The notification entries that say something else now."""
     for name, task in after.tasks.items():
         was = before.tasks.get(name)
+        if was is task or was is None:
+            continue
         for index, note in enumerate(task.notes):
-            if was is not None and was.notes[index] != note and note.state != "waiting":
+            if was.notes[index] != note and note.state != "waiting":
                 yield Effect("note", name, None, f"{index} = {note.value}:{note.state}")
 
 

@@ -66,12 +66,12 @@ class Look:
         objects: Dict[Key, Object] = {}
         cores: Optional[replies.Cores] = None
         for answer in answers:
-            if isinstance(answer, replies.Cores):
-                cores = answer
-            elif isinstance(answer, replies.Task):
+            if isinstance(answer, replies.Task):
                 tasks[answer.name] = answer
             elif isinstance(answer, OBJECTS):
-                objects[key_of(answer)] = answer
+                objects[KINDS[type(answer)], answer.name] = answer
+            elif isinstance(answer, replies.Cores):
+                cores = answer
         if cores is None:
             raise replies.Unreadable(str(answers))
         return cls(place, cores, tasks, objects)

@@ -51,6 +51,7 @@ Options:
       --within <SECONDS>  Ends the search after so long
   -D <NAME=N>             Of a text in lines: the const NAME is N
   -o <OUT>                Where the order that is found goes, too, as lines that rdbg run takes
+      --page <OUT.html>   Writes the order that is found, or the run of --lost, as one page of HTML
   -h, --help              Print help
 
 The first line is found, never, not within a bound, or full: not within one; the status is 1 where

@@ -132,6 +132,14 @@ class Browser:
             self._session = first
             self.call("Page.bringToFront")
 
+    @contextlib.contextmanager
+    def saving(self, folder: pathlib.Path) -> Iterator[None]:
+        """Saves to a folder what the page offers, as long as the block goes on."""
+        session, self._session = self._session, None
+        self.call("Browser.setDownloadBehavior", behavior="allow", downloadPath=str(folder))
+        self._session = session
+        yield
+
     def __enter__(self) -> "Browser":
         return self
 
@@ -294,6 +302,20 @@ class Browser:
         at: Message = {"x": x, "y": y, "button": "left", "clickCount": 1}
         for kind in ("mousePressed", "mouseReleased"):
             self.call("Input.dispatchMouseEvent", type=kind, **at)
+        self.settle()
+
+    def drag(self, begin: Tuple[float, float], end: Tuple[float, float]) -> None:
+        """Presses a button at a point, and lets it go at another."""
+        points = (("mousePressed", begin), ("mouseMoved", end), ("mouseReleased", end))
+        for kind, (x, y) in points:
+            at: Message = {"x": x, "y": y, "button": "left", "buttons": 1, "clickCount": 1}
+            self.call("Input.dispatchMouseEvent", type=kind, **at)
+        self.settle()
+
+    def wheel(self, x: float, y: float, delta: float) -> None:
+        """Turns the wheel there."""
+        at: Message = {"x": x, "y": y, "deltaX": 0, "deltaY": delta}
+        self.call("Input.dispatchMouseEvent", type="mouseWheel", **at)
         self.settle()
 
     def size(self, width: int, height: int) -> None:

@@ -18,9 +18,9 @@ PAGES: Dict[str, Tuple[pathlib.Path, ...]] = {
 }
 # What pages use of a browser, and tests of node.
 BROWSER = (
-    "EventSource ResizeObserver addEventListener clearTimeout document fetch getComputedStyle history"
-    " innerHeight localStorage location matchMedia navigator requestAnimationFrame sessionStorage"
-    " setTimeout window"
+    "Blob EventSource ResizeObserver URL URLSearchParams addEventListener clearTimeout document fetch"
+    " getComputedStyle history innerHeight localStorage location matchMedia navigator"
+    " requestAnimationFrame sessionStorage setTimeout window"
 ).split()
 NODE = "global module process require".split()
 # Where Debian's programs find their modules, with any node.

@@ -34,6 +34,18 @@ class Scripts(unittest.TestCase):
     def test_lanes(self) -> None:
         self.check("lanes")
 
+    def test_arrangement(self) -> None:
+        self.check("arrangement")
+
+    def test_beside(self) -> None:
+        self.check("beside")
+
+    def test_links(self) -> None:
+        self.check("links")
+
+    def test_counts(self) -> None:
+        self.check("counts")
+
     def test_keys(self) -> None:
         self.check("keys")
 

@@ -11,7 +11,7 @@ class Own(unittest.TestCase):
     def test_none_of_them(self) -> None:
         words = ["a.json", "count", "q", "=", "2", "--moves", "5", "--exact", "--pace=2..4"]
         for given in (words, [*words, PROGRESS], [PROGRESS, *words]):
-            self.assertEqual(([PROGRESS, *words], None, None, ()), tuple(read(given)))
+            self.assertEqual(([PROGRESS, *words], None, None, (), None), tuple(read(given)))
 
     def test_each_way_to_write_them(self) -> None:
         for line in (
@@ -27,7 +27,7 @@ class Own(unittest.TestCase):
 
     def test_behind_two_dashes_there_are_none(self) -> None:
         words = "a.json --moves 5 -- asleep -o --within".split()
-        self.assertEqual(([PROGRESS, *words], None, None, ()), tuple(read(words)))
+        self.assertEqual(([PROGRESS, *words], None, None, (), None), tuple(read(words)))
 
     def test_what_is_wrong(self) -> None:
         for line, why in (

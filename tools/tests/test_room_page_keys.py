@@ -46,7 +46,7 @@ class Keys(OnPage):
             self.visit(room)
             self.value("document.activeElement.blur()")
             seen: List[str] = []
-            for _ in range(70):
+            for _ in range(90):
                 self.browser.key("Tab")
                 seen.append(self.value(FOCUSED))
             wanted = (

@@ -110,7 +110,7 @@ class Moving(Shown):
     def test_keys_alone_reach_everything(self) -> None:
         seen: List[str] = []
         self.browser.value("document.activeElement.blur()")
-        for _ in range(25):
+        for _ in range(60):
             self.browser.key("Tab")
             seen.append(
                 self.browser.value("document.activeElement.id || document.activeElement.tagName")

@@ -233,9 +233,14 @@ class Hunt:
         if self.given.page is None:
             return
         from rdbg.tracing.command import page_of  # (which takes its time)
+        from rdbg.tracing.page.asked import Asked
 
-        first = (self.finds or [it.find for it in self.differences])[0]
-        page_of(self.source, first.order.lines, self.given.page)
+        order = (self.finds or [it.find for it in self.differences])[0].order
+        how = "" if self.given.exhaustive else f", {report.with_surprises(len(order.told))}"
+        said = f"Found: the order of this page leads there, at {order.place}{how}."
+        told = () if self.given.exhaustive else order.told
+        asked = Asked(f"hunt {self.goal.text}", (said, *told), order.place)
+        page_of(self.source, order.lines, self.given.page, lambda _: asked)
 
     def status(self) -> int:
         """The exit status."""

@@ -18,7 +18,7 @@ from rdbg.reaching import running, said
 from rdbg.reaching.asking import STOPPED
 from rdbg.reaching.handlers import handlers
 from rdbg.reaching.said import UNTOLD
-from rdbg.reaching.words import DEFINE, OUTPUT, PROGRESS, WITHIN, Words, read
+from rdbg.reaching.words import DEFINE, OUTPUT, PAGE, PROGRESS, WITHIN, Words, read
 
 SUMMARY = "answers whether some order of moves comes to a goal; that none does is a theorem"
 # What names the program.
@@ -34,16 +34,16 @@ def program() -> str:
 
 
 def check_output(asked: Words) -> None:
-    """Raises `Failure` where the order couldn't be written, before it is looked for."""
-    path = asked.output
-    if path is None:
-        return
-    if path == whole_file.STANDARD_OUTPUT:
-        raise Failure("-o takes a file; the order is on standard output without it", 2)
-    whole_file.check(path)
-    for file in filter(os.path.exists, asked.files()):
-        if os.path.exists(path) and os.path.samefile(file, path):
-            raise Failure(f"-o {path} is {file} itself, which would be lost", 2)
+    """Raises `Failure` where the order couldn't be written, or its page, before it is looked for."""
+    for option, path in ((OUTPUT, asked.output), (PAGE, asked.page)):
+        if path is None:
+            continue
+        if path == whole_file.STANDARD_OUTPUT:
+            raise Failure(f"{option} takes a file; the order is on standard output without it", 2)
+        whole_file.check(path)
+        for file in filter(os.path.exists, asked.files()):
+            if os.path.exists(path) and os.path.samefile(file, path):
+                raise Failure(f"{option} {path} is {file} itself, which would be lost", 2)
 
 
 def save(path: str, answered: str) -> None:
@@ -69,7 +69,18 @@ def say(asked: Words, outcome: running.Outcome) -> int:
     finally:
         # (what was found isn't lost where it can't be written)
         sys.stdout.write(outcome.output)
+    if asked.page is not None and outcome.output:
+        sys.stdout.flush()
+        write_page(asked, outcome.output, asked.page)
     return outcome.status
+
+
+def write_page(asked: Words, answered: str, path: str) -> None:
+    """Writes the page of the order in an answer, or of the run that was asked about."""
+    from rdbg.reaching.page import write  # (which takes its time)
+
+    file, *goal = (asked.program[at] for at in asked.plain())
+    write(asked, source_of(asked, file), " ".join(goal), answered, path)
 
 
 def source_of(asked: Words, file: str) -> Source:
@@ -118,8 +129,8 @@ def become_engine(asked: Words, words: Sequence[str]) -> NoReturn:
     """Becomes the program, which answers lines where it is asked for no goal: nothing stands between.
     Raises `Failure` where it can't be started, and where something is asked that goes with a goal.
     """
-    if asked.output is not None or asked.seconds is not None:
-        raise Failure(f"{OUTPUT} and {WITHIN} go with a goal", 2)
+    if (asked.output, asked.seconds, asked.page) != (None, None, None):
+        raise Failure(f"{OUTPUT}, {WITHIN} and {PAGE} go with a goal", 2)
     found = program()
     sys.stdout.flush()
     signal.signal(signal.SIGPIPE, signal.SIG_DFL)

@@ -47,9 +47,37 @@ def parser() -> argparse.ArgumentParser:
     made.add_argument(
         "--page", metavar="OUT.html", help="writes the run as one page of HTML; - as above"
     )
+    made.add_argument(
+        "--against",
+        metavar="COMMANDS2",
+        help="of a page: another run of the same application below it, and where they first differ",
+    )
+    take_report(made)
     made.add_argument("--moves", type=bounded(1), metavar="N", help="how many moves may be done")
     take_definitions(made)
     return made
+
+
+def take_report(made: argparse.ArgumentParser) -> None:
+    """Has a command line take what a page says beside its run."""
+    made.add_argument("--title", metavar="TEXT", help="of a page: its title")
+    made.add_argument(
+        "--note", metavar="FILE", help="of a page: what is said of it, in Markdown; - as above"
+    )
+    made.add_argument(
+        "--at",
+        metavar="PLACE",
+        help="of a page: where it opens, a number, or a goal that holds there",
+    )
+    made.add_argument(
+        "--ask",
+        metavar="QUESTION",
+        help="of a page: the question that it answers, 'lost GOAL', 'reach GOAL' or 'doomed GOAL'",
+    )
+
+
+# What is said of a page alone.
+OF_PAGES = ("title", "note", "at", "ask", "against")
 
 
 def check_words(given: argparse.Namespace) -> None:
@@ -62,6 +90,16 @@ def check_words(given: argparse.Namespace) -> None:
         if value is not None and (given.events or given.page):
             word = "--events" if given.events else "--page"
             raise Failure(f"{option} is for rows; {word} writes all", 2)
+    for name in OF_PAGES:
+        if getattr(given, name) is not None and not given.page:
+            raise Failure(f"--{name} is for a page: --page OUT.html", 2)
+    for name in ("ask", "against"):
+        if getattr(given, name) is not None and given.port is not None:
+            raise Failure(f"--{name} is of a run by its lines; --port takes none", 2)
+    if given.note == "-" and given.port is None and given.commands in (None, "-"):
+        raise Failure(
+            "--note -: standard input is COMMANDS already; name a file for one of them", 2
+        )
     if given.lost is not None and (given.events or given.port is not None):
         word = "--events" if given.events else "--port"
         raise Failure(f"--lost is for rows or --page of a run that is told here, not {word}", 2)

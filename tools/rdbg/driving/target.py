@@ -23,6 +23,8 @@ RESERVE = 1_000
 # A look is taken anew so many times at the most.
 AGAIN = 5
 Value = TypeVar("Value")
+# What a look is made of, which tells of names where the application isn't known.
+SEEN = (replies.Task, *OBJECTS, replies.Cores)
 # Many looks have the same replies, and many lines are the same: each is read once.
 read = functools.lru_cache(maxsize=16_384)(replies.read)
 read_line = functools.lru_cache(maxsize=4_096)(commands.read)
@@ -171,7 +173,10 @@ class Target:
             return
         if command.form.answers and not isinstance(value, command.form.answers):
             raise Unreadable(reply)
-        if isinstance(value, replies.Moved) and command.form.word == record.TRIM:
+        if isinstance(value, SEEN):
+            if self.application is None:
+                self._learn(value)
+        elif isinstance(value, replies.Moved) and command.form.word == record.TRIM:
             self._drifted(value.at)
             self.place = value.at
             self.base = max(self.base, value.at - int(command.words[1]))
@@ -185,8 +190,6 @@ class Target:
             self._drifted(value.done)
             self.place, self.undone = value.done, value.undone
             self.base = value.done - value.kept
-        elif self.application is None:
-            self._learn(value)
 
     def _drifted(self, place: int) -> None:
         """Keeps account of moves by others: a place that isn't the one that was known."""

@@ -14,13 +14,17 @@ SCRIPTS = tuple(
     for name in (
         "run.js",
         "words.js",
+        "signs.js",
         "segments.js",
+        "arrangement.js",
         "lanes.js",
         "painter.js",
         "timeline.js",
         "tables.js",
         "panels.js",
         "search.js",
+        "lane_panel.js",
+        "dragging.js",
         "viewer.js",
     )
 )

@@ -1,65 +1,76 @@
 // The lanes of a run, from top to bottom.
 
-const HEIGHTS = { core: 38, hand: 18, task: 20, level: 26, waiting: 17, head: 15 };
+const HEIGHTS = { flags: 18, core: 38, hand: 18, task: 20, level: 26, waiting: 17, head: 15 };
 
-function newLane(kind, label, more) {
-  return { kind, label, height: HEIGHTS[kind], ...more };
+// A lane of a group, such as that of all cores; those of one key go together.
+function newLane(kind, label, group, key, more) {
+  return { kind, label, group, key, height: HEIGHTS[kind], ...more };
 }
 
 // All lanes that there can be. Those without anything to show are left out where they are laid out.
 function lanesOf(run) {
-  const lanes = [newLane("head", "cores")];
+  const lanes = [newLane("flags", "marks", "marks", "marks", { marks: [] })];
+  lanes.push(newLane("head", "cores", "cores", "cores"));
   const count = run.value(run.cores.running, run.first).length;
   for (let core = 0; core < count; core++) {
-    lanes.push(newLane("core", `core ${core}`, { core, segments: coreSegments(run, core) }));
+    const key = `core ${core}`;
+    lanes.push(newLane("core", key, "cores", key, { core, segments: coreSegments(run, core) }));
   }
-  lanes.push(newLane("hand", "by hand", { marks: [] }));
-  lanes.push(newLane("head", "tasks"));
+  lanes.push(newLane("hand", "by hand", "by hand", "by hand", { marks: [] }));
+  lanes.push(newLane("head", "tasks", "tasks", "tasks"));
   run.tasks.forEach((task, at) => {
-    lanes.push(newLane("task", task.name, { task: at, segments: taskSegments(run, at) }));
+    const more = { task: at, priority: task.priority, segments: taskSegments(run, at) };
+    lanes.push(newLane("task", task.name, "tasks", `task ${task.name}`, more));
   });
-  if (run.objects.length) lanes.push(newLane("head", "objects"));
+  if (run.objects.length) lanes.push(newLane("head", "objects", "objects", "objects"));
   for (const object of run.objects) lanes.push(...objectLanes(run, object));
   return lanes;
 }
 
 // An object's level, and below it each of its lists.
 function objectLanes(run, object) {
-  const lanes = [newLane("level", object.name, { segments: levelSegments(run, object) })];
+  const key = `${object.kind} ${object.name}`;
+  const segments = levelSegments(run, object);
+  const lanes = [newLane("level", object.name, "objects", key, { segments })];
   for (const [name, words] of WAITING[object.kind]) {
-    const segments = waitingSegments(run, object, name);
-    lanes.push(newLane("waiting", `  ${words}`, { segments }));
+    const waiting = { segments: waitingSegments(run, object, name) };
+    lanes.push(newLane("waiting", `  ${words}`, "objects", key, waiting));
   }
   return lanes;
 }
 
 // Whether there is something in a lane: of lists those where somebody waits some time.
 function isNeeded({ kind, marks, segments }) {
-  if (kind === "hand") return marks.length > 0;
+  if (marks) return marks.length > 0;
   return kind !== "waiting" || segments.shown.some(({ text }) => text);
 }
 
-// The lanes that are needed, one below the other.
-function laidOut(lanes) {
-  const shown = lanes.filter(isNeeded);
+// Where a lane first shows another thing than at the beginning.
+function beginOf({ segments }) {
+  return segments && segments.places.length > 1 ? segments.places[1] : Infinity;
+}
+
+// The lanes that are needed, one below the other, as they are arranged.
+function laidOut(lanes, arrangement = new Arrangement()) {
+  const needed = lanes.filter(isNeeded);
+  if (arrangement.order === "by first move") for (const it of needed) it.begins = beginOf(it);
+  const [pinned, others] = arrangement.arranged(needed);
   let top = 0;
-  for (const it of shown) {
+  for (const it of [...pinned, ...others]) {
+    it.isPinned = pinned.includes(it);
     it.top = top;
     top += it.height;
   }
-  return shown;
+  return [...pinned, ...others];
 }
 
-// What was done by hand behind a place, up to another one, by place, in order: an edit or an
-// interrupt with its sign, then the trims behind it.
-function byHand(run, behind, last) {
-  const texts = new Map();
-  const add = (place, text) => texts.set(place, [...(texts.get(place) || []), text]);
-  for (const move of movesBehind(run, behind, last)) {
-    if (move.kind === EDIT) add(move.place, `*${move.does}`);
-    if (move.kind === INTERRUPT) add(move.place, `!${move.does}`);
+// What was done by hand, by place, in order: edits and interrupts, of which these are told, each with
+// its sign, then the trims behind it.
+function byHand(run, told, behind, last) {
+  const texts = new Map(told.map(([place, text]) => [place, [text]]));
+  for (const [place, line] of run.trims) {
+    if (place > behind && place <= last) texts.set(place, [...(texts.get(place) || []), `|${line}`]);
   }
-  for (const [place, line] of run.trims) if (place > behind && place <= last) add(place, `|${line}`);
   const places = [...texts.keys()].sort((one, other) => one - other);
   return places.map((place) => ({ place, text: texts.get(place).join(" ") }));
 }
@@ -69,22 +80,30 @@ function* movesBehind(run, place, last = run.last) {
   for (let at = Math.max(run.first, place) + 1; at <= last; at++) yield run.move(at);
 }
 
+// How each kind of what is done by hand is marked.
+const SIGNS_BY_HAND = { [EDIT]: "*", [INTERRUPT]: "!" };
+
 // What there is to mark at places behind one, up to another: ticks, arrows with their places, and
-// what was done by hand.
+// what was done by hand. Moves that are the same are looked at once.
 function marksOf(run, behind, last) {
   const ticks = [];
   const wakings = [];
-  for (const move of movesBehind(run, behind, last)) {
-    if (move.kind === TICK) ticks.push(move.place);
-    const waking = wakingOf(move);
-    if (waking) wakings.push(waking);
+  const told = [];
+  const known = new Map();
+  for (let place = Math.max(run.first, behind) + 1; place <= last; place++) {
+    const number = run.numbers[place - run.first - 1];
+    if (!known.has(number)) known.set(number, markOf(run.move(place)));
+    const { kind, core, tasks, sign, does } = known.get(number);
+    if (kind === TICK) ticks.push(place);
+    if (sign) told.push([place, sign + does]);
+    if (tasks.length) wakings.push({ place, kind, core, tasks });
   }
   const wakingPlaces = wakings.map(({ place }) => place);
-  return { ticks, wakings, wakingPlaces, hands: byHand(run, behind, last) };
+  return { ticks, wakings, wakingPlaces, hands: byHand(run, told, behind, last) };
 }
 
-// The arrow of waking of a move that wakes: from where and whom; none of another.
-function wakingOf({ place, kind, core, effects }) {
+// What there is to mark of a move, wherever it was made: whom it wakes, and its sign.
+function markOf({ kind, core, does, effects }) {
   const tasks = effects.filter((it) => it.length > 1).map(([, task]) => task);
-  return tasks.length ? { place, kind, core, tasks } : null;
+  return { kind, core, tasks, sign: SIGNS_BY_HAND[kind], does };
 }

@@ -3,6 +3,8 @@
 const COLOURS = 8;
 const FONT = 12;
 const NARROW = 3;
+// In less room than this a task's bands are drawn, in place of its letter.
+const LETTER_ROOM = 13;
 
 class Painter {
   constructor(canvas) {
@@ -117,7 +119,7 @@ class Painter {
     if (shown.style === "runs") {
       this.fill(this.fills[shown.colour % COLOURS], x, y + 1, width, height - 2);
       this.outline(this.ink, x, y + 1, width, height - 2);
-      this.text(shown.text, x + 4, middle, room, this.ink, "bold");
+      this.runner(shown, x, y, width, height);
     } else if (shown.style === "ready") {
       this.fill(this.hatch, x, y + 2, width, height - 4);
       this.label(shown.text, x + 4, middle, room);
@@ -138,12 +140,32 @@ class Painter {
     }
   }
 
+  // Who runs, as far as there is room.
+  runner({ text, sign, colour }, x, y, width, height) {
+    if (!sign) return this.text(text, x + 4, y + height / 2, width - 6, this.ink, "bold");
+    if (width < LETTER_ROOM) return this.bands(colour, x + 1, y + 1, width - 2, height - 2);
+    const most = Math.floor((width - 6) / this.letter);
+    const shown = nameIn(most, text, sign);
+    const room = Math.max(width - 6, 2 * this.letter);
+    this.text(shown, x + 4, y + height / 2, room, this.ink, "bold");
+  }
+
+  // The bands of a task.
+  bands(task, x, y, width, height) {
+    const high = height / BANDS;
+    bandsOf(task).forEach((isDark, at) => {
+      if (isDark) this.fill(this.ink, x, y + at * high + 0.5, width, high - 1);
+    });
+  }
+
   // A segment in which there is room for no more than a stroke: high where the task runs, half as
   // high where it is ready.
-  narrow({ style, part, colour }, x, y, width, height) {
+  narrow({ style, part, colour, sign }, x, y, width, height) {
     const middle = y + height / 2;
-    if (style === "runs") this.fill(this.fills[colour % COLOURS], x, y + 1, width, height - 2);
-    else if (style === "ready") this.fill(this.faint, x, y + height / 4, width, height / 2);
+    if (style === "runs") {
+      this.fill(this.fills[colour % COLOURS], x, y + 1, width, height - 2);
+      if (sign) this.bands(colour, x, y + 1, width, height - 2);
+    } else if (style === "ready") this.fill(this.faint, x, y + height / 4, width, height / 2);
     else if (style === "failed") this.fill(this.ink, x, y + 2, width, height - 4);
     else if (style === "waits" || style === "ended") this.fill(this.line, x, middle, width, 1);
     else if (style === "level") this.fill(this.ink, x, y + 3 + (1 - part) * (height - 6), width, 1);

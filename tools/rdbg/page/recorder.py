@@ -70,6 +70,7 @@ class Recorder:
         self._moves: List[int] = []
         self._cores: Dict[str, Track] = {}
         self._tasks: Dict[str, Dict[str, Track]] = {}
+        self._numbers: Dict[str, int] = {}
         self._objects: Dict[Key, Dict[str, Track]] = {}
         self._most: Dict[Key, Optional[int]] = {}
         self._before: Optional[Look] = None
@@ -142,13 +143,13 @@ class Recorder:
 
     def _move(self, move: Move) -> List[object]:
         """A move: its kind, core, task, instruction by number, what was done, effects, name."""
-        number = None if move.task is None else list(self._tasks).index(move.task)
+        number = None if move.task is None else self._numbers[move.task]
         effects = [self._effect(it, move.task) for it in move.effects]
         return [KINDS[move.kind], move.core, number, move.pc, move.does, effects, move.name]
 
     def _effect(self, effect: Effect, actor: Optional[str]) -> List[object]:
         """An effect in words, and whom it woke, by number."""
-        woken = [list(self._tasks).index(effect.name)] if effect.kind in WAKES else []
+        woken = [self._numbers[effect.name]] if effect.kind in WAKES else []
         return [effect.text(actor), *woken]
 
     def _see(self, look: Look) -> None:
@@ -157,18 +158,22 @@ class Recorder:
         self._put(self._cores, look.place, zip(CORES, cores_of(look.cores)))
         for name, task in look.tasks.items():
             if before is None or before.tasks.get(name) is not task:
-                tracks = self._tasks.setdefault(name, {})
-                self._put(tracks, look.place, zip(TASK, task_of(task)))
+                self._put(self._of_task(name), look.place, zip(TASK, task_of(task)))
         for seated in (*look.cores.running, *look.cores.ready):
             if seated is not None and seated not in self._tasks:
                 # (it is looked at later, or never: of a port not all names are known)
-                self._put(self._tasks.setdefault(seated, {}), look.place, NOT_KNOWN)
+                self._put(self._of_task(seated), look.place, NOT_KNOWN)
         for key, it in look.objects.items():
             if before is None or before.objects.get(key) is not it:
                 tracks = self._objects.setdefault(key, {})
                 self._most[key] = most_of(it)
                 self._put(tracks, look.place, object_of(it).items())
         self._before = look
+
+    def _of_task(self, name: str) -> Dict[str, Track]:
+        """The tracks of a task, which has a number from now on."""
+        self._numbers.setdefault(name, len(self._numbers))
+        return self._tasks.setdefault(name, {})
 
     def _put(
         self, tracks: Dict[str, Track], place: int, values: Iterable[Tuple[str, Value]]

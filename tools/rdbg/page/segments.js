@@ -30,21 +30,35 @@ class Segments {
     this.keys = this.keys.concat(keys.slice(known));
   }
 
-  // Puts what there is behind a place, up to another one.
+  // Puts what there is behind a place, up to another one. What the same values show is made once.
   putAll(behind, last) {
-    const all = new Set();
-    for (const name in this.tracks) {
-      const { places } = this.tracks[name];
-      for (let at = countUpTo(places, behind); places[at] <= last; at++) all.add(places[at]);
-    }
-    for (const at of [...all].sort((one, other) => one - other)) {
-      this.put(at, this.shownOf(this.run.values(this.tracks, at)));
+    const names = Object.keys(this.tracks);
+    const tracks = Object.values(this.tracks);
+    const at = tracks.map(({ places }) => countUpTo(places, behind));
+    const known = new Map();
+    for (;;) {
+      const place = Math.min(...tracks.map(({ places }, it) => places[at[it]] ?? Infinity));
+      if (!(place <= last)) break;
+      const numbers = tracks.map(({ places, values }, it) => {
+        if (places[at[it]] === place) at[it] += 1;
+        return values[Math.max(0, at[it] - 1)];
+      });
+      const key = numbers.join();
+      if (!known.has(key)) known.set(key, this.showing(names, numbers));
+      this.put(place, known.get(key));
     }
   }
 
+  // What these values show, with a key by which that is told from others.
+  showing(names, numbers) {
+    const values = {};
+    names.forEach((name, it) => (values[name] = this.run.listed[numbers[it]]));
+    const shown = this.shownOf(values);
+    return { shown, key: JSON.stringify(shown) };
+  }
+
   // What is shown from a place on; what is shown already goes on.
-  put(place, shown) {
-    const key = JSON.stringify(shown);
+  put(place, { shown, key }) {
     if (key === this.keys[this.keys.length - 1]) return;
     this.keys.push(key);
     this.places.push(place);
@@ -57,7 +71,8 @@ function coreSegments(run, core) {
   return new Segments(run, { running: run.cores.running }, ({ running }) => {
     const name = running[core];
     if (!name) return { style: "idle", text: "" };
-    return { style: "runs", text: name, colour: run.taskByName.get(name) ?? 0 };
+    const task = run.taskByName.get(name) ?? 0;
+    return { style: "runs", text: name, colour: task, sign: signOf(task) };
   });
 }
 

@@ -5,8 +5,9 @@ const GUTTER = 128;
 const RULER = 36;
 // Of a core's lane, who is on it stands above, its moves below.
 const CORE_PART = 19;
-// At first the lanes have so much of the window's height at the most.
+// At first the lanes have so much of the window's height at the most, and so much beside others.
 const PART = 0.5;
+const PART_BESIDE = 0.31;
 const LEAST_SCALE = 0.005;
 const MOST_SCALE = 240;
 // From these scales on there is room for moves, and for arrows.
@@ -32,6 +33,12 @@ class Timeline {
     this.left = run.first - 0.5;
     this.scale = 0;
     this.height = 0;
+    this.arrangement = new Arrangement();
+    // The places between which somebody looks.
+    this.range = null;
+    // Lanes of another run, which show the same places.
+    this.beside = null;
+    this.part = PART;
     this.take();
     this.fit();
   }
@@ -78,23 +85,54 @@ class Timeline {
     this.hand.marks = all("hands");
   }
 
+  // Has the lanes of another run show the same places as these, to the end of the longer one.
+  setBeside(other) {
+    this.beside = other;
+    other.arrangement = this.arrangement;
+    this.end = other.end = Math.max(this.run.last, other.run.last);
+    for (const it of [this, other]) {
+      it.part = PART_BESIDE;
+      it.height = 0;
+    }
+    this.layOut();
+  }
+
+  // Draws what these lanes show at the same places as others.
+  drawBeside({ place, left, scale, range }) {
+    Object.assign(this, { place, left, scale, range });
+    this.draw();
+  }
+
+  // Marks these places, in order, each with a word.
+  setFlags(flags) {
+    this.allLanes.find(({ kind }) => kind === "flags").marks = flags;
+    this.layOut();
+  }
+
   // Lays the lanes out, to be drawn anew.
   layOut() {
+    if (this.beside) this.beside.layOut();
     this.groundOf = "";
-    this.lanes = laidOut(this.allLanes);
+    this.lanes = laidOut(this.allLanes, this.arrangement);
     const end = this.lanes[this.lanes.length - 1];
     const height = end.top + end.height;
+    this.pinned = this.lanes.reduce((sum, it) => sum + (it.isPinned ? it.height : 0), 0);
     if (height === this.height) return;
     this.height = height;
     this.scrolled.style.height = `${height + RULER}px`;
-    const most = Math.round(innerHeight * PART);
+    const most = Math.round(innerHeight * this.part);
     this.frame.style.height = `${Math.min(height + RULER + 2, most)}px`;
     if (this.scale) this.fit();
   }
 
   // How many places there are to show, with what comes behind the last.
   get count() {
-    return this.run.last - this.run.first + 1;
+    return this.lastPlace - this.run.first + 1;
+  }
+
+  // The last place that is shown: beside a longer run, that one's.
+  get lastPlace() {
+    return Math.max(this.run.last, this.end ?? this.run.last);
   }
 
   get span() {
@@ -136,8 +174,35 @@ class Timeline {
     this.keepInside();
   }
 
+  // Shows more or fewer moves, and the place at a point where it was.
+  zoomAt(scale, x) {
+    const place = this.placeAt(x);
+    this.zoomTo(scale);
+    this.left = place - (x - GUTTER) / this.scale;
+    this.keepInside();
+  }
+
+  // Shows what is between two places, in all the room there is.
+  zoomInto(first, last) {
+    this.zoomTo((this.width - GUTTER) / (last - first + 2));
+    this.left = first - 1;
+    this.keepInside();
+  }
+
+  // The lane at a height; none where there is none.
+  laneAt(y) {
+    const isAt = (it) => this.y(it) <= y && y < this.y(it) + it.height && this.isInSight(it);
+    return y < RULER ? undefined : this.lanes.find(isAt);
+  }
+
+  // Whether some of a lane is in sight.
+  isInSight(lane) {
+    const top = lane.isPinned ? RULER : RULER + this.pinned;
+    return this.y(lane) < this.seen && this.y(lane) + lane.height > top;
+  }
+
   keepInside() {
-    const most = this.run.last + 1.5 - this.span;
+    const most = this.lastPlace + 1.5 - this.span;
     this.left = Math.max(this.run.first - 0.5, Math.min(this.left, most));
   }
 
@@ -160,6 +225,7 @@ class Timeline {
     const marked = [this.lost, ...this.found].join();
     const part = [left, scale, width, seen, this.frame.scrollTop, painter.theme, marked];
     const key = part.join(" ");
+    if (width <= 0 || seen <= 0) return; // (on paper they aren't there)
     if (key !== this.groundOf) {
       this.groundOf = key;
       this.drawAll();
@@ -171,26 +237,42 @@ class Timeline {
       painter.context.drawImage(this.ground, 0, 0, width, seen);
     }
     this.drawHere();
+    if (this.beside) this.beside.drawBeside(this);
   }
 
   drawAll() {
     const { painter } = this;
     painter.fill(painter.paper, 0, 0, this.width, this.seen);
-    const isSeen = (it) => this.y(it) < this.seen && this.y(it) + it.height > RULER;
-    const lanes = this.lanes.filter(isSeen);
-    lanes.forEach((it) => this.drawGround(it));
-    this.drawTicks();
-    lanes.forEach((it) => this.drawLane(it));
+    const lanes = this.lanes.filter((it) => this.isInSight(it));
+    const [pinned, others] = [true, false].map((is) => lanes.filter((it) => it.isPinned === is));
+    this.drawLanes(others, this.seen);
+    if (pinned.length) {
+      painter.fill(painter.paper, 0, RULER, this.width, this.pinned);
+      this.drawLanes(pinned, RULER + this.pinned);
+    }
     this.drawArrows();
     this.drawLost();
     painter.fill(painter.paper, 0, 0, GUTTER - 1, this.seen);
-    lanes.forEach((it) => this.drawLabel(it));
+    others.forEach((it) => this.drawLabel(it));
+    if (pinned.length) {
+      painter.fill(painter.paper, 0, RULER, GUTTER - 1, this.pinned);
+      pinned.forEach((it) => this.drawLabel(it));
+      const end = RULER + this.pinned - 1;
+      painter.stroke(painter.ink, 0, end, this.width, end, [], 2);
+    }
     painter.stroke(painter.line, GUTTER - 1, 0, GUTTER - 1, this.seen);
     this.drawRuler();
   }
 
+  // These lanes, with ticks down to a height.
+  drawLanes(lanes, bottom) {
+    lanes.forEach((it) => this.drawGround(it));
+    this.drawTicks(bottom);
+    lanes.forEach((it) => this.drawLane(it));
+  }
+
   y(lane) {
-    return RULER + lane.top - this.frame.scrollTop;
+    return RULER + lane.top - (lane.isPinned ? 0 : this.frame.scrollTop);
   }
 
   drawGround(lane) {
@@ -201,11 +283,11 @@ class Timeline {
     else painter.stroke(painter.stripe, 0, end, this.width, end);
   }
 
-  drawTicks() {
+  drawTicks(bottom) {
     if (this.scale < MOVE_SCALE) return;
     this.eachSeen(this.ticks, (place) => {
       const x = this.x(place);
-      this.painter.stroke(this.painter.line, x, RULER, x, this.seen, [1, 3]);
+      this.painter.stroke(this.painter.line, x, RULER, x, bottom, [1, 3]);
     });
   }
 
@@ -227,13 +309,15 @@ class Timeline {
   // The place that is shown, and the move that led to it.
   drawHere() {
     const { painter, place } = this;
+    this.drawRange();
     const x = this.x(place);
     const from = Math.max(GUTTER, this.x(place - 1));
-    if (place > this.run.first && x > from) {
+    const move = this.run.move(place);
+    if (move && x > from) {
       painter.fill(painter.here, from, RULER, x - from, this.seen - RULER);
-      const { kind, core } = this.run.move(place);
+      const { kind, core } = move;
       const lane = kind === STEP && this.lanes.find((it) => it.core === core);
-      const y = lane ? this.y(lane) + CORE_PART : 0;
+      const y = lane && this.isInSight(lane) ? this.y(lane) + CORE_PART : 0;
       if (y > RULER && this.scale >= MOVE_SCALE) {
         painter.outline(painter.accent, from, y, x - from, 18, 2);
       }
@@ -246,6 +330,18 @@ class Timeline {
     painter.text(text, label + 4, 9, width, painter.paper, "bold");
   }
 
+  // The range, between two brackets.
+  drawRange() {
+    if (!this.range) return;
+    const { painter } = this;
+    const [from, to] = this.range.map((it) => Math.max(GUTTER, Math.min(this.x(it), this.width)));
+    painter.fill(painter.here, from, 18, to - from, this.seen - 18);
+    for (const [x, inward] of [[from, 5], [to, -5]]) {
+      painter.stroke(painter.ink, x, 18, x, this.seen, [], 1.5);
+      for (const y of [18, RULER - 1]) painter.stroke(painter.ink, x, y, x + inward, y, [], 2);
+    }
+  }
+
   drawLane(lane) {
     const y = this.y(lane);
     const high = lane.kind === "core" ? CORE_PART : lane.height;
@@ -255,7 +351,7 @@ class Timeline {
       });
     }
     if (lane.kind === "core") this.drawMoves(lane, y + high);
-    if (lane.kind === "hand") this.drawMarks(lane, y);
+    if (lane.marks) this.drawMarks(lane, y);
   }
 
   // The moves of a core, each as a box where there is room.
@@ -271,16 +367,22 @@ class Timeline {
     }
   }
 
-  // Edits and trims, each a sign with its line where there is room.
+  // Flags, edits and trims, each a sign with its line where there is room. What goes on behind one is
+  // underlined.
   drawMarks(lane, y) {
+    const end = y + lane.height - 1;
+    for (const { place } of lane.marks.filter(({ goesOn }) => goesOn)) {
+      const x = Math.max(GUTTER, this.x(place));
+      this.painter.stroke(this.painter.accent, x, end, Math.max(x, this.width), end, [], 2);
+    }
     const marks = lane.marks.map(({ place }) => place);
     for (let at = lastUpTo(marks, Math.floor(this.left)); at < marks.length; at++) {
       const x = this.x(marks[at]);
       if (x > this.width) break;
-      if (x < GUTTER) continue;
-      const next = at + 1 < marks.length ? this.x(marks[at + 1]) : this.width;
       const { text } = lane.marks[at];
       const { painter } = this;
+      if (x < GUTTER) continue;
+      const next = at + 1 < marks.length ? this.x(marks[at + 1]) : this.width;
       painter.stroke(painter.accent, x, y, x, this.seen, text[0] === "|" ? [8, 4] : [4, 2]);
       const room = Math.max(24, next - x - 6);
       painter.label(text, x + 3, y + 9, room, "bold");
@@ -303,17 +405,26 @@ class Timeline {
   drawArrow(x, kind, core, task) {
     const from = this.lanes.find((it) => (kind === STEP ? it.core === core : it.kind === "hand"));
     const to = this.lanes.find((it) => it.task === task);
+    if (!to || !this.isInSight(to)) return;
+    const least = from && !from.isPinned ? RULER + this.pinned : RULER;
     const fromY = kind === TICK || !from ? RULER : this.y(from) + from.height - 3;
     const toY = this.y(to) + to.height / 2;
-    this.painter.arrow(x - Math.min(10, this.scale / 2), Math.max(RULER, fromY), x, toY);
+    this.painter.arrow(x - Math.min(10, this.scale / 2), Math.max(least, fromY), x, toY);
   }
 
   drawLabel(lane) {
     const isHead = lane.kind === "head";
     const middle = this.y(lane) + (lane.kind === "core" ? 10 : lane.height / 2);
     const { painter } = this;
-    painter.text(lane.label, 6, middle, GUTTER - 10, isHead ? painter.faint : painter.ink);
+    painter.text(this.labelOf(lane), 6, middle, GUTTER - 16, isHead ? painter.faint : painter.ink);
+    if (lane.kind === "task") painter.bands(lane.task, GUTTER - 8, this.y(lane) + 2, 6, 16);
     if (lane.kind === "core") painter.text("  moves", 6, middle + 19, GUTTER - 10, painter.faint);
+  }
+
+  // What stands beside a lane: whether it is folded, its sign, its name.
+  labelOf({ kind, label, group, task }) {
+    if (kind === "head") return `${this.arrangement.folded.has(group) ? "+" : "-"} ${label}`;
+    return kind === "task" ? `${signOf(task)} ${label}` : label;
   }
 
   drawRuler() {
@@ -333,7 +444,7 @@ class Timeline {
     const wide = (String(this.run.last).length + 2) * this.painter.letter;
     let step = 1;
     for (let at = 0; step * this.scale < wide; at++) step *= at % 3 === 1 ? 2.5 : 2;
-    const last = Math.min(this.run.last, this.left + this.span);
+    const last = Math.min(this.lastPlace, this.left + this.span);
     for (let place = Math.ceil(this.left / step) * step; place <= last; place += step) {
       const x = this.x(place);
       if (place < this.run.first || x < GUTTER) continue;
@@ -384,9 +495,11 @@ class Timeline {
   // What is seen, for those who don't see it.
   describe() {
     const first = Math.max(this.run.first, Math.ceil(this.left));
-    const last = Math.min(this.run.last, Math.floor(this.left + this.span));
+    const last = Math.min(this.lastPlace, Math.floor(this.left + this.span));
     const words = `places ${first} to ${last} of ${this.run.first} to ${this.run.last}`;
+    const pinned = this.lanes.filter((it) => it.isPinned && it.kind !== "waiting");
+    const names = pinned.length ? `; pinned: ${pinned.map(({ key }) => key).join(", ")}` : "";
     const lost = this.lost === null ? "" : `; lost at ${this.lost}`;
-    this.canvas.setAttribute("aria-label", `Lanes: ${words}, at ${this.place}${lost}`);
+    this.canvas.setAttribute("aria-label", `Lanes: ${words}, at ${this.place}${lost}${names}`);
   }
 }

@@ -13,7 +13,9 @@ const MOVING_KEYS = [
   ["/", "search; Enter finds the next, Escape leaves it"],
   ["n and N", "the next that was found, the one before"],
   ["g", "go to a place by its number"],
-  ["+ and -, 0", "fewer moves, more, all"],
+  ["+ and -, 0", "fewer moves, more, all; so does the wheel over the ruler, or with Ctrl"],
+  ["p, v", "pins the lane that is chosen, or lets it go; pins what this move was of, whom it woke too"],
+  ["o, y", "chooses a lane; leaves out all but some"],
   ["Up, Down", "scrolls lanes or state, where the focus is (Tab)"],
 ];
 
@@ -54,7 +56,9 @@ class Viewer {
     this.timeline = timeline;
     this.search = new Search(run);
     this.script = new ScriptPanel(run, () => this.again());
+    this.lanePanel = new LanePanel(timeline, () => this.again());
     this.panels = [new StatePanel(run), new MovesPanel(run, (at) => this.go(at)), this.script];
+    this.panels.push(this.lanePanel);
     this.isDue = false;
   }
 
@@ -88,14 +92,18 @@ class Viewer {
     byId("about").textContent = counts.join(", ");
     for (const it of [byId("slider"), byId("place")]) {
       it.min = run.first;
-      it.max = run.last;
+      it.max = this.last;
     }
+  }
+
+  // The last place to which one can go.
+  get last() {
+    return this.run.last;
   }
 
   // Goes to a place, the nearest that there is.
   go(place) {
-    const { first, last } = this.run;
-    this.place = Math.max(first, Math.min(last, Math.round(place)));
+    this.place = Math.max(this.run.first, Math.min(this.last, Math.round(place)));
     this.timeline.follow(this.place);
     this.again();
   }
@@ -113,10 +121,10 @@ class Viewer {
   show() {
     const { run, place } = this;
     this.timeline.draw();
-    for (const panel of this.panels) panel.show(place);
+    for (const panel of this.panels) panel.show(Math.min(place, run.last));
     byId("readout").textContent = this.readout(place);
     byId("slider").value = place;
-    byId("slider").setAttribute("aria-valuetext", `place ${place} of ${run.last}`);
+    byId("slider").setAttribute("aria-valuetext", `place ${place} of ${this.last}`);
     if (document.activeElement !== byId("place")) byId("place").value = place;
     byId("found").textContent = this.search.said(place);
   }
@@ -143,6 +151,9 @@ class Viewer {
   get hands() {
     return this.timeline.hand.marks.map(({ place }) => place);
   }
+
+  // Marks a range, where a page has one.
+  mark() {}
 
   // Marks the move that lost a goal, none where it is null, and says what there is to say of it.
   setLost(place, words) {
@@ -200,7 +211,7 @@ class Viewer {
       PageUp: () => this.go(this.place - seen()),
       PageDown: () => this.go(this.place + seen()),
       Home: () => this.go(run.first),
-      End: () => this.go(run.last),
+      End: () => this.go(this.last),
       "[": () => this.before(timeline.ticks),
       "]": () => this.next(timeline.ticks),
       w: () => this.next(timeline.wakingPlaces),
@@ -216,6 +227,10 @@ class Viewer {
       "=": () => this.zoom(timeline.scale * 1.5),
       "-": () => this.zoom(timeline.scale / 1.5),
       0: () => this.zoom(timeline.whole()),
+      p: () => this.lanePanel.pin(byId("lane").value),
+      v: () => this.lanePanel.pinMoved(run, run.move(this.place)),
+      o: () => byId("lane").focus(),
+      y: () => byId("lane-filter").select(),
       t: () => this.changeTheme(),
       "?": () => byId("help").showModal(),
     };
@@ -268,17 +283,7 @@ class Viewer {
   listenToLanes() {
     const { timeline, lanes } = this;
     lanes.addEventListener("scroll", () => this.again());
-    byId("canvas").addEventListener("click", ({ offsetX }) => {
-      if (offsetX > GUTTER) this.go(timeline.placeAt(offsetX));
-    });
-    const wheel = (event) => {
-      const sideways = event.deltaX || (event.shiftKey ? event.deltaY : 0);
-      if (!sideways) return;
-      event.preventDefault();
-      timeline.pan(sideways / timeline.scale);
-      this.again();
-    };
-    lanes.addEventListener("wheel", wheel, { passive: false });
+    this.dragging = new Dragging(this, byId("canvas"), lanes);
     new ResizeObserver(() => {
       timeline.fit();
       this.again();

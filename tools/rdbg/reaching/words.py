@@ -7,13 +7,13 @@ from rdbg.digits import is_digits, seconds
 from rdbg.failure import Failure
 from rdbg.reaching.handlers import OPTION, Handler
 
-OUTPUT, WITHIN, SURPRISES = "-o", "--within", "--surprises"
+OUTPUT, WITHIN, SURPRISES, PAGE = "-o", "--within", "--surprises", "--page"
 # A const of a text in lines; it may stand more than once.
 DEFINE = "-D"
 # Has the program say how far it is, which it always does here.
 PROGRESS = "--progress"
 # What stands behind each of these, which the program doesn't know.
-OWN = {OUTPUT: "OUT", WITHIN: "SECONDS"}
+OWN = {OUTPUT: "OUT", WITHIN: "SECONDS", PAGE: "OUT.html"}
 # Options of the program behind which a value stands.
 VALUED = {
     *"--from --moves --pace --isr --times --after --apart --states --memory --part".split(),
@@ -30,15 +30,21 @@ class Words(NamedTuple):
     output: Optional[str]
     seconds: Optional[float]
     consts: Tuple[str, ...] = ()
+    page: Optional[str] = None
 
-    def surprises(self) -> Optional[int]:
-        """How many surprises an order has at the most, if that was asked."""
+    def value(self, wanted: str) -> Optional[str]:
+        """The value of an option of the program, the last where it stands more than once."""
         words = [*takewhile(NO_MORE.__ne__, self.program)]
         asked = None
         for word, following in zip(words, [*words[1:], ""]):
             option, has_value, value = word.partition("=")
-            if option == SURPRISES:
+            if option == wanted:
                 asked = value if has_value else following
+        return asked
+
+    def surprises(self) -> Optional[int]:
+        """How many surprises an order has at the most, if that was asked."""
+        asked = self.value(SURPRISES)
         return int(asked) if asked and is_digits(asked) else None
 
     def plain(self) -> List[int]:
@@ -108,7 +114,7 @@ def own(word: str) -> Tuple[str, Optional[str]]:
         value = word[len(OUTPUT) :]
         return OUTPUT, (value[1:] if value.startswith("=") else value) or None
     option, has_value, value = word.partition("=")
-    return (WITHIN, value if has_value else None) if option == WITHIN else ("", None)
+    return (option, value if has_value else None) if option in (WITHIN, PAGE) else ("", None)
 
 
 def read(words: Sequence[str]) -> Words:
@@ -135,7 +141,8 @@ def read(words: Sequence[str]) -> Words:
             raise Failure(f"{option} lacks its {OWN[option]}", 2)
         found[option] = left.pop(0) if value is None else value
     seconds_given = limit(found.get(WITHIN))
-    return Words(program + left, found.get(OUTPUT), seconds_given, tuple(consts))
+    outputs = found.get(OUTPUT), seconds_given, tuple(consts), found.get(PAGE)
+    return Words(program + left, *outputs)
 
 
 def limit(text: Optional[str]) -> Optional[float]:

@@ -9,6 +9,8 @@ import time
 from typing import Callable, Dict, Iterable, Iterator, List, Optional, Sequence, Tuple
 
 from rdbg import commands, record
+from rdbg.digits import is_digits
+from rdbg.application import Application
 from rdbg.wording import shown
 from rdbg.effects import Move
 from rdbg.failure import Failure, trying
@@ -23,10 +25,13 @@ from rdbg.replies import Refused
 from rdbg.driving.opening import attach, builtin
 from rdbg.driving.target import Limits, Unable
 from rdbg.files.source import Source, standard_input
+from rdbg.tracing.asking import ask
 from rdbg.tracing.events import Events
-from rdbg.tracing.losing import Lost, lost_in
+from rdbg.tracing.losing import lost_in
 from rdbg.tracing.page import ways
+from rdbg.tracing.page.asked import Asked
 from rdbg.tracing.page.document import page
+from rdbg.tracing.page.report import Opening, Report, Text
 from rdbg.driving.parts import AT_A_PORT, Part, Trim, part_at
 from rdbg.tracing.run import Line, Plan, Run, parts, plan
 from rdbg.tracing.table import Row, Table, rows
@@ -48,12 +53,12 @@ def lines_in(text: str) -> Tuple[Line, ...]:
     return tuple(Line(at, it.strip()) for at, it in whole if it.strip() and it.strip()[0] != "#")
 
 
-def commands_of(path: Optional[str]) -> Tuple[Line, ...]:
-    """The lines of a file, or of standard input."""
+def text_of(path: Optional[str]) -> Text:
+    """The text of a file, or of standard input."""
     if path is None or path == STANDARD_INPUT:
-        return lines_in(standard_input().decode("utf-8", "replace"))
+        return Text("", standard_input().decode("utf-8", "replace"))
     with trying(f"read {path}"), open(path, encoding="utf-8", errors="replace") as file:
-        return lines_in(file.read())
+        return Text(path, file.read())
 
 
 def tell_refused(found: Plan, name: str) -> None:
@@ -91,13 +96,18 @@ def write_page(
     path: str,
     recorder: Recorder,
     way: Way,
-    lost: Optional[Lost] = None,
+    report: Report,
+    other: Optional[Dict[str, object]] = None,
 ) -> None:
-    """Writes the page of all parts, of which there is one at the least."""
+    """Writes the page of all parts, of which there is one at the least, and of another run."""
+    opening = Opening(report)
     with written(path) as file:
         for part in found:
+            opening.see(part)
             recorder.add(part)
-        file.write(page(recorder.values(trims), way(recorder), lost.values() if lost else None))
+        assert recorder.first is not None
+        at = opening.place(recorder.first, recorder.last)
+        file.write(page(recorder.values(trims), way(recorder), report, at, other))
 
 
 def wanted(only: Optional[str], names: Names, cores: int) -> Optional[List[str]]:
@@ -133,45 +143,88 @@ def moves_in(found: Iterable[Part], goal: Optional[Goal]) -> Iterator[Move]:
                 yield move
 
 
-def goal_of(when: Optional[str], scope: Scope) -> Optional[Goal]:
-    """The goal that is to hold, if one is. Raises `Failure` where words are none."""
+def goal_of(option: str, words: Optional[str], scope: Scope) -> Optional[Goal]:
+    """The goal that an option is given, if it is. Raises `Failure` where words are none."""
     try:
-        return None if when is None else read(when.split(), scope)
+        return None if words is None else read(words.split(), scope)
     except NoGoal as wrong:
-        raise Failure(f"--when: {wrong}", 2) from None
+        raise Failure(f"{option}: {wrong}", 2) from None
 
 
-def page_of(source: Source, told: Sequence[str], path: str) -> None:
-    """Writes the page of a run that these lines make, of an application that has no faults."""
+def report_of(given: argparse.Namespace, scope: Scope) -> Report:
+    """What the words of the command line say beside the run."""
+    note = "" if given.note is None else text_of(given.note).text
+    at = given.at
+    place = int(at) if at is not None and is_digits(at) else goal_of("--at", at, scope)
+    return Report(title=given.title or "", note=note, at=place)
+
+
+def page_of(source: Source, told: Sequence[str], path: str, asked: Callable[[int], Asked]) -> None:
+    """Writes the page of a run that these lines make, of an application that has no faults, as the
+    answer to a question, which is told how many moves it has."""
     assert source.application is not None
     lines = tuple(Line(at, text) for at, text in enumerate(told, 1))
     run = Run(source, lines, Limits(Limits.moves, commands.MOST_COUNT))
     whole = plan(run)
-    seen = parts(run, whole.pieces, 1) if whole.pieces else [Part(whole.end, (), ())]
+    seen = parts(run, whole.pieces, processors()) if whole.pieces else [end_of(whole)]
     way = ways.of_run(source, whole.told, None, whole.base)
-    write_page(seen, whole.trims, path, Recorder(source.application), lambda _: way)
+    text = Text("", "".join(f"{line}\n" for line in told))
+    report = Report(asked=asked(whole.done), source=source, lines=text)
+    write_page(seen, whole.trims, path, Recorder(source.application), lambda _: way, report)
+
+
+def processors() -> int:
+    """How many processors there are for this process."""
+    return len(os.sched_getaffinity(0))
+
+
+def other_run(
+    given: argparse.Namespace, run: Run, text: Text, application: Application
+) -> Dict[str, object]:
+    """The run that these lines make beside another one, as a page has it."""
+    other = dataclasses.replace(run, lines=lines_in(text.text))
+    whole = plan(other)
+    tell_refused(whole, text.name)
+    found = whole.within(given.first or 1, given.last)
+    recorder = Recorder(application)
+    for part in parts(other, found.pieces, processors()) if found.pieces else [end_of(whole)]:
+        recorder.add(part)
+    return {"name": os.path.basename(text.name), "run": recorder.values(found.trims)}
+
+
+def end_of(whole: Plan) -> Part:
+    """The end of a run of which no moves are looked at."""
+    return Part(whole.end, (), ())
 
 
 def trace_run(given: argparse.Namespace, source: Optional[Source]) -> None:
     """Traces commands that are told to programs of their own."""
     application = (source and source.application) or builtin()
     names = wanted(given.only, Names.of(application), application.cores)
-    goal = goal_of(given.when, Scope.of(source, application))
-    lines = commands_of(given.commands)
+    scope = Scope.of(source, application)
+    goal = goal_of("--when", given.when, scope)
+    report = report_of(given, scope)
+    text = text_of(given.commands)
+    lines = lines_in(text.text)
     run = Run(source, lines, Limits(given.moves or Limits.moves, commands.MOST_COUNT))
     whole = plan(run)
     tell_refused(whole, given.commands or STANDARD_INPUT)
     found = whole.within(given.first or 1, given.last)
     lost = None if given.lost is None else lost_in(source, whole.told, given.lost)
-    workers = len(os.sched_getaffinity(0))
-    seen = with_progress(parts(run, found.pieces, workers), found.count())
+    seen = with_progress(parts(run, found.pieces, processors()), found.count())
     if given.events:
         write_events(seen, found.trims, given.events)
         return
     if given.page:
         way = ways.of_run(source, whole.told, given.moves, whole.base)
-        shown = seen if found.pieces else [Part(whole.end, (), ())]
-        write_page(shown, found.trims, given.page, Recorder(application), lambda _: way, lost)
+        seen = seen if found.pieces else iter([end_of(whole)])
+        asked = ask(given.ask, source, whole.told)
+        beside = None if given.against is None else text_of(given.against)
+        other = other_run(given, run, beside, application) if beside else None
+        report = dataclasses.replace(report, asked=asked, source=source, lines=text, other=beside)
+        report = dataclasses.replace(report, lost=lost.values() if lost else None)
+        recorder = Recorder(application)
+        write_page(seen, found.trims, given.page, recorder, lambda _: way, report, other)
         return
     told = [it.text for it in lines]
     table = Table.of(application, whole.done, whole.end.cores.tick, told)
@@ -187,6 +240,7 @@ def trace_port(given: argparse.Namespace, source: Optional[Source]) -> None:
     with target.session:
         part, first = part_at(target, given.first, given.last)
         done = target.place
+    scope = dataclasses.replace(Scope.of(source), names=target.names)
     if given.first is None and part.before.place >= first:
         print(f"rdbg trace: the last {AT_A_PORT} moves; --from N looks at more", file=sys.stderr)
     if given.events:
@@ -195,10 +249,10 @@ def trace_port(given: argparse.Namespace, source: Optional[Source]) -> None:
     if given.page:
         recorder = Recorder(source.application if source else None)
         way = functools.partial(ways.of_port, source, given.port, done)
-        write_page([part], (), given.page, recorder, way)
+        report = dataclasses.replace(report_of(given, scope), source=source, port=given.port)
+        write_page([part], (), given.page, recorder, way, report)
         return
-    scope = dataclasses.replace(Scope.of(source), names=target.names)
-    found = list(rows(moves_in([part], goal_of(given.when, scope))))
+    found = list(rows(moves_in([part], goal_of("--when", given.when, scope))))
     names = wanted(given.only, target.names, len(part.before.cores.running))
     print_rows(found, Table.wide_enough(row.cells[:6] for row in found), names)
 

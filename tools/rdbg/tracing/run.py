@@ -18,8 +18,9 @@ from rdbg.driving.walk import LEAST_PIECE
 from rdbg.files.source import Source
 from rdbg.workers import side_by_side
 
-# So many moves are looked at by one program at the most.
-MOST_MOVES = 4_096
+# So many moves are looked at by one program at the most: so few, that others have as many, and that
+# what one has seen is taken while it looks at the next.
+MOST_MOVES = 2_048
 
 
 @dataclasses.dataclass(frozen=True)

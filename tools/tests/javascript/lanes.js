@@ -11,6 +11,7 @@ const run = new Run(valuesOf(SENT));
 test("a lane for each thing, from top to bottom", () => {
   const found = lanesOf(run).map(({ kind, label }) => [kind, label]);
   assert.deepEqual(found, [
+    ["flags", "marks"],
     ["head", "cores"],
     ["core", "core 0"],
     ["hand", "by hand"],

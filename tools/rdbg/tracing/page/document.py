@@ -4,24 +4,43 @@ import pathlib
 from typing import Mapping, Optional
 
 from rdbg.page.document import body_of, document, json_of
+from rdbg.tracing.page.report import Report
 
 HERE = pathlib.Path(__file__).resolve().parent
-SCRIPTS = (HERE / "ways.js", HERE / "run_page.js")
+SCRIPTS = tuple(
+    HERE / f"{name}.js"
+    for name in (
+        "ways",
+        "counts",
+        "summary",
+        "report",
+        "links",
+        "marks",
+        "beside",
+        "printed",
+        "run_page",
+    )
+)
+STYLES = (HERE / "report.css",)
 LINK = '<a id="link" href="#">link to this place</a>'
 
 
 def title_of(run: Mapping[str, object], way: Mapping[str, object]) -> str:
-    """What the page is called."""
+    """What the page is called where nobody says it."""
     return f"{way['file'] or 'rdbg'}: places {run['first']} to {run['last']}"
 
 
 def page(
     run: Mapping[str, object],
     way: Mapping[str, object],
-    lost: Optional[Mapping[str, object]] = None,
+    report: Report = Report(),
+    at: Optional[int] = None,
+    other: Optional[Mapping[str, object]] = None,
 ) -> str:
-    """The whole page of a run's values, of what leads to its places, and of where a goal was lost, if
-    that was asked."""
+    """The whole page of a run's values, of what leads to its places, and of what is said beside it;
+    it opens at a place, or at the first. Another run stands below it where one is given."""
     title = title_of(run, way)
-    values = json_of({"title": title, "way": way, "run": run, "lost": lost})
-    return document(title, body_of(HERE / "run.html", {"run": values}, LINK), SCRIPTS)
+    values = {"title": title, "way": way, "run": run, "report": report.values(at), "other": other}
+    parts = {"run": json_of(values), "note": report.note_as_html()}
+    body = body_of(HERE / "run.html", parts, LINK)
+    return document(report.title or title, body, SCRIPTS, STYLES)

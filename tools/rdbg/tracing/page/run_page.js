@@ -1,52 +1,125 @@
-// The page of a run: it has all of it, says what to type to come to a place, and its address can
-// name one.
+// The page of a run: it has all of it, says what to type to come to a place, and its address names
+// what is marked.
 
 const QUIET = 150;
 
 class RunPage extends Viewer {
-  constructor({ title, way, run, lost }) {
+  constructor({ title, way, run, report, other }) {
     const shown = new Run(run);
     super(shown, new Timeline(shown, byId("canvas"), byId("lanes"), byId("scrolled")));
+    const go = (place) => this.go(place);
     this.way = new WayPanel(shown, way);
-    this.panels.push(this.way);
-    document.title = title;
-    byId("title").textContent = title;
+    this.report = new ReportPanel(shown, report, go);
+    this.summary = new SummaryPanel(shown, go);
+    this.bookmarks = new BookmarkPanel(go, () => this.changeMarks());
+    this.range = new RangePanel(shown, () => this.changeRange());
+    this.beside = other ? new BesidePanel(this, other, report.lines?.name) : null;
+    this.printed = new Printed(this);
+    this.panels.push(this.way, this.bookmarks, this.range);
+    if (this.beside) this.panels.push(this.beside);
+    document.title = report.title || title;
+    byId("title").textContent = report.title || title;
     this.begin();
-    byId("link").addEventListener("click", () => this.keepLink());
-    window.addEventListener("hashchange", () => {
-      const place = this.placeOfLink();
-      if (place !== null && place !== this.place) this.go(place);
-    });
-    if (lost) this.setLost(lost.place, lost.words);
-    this.go(this.placeOfLink() ?? shown.first);
+    if (report.title) byId("about").textContent = `${title}; ${byId("about").textContent}`;
+    if (report.lost) this.setLost(report.lost.place, report.lost.words);
+    this.takeLink(report.at ?? shown.first);
   }
 
   get moreKeys() {
-    return [["c", "copies the lines to type"]];
+    return [
+      ["c", "copies the lines to type"],
+      ["m", "begins a range at this place, ends it, drops it; so does a drag with Shift, or over the ruler"],
+      ["z", "shows the range in all the room there is"],
+      ["b", "a bookmark at this place, with a word"],
+      ["j and J", "the next bookmark, the one before"],
+      ["d", "where two runs first differ"],
+    ];
+  }
+
+  get last() {
+    return Math.max(this.run.last, this.beside ? this.beside.other.last : this.run.last);
   }
 
   keys() {
-    return { ...super.keys(), c: () => this.way.copy() };
+    return {
+      ...super.keys(),
+      c: () => this.way.copy(),
+      m: () => this.range.turn(),
+      z: () => this.zoomToRange(),
+      b: () => byId("bookmark-word").select(),
+      j: () => this.next(this.bookmarks.places),
+      J: () => this.before(this.bookmarks.places),
+      d: () => this.go(this.beside?.place ?? this.place),
+    };
+  }
+
+  listen() {
+    super.listen();
+    byId("link").addEventListener("click", () => this.keepLink());
+    byId("range-zoom").addEventListener("click", () => this.zoomToRange());
+    window.addEventListener("hashchange", () => {
+      if (location.hash !== this.link) this.takeLink(this.place);
+    });
+  }
+
+  mark(from, to) {
+    this.range.set(from, to);
+  }
+
+  zoomToRange() {
+    if (!this.timeline.range) return;
+    this.timeline.zoomInto(...this.timeline.range);
+    this.again();
+  }
+
+  changeMarks() {
+    const found = this.beside ? this.beside.flags : [];
+    const flags = [...this.report.flags, ...found, ...this.bookmarks.flags];
+    this.timeline.setFlags(flags.sort((one, other) => one.place - other.place));
+    this.again();
+  }
+
+  changeRange() {
+    const { range } = this.range;
+    this.timeline.range = range;
+    this.summary.setPart(...(range ?? [this.run.first, this.run.last]));
+    this.again();
+  }
+
+  readout(place) {
+    if (place > this.run.last) return `${place}: this run has ended at ${this.run.last}`;
+    return super.readout(place) + this.report.said(place);
   }
 
   show() {
     super.show();
-    byId("link").href = `#${this.place}`;
+    byId("link").href = this.link;
     clearTimeout(this.quiet);
     this.quiet = setTimeout(() => this.keepLink(), QUIET);
   }
 
-  // The place that the address names; none where it names none.
-  placeOfLink() {
-    const found = /^#(\d{1,9})$/.exec(location.hash);
-    return found ? Number(found[1]) : null;
+  // What the address names, of this run; it leaves what it doesn't name as it is.
+  takeLink(otherwise) {
+    const { place, bookmarks, range, pinned } = readLink(location.hash);
+    const isThere = (it) => it.place >= this.run.first && it.place <= this.run.last;
+    this.bookmarks.place = this.range.place = place ?? otherwise;
+    if (pinned.length) this.timeline.arrangement.pinned = pinned;
+    this.bookmarks.set(bookmarks.length ? bookmarks.filter(isThere) : this.bookmarks.list);
+    if (range) this.range.set(...range);
+    this.go(place ?? otherwise);
   }
 
-  // The address names the place, once one stays there for a moment.
+  get link() {
+    const { pinned } = this.timeline.arrangement;
+    const { range } = this.range;
+    return linkOf({ place: this.place, bookmarks: this.bookmarks.list, range, pinned });
+  }
+
+  // The address names what is shown, once that stays for a moment.
   keepLink() {
-    if (this.placeOfLink() === this.place) return;
+    if (location.hash === this.link) return;
     try {
-      history.replaceState(null, "", `#${this.place}`);
+      history.replaceState(null, "", this.link);
     } catch (error) {
       // (a page that is shown within another one may have no address of its own)
     }

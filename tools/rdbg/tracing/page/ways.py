@@ -29,12 +29,20 @@ def file_of(source: Optional[Source]) -> str:
     return path.name if path.is_absolute() else source.path
 
 
+def words_of(source: Optional[Source]) -> List[str]:
+    """The words of a command line that name the application, with the consts that were given."""
+    if source is None:
+        return []
+    consts = [f"-D{name}={number}" for name, number in source.given.items()]
+    return [shlex.quote(file_of(source)), *consts]
+
+
 def of_run(
     source: Optional[Source], told: Sequence[Told], moves: Optional[int], base: int
 ) -> Dict[str, object]:
     """The way to the places of a run; `base` is the first to which `back` leads from its end."""
     name = file_of(source)
-    words = [shlex.quote(name)] if source else []
+    words = words_of(source)
     more = ["--moves", str(moves)] if moves else []
     prompt = " ".join(["./rdbg", "sh", *words, *more])
     program = " ".join(["./rdbg", "run", *(["--app", *words] if words else []), *more])
@@ -50,7 +58,7 @@ def of_port(
     """The way to the places of the moves at a server, where so many are done: there, and by each
     move from boot where all of them are known."""
     name = file_of(source)
-    words = [shlex.quote(name)] if source else []
+    words = words_of(source)
     prompt = " ".join(["./rdbg", "sh", *words])
     server = " ".join(["./rdbg", "sh", "--port", str(port), *words])
     is_known = recorder.first == 0 and all(recorder.lines) and source is not None

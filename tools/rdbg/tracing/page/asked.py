@@ -1,0 +1,98 @@
+"""The question that a page answers: how it was asked, what was answered, in words, and where that is
+seen in the run."""
+import dataclasses
+import re
+from typing import Dict, Optional, Sequence, Tuple
+
+from rdbg.reaching.asking import DOOMED, LOST, Question
+from rdbg.reaching.said import Answer, Kind
+
+LOST_AT = re.compile(r"lost at (\d+)", re.ASCII)
+
+
+@dataclasses.dataclass(frozen=True)
+class Asked:
+    """A question with its answer: the words of a command line, sentences, the place at which a page
+    opens for it, the first place from which the goal can't come any more, and an order that leads
+    to where the answer is seen."""
+
+    words: str
+    said: Tuple[str, ...]
+    at: Optional[int] = None
+    lost: Optional[int] = None
+    order: Tuple[str, ...] = ()
+
+    def values(self) -> Dict[str, object]:
+        """What the page has of it."""
+        return dataclasses.asdict(self)
+
+
+def lost_in(answer: Answer) -> Optional[int]:
+    """The place at which a run lost a goal, if it did."""
+    found = LOST_AT.fullmatch(answer.title)
+    return int(found[1]) if found else None
+
+
+def untold(answer: Answer) -> str:
+    """What is said where it can't be told."""
+    why = f": {answer.why}" if answer.why else ""
+    return f"That can't be told: {answer.head()}{why}."
+
+
+def of_loss(answer: Answer) -> str:
+    """What is said of a goal that a run may have lost."""
+    lost = lost_in(answer)
+    if answer.kind is Kind.UNTOLD:
+        return untold(answer)
+    if lost is None:
+        return "Still: from the last place of the run an order leads there."
+    if not answer.order:
+        return f"From no place of the run an order, of whatever length, leads there: {lost} is its first."
+    return (
+        f"Lost at {lost}: from place {lost} on no order, of whatever length, leads there;"
+        f" from place {lost - 1} one does."
+    )
+
+
+def of_doom(answer: Answer, shown: str) -> str:
+    """What is said of whether a goal can be lost."""
+    if answer.kind is Kind.UNTOLD:
+        return untold(answer)
+    if answer.kind is Kind.REACHED:
+        return (
+            f"Found: {shown} leads to a place from which no order, of whatever length, leads there."
+        )
+    more = f" ({answer.why})" if answer.why else ""
+    return f"Never: from every place that an order leads to, one leads there{more}."
+
+
+def of_reach(answer: Answer, place: int, shown: str) -> str:
+    """What is said of whether an order leads to a goal from a place."""
+    where = f"from place {place}" if place else "from boot"
+    if answer.kind is Kind.UNTOLD:
+        return untold(answer)
+    if answer.kind is Kind.REACHED:
+        return f"Found: {shown} leads there."
+    if answer.head() == "never":
+        return f"Never: {where} no order, of whatever length, leads there."
+    return f"{answer.head().capitalize()}: {where} no order within that leads there."
+
+
+def asked(
+    question: Question, goal: str, answer: Answer, place: int, order: Sequence[str] = ()
+) -> Asked:
+    """A question about a goal, asked at a place, or of the run up to there, with what was answered.
+    The order of the answer is shown where it isn't the run of the page, which leads to the place.
+    """
+    lost = lost_in(answer) if question is LOST else None
+    shown = (
+        f"an order from place {place}" if order else f"the order of this page, to place {place},"
+    )
+    if question is LOST:
+        said = of_loss(answer)
+    elif question is DOOMED:
+        said = of_doom(answer, shown)
+    else:
+        said = of_reach(answer, place, shown)
+    at = lost if question is LOST else place
+    return Asked(f"{question.word} {goal}", (said,), at, lost, tuple(order))

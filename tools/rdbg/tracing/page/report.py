@@ -1,0 +1,108 @@
+"""What a page says beside its run: who made it of what, and where it opens."""
+import dataclasses
+import pathlib
+import time
+from typing import Dict, Optional, Union
+
+from rdbg.driving.parts import Part
+from rdbg.failure import Failure
+from rdbg.files.source import Source
+from rdbg.goals.claims import Goal
+from rdbg.looks import Look
+from rdbg.tracing.page.asked import Asked
+from rdbg.tracing.page.note import as_html
+from rdbg.tracing.page.ways import file_of
+from rdbg.version import version
+
+DAY = "%Y-%m-%d"
+
+
+@dataclasses.dataclass(frozen=True)
+class Text:
+    """A text that a page has, with the name of its file."""
+
+    name: str
+    text: str
+
+
+@dataclasses.dataclass(frozen=True)
+class Report:
+    """What is said beside a run: a title and a note in Markdown by whoever makes the page, the place
+    at which it opens, by number or as the first where a goal holds, the question that it answers,
+    the application, the lines, those of another run beside it, where `--lost` found that a goal was
+    lost, and the port at which it was done."""
+
+    title: str = ""
+    note: str = ""
+    at: Union[None, int, Goal] = None
+    asked: Optional[Asked] = None
+    source: Optional[Source] = None
+    lines: Optional[Text] = None
+    other: Optional[Text] = None
+    lost: Optional[Dict[str, object]] = None
+    port: Optional[int] = None
+
+    def note_as_html(self) -> str:
+        """The note as a part of the page."""
+        return as_html(self.note)
+
+    def values(self, at: Optional[int]) -> Dict[str, object]:
+        """What the page has of it, where it opens at a place."""
+        source = self.source
+        application = named(Text(file_of(source), source.text)) if source else None
+        consts = [f"{name}={number}" for name, number in source.given.items()] if source else []
+        return {
+            "title": self.title,
+            "day": time.strftime(DAY),
+            "made": version(self.port is not None),
+            "at": at,
+            "asked": self.asked.values() if self.asked else None,
+            "application": application,
+            "consts": consts,
+            "lines": named(self.lines, "run.commands") if self.lines else None,
+            "lost": self.lost,
+            "other": named(self.other) if self.other else None,
+        }
+
+
+def named(it: Text, otherwise: str = "") -> Dict[str, str]:
+    """A text as values, with the name that a file of it can have."""
+    return {"name": pathlib.PurePath(it.name).name or otherwise, "text": it.text}
+
+
+class Opening:
+    """Finds the place at which a page opens, as the parts of its run are taken."""
+
+    def __init__(self, report: Report) -> None:
+        self._at = report.at
+        self._asked = report.asked
+        self._found: Optional[int] = None
+        self._is_first = True
+
+    def see(self, part: Part) -> None:
+        """Looks at a part."""
+        if self._is_first:
+            self._look(part.before)
+            self._is_first = False
+        for look in part.looks:
+            self._look(look)
+
+    def _look(self, look: Look) -> None:
+        if self._found is None and isinstance(self._at, Goal) and self._at.is_so(look):
+            self._found = look.place
+
+    def place(self, first: int, last: int) -> Optional[int]:
+        """The place, of a page of these places; none where nothing says one. Raises `Failure` where
+        the page hasn't it."""
+        if isinstance(self._at, Goal):
+            if self._found is None:
+                raise Failure(
+                    f"--at: {self._at.text} is so at none of the places {first} to {last}", 2
+                )
+            return self._found
+        if self._at is not None:
+            if not first <= self._at <= last:
+                raise Failure(f"--at {self._at}: the page has the places {first} to {last}", 2)
+            return self._at
+        found = self._asked.at if self._asked else None
+        return None if found is None else max(first, min(found, last))
