@@ -45,11 +45,11 @@ def entries() -> "List[Entry]":
     return [Entry(name, summary(name)) for name in names()]
 
 
-def manual(is_page: bool) -> str:
-    """The help, or the page rdbg(1)."""
+def manual(is_page: bool, version: str = "") -> str:
+    """The help, or the page rdbg(1) of a version."""
     from rdbg.manual import help_text, page
 
-    return page(entries()) if is_page else help_text(entries())
+    return page(entries(), version) if is_page else help_text(entries())
 
 
 def hint(words: Sequence[str]) -> int:
@@ -69,7 +69,7 @@ def run(words: Sequence[str]) -> int:
     """Does what the words ask for, and answers the exit status."""
     word = words[0] if words else ""
     if word in ("--help", "-h", "--manual"):
-        print(manual(word == "--manual"))
+        print(manual(word == "--manual", *words[1:2]))
     elif word == "--why" and words[1:]:
         return hint(words[1:])
     elif word == "--help-of" and words[1:]:

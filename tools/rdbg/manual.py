@@ -41,7 +41,10 @@ def synopsis(companions: Sequence[Entry]) -> Tuple[Entry, ...]:
         ),
         *(Entry(f"rdbg {it.words} ..", it.text) for it in companions),
         Entry("rdbg help WORD", "says more of run, serve or a companion"),
-        Entry("rdbg --version", "says the commit, the kit, and whether the program is proved"),
+        Entry(
+            "rdbg --version",
+            "says the version, the commit, the kit, and whether the program is proved",
+        ),
         Entry(
             "rdbg install PREFIX",
             "from a checkout: puts the programs, the companions and rdbg(1) below PREFIX",
@@ -143,9 +146,10 @@ def page_of(section: Section) -> str:
     return "\n".join(lines)
 
 
-def page(companions: Sequence[Entry]) -> str:
-    """The page rdbg(1), as roff."""
-    head = ['.TH RDBG 1 "" "rdbg" "User Commands"', ".SH NAME", f"rdbg \\- {ABOUT}"]
+def page(companions: Sequence[Entry], version: str = "") -> str:
+    """The page rdbg(1) of a version, as roff."""
+    source = f"rdbg {version}".strip()
+    head = [f'.TH RDBG 1 "" "{source}" "User Commands"', ".SH NAME", f"rdbg \\- {ABOUT}"]
     how: Callable[[Entry], str] = lambda entry: f"\\fB{roff(entry.words)}\\fR"
     ways = "\n.br\n".join(how(entry) for entry in synopsis(companions))
     return "\n".join([*head, ".SH SYNOPSIS", ways, *map(page_of, sections(companions))])

@@ -120,7 +120,9 @@ class Wrapper(unittest.TestCase):
             again = run(WRAPPER, "install", str(prefix))
             self.assertEqual(again.returncode, 0)
             version = run(prefix / "bin" / "rdbg", "--version").stdout
-            self.assertRegex(version, "^rdbg at commit .*; .*; .*proved.*\n$")
+            self.assertRegex(
+                version, "^rdbg [0-9.]+ at commit .*; .*\nrdbg is not .*proved; its SHA-256"
+            )
 
     def test_installed_pages(self) -> None:
         with tempfile.TemporaryDirectory() as folder:

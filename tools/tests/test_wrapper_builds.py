@@ -16,6 +16,17 @@ from tests.paths import EXAMPLES, TOP
 
 LOST = str(EXAMPLES / "lost_item.json")
 SOURCE = "fn main() {}\n"
+# What of the repository there is in the checkout as it is.
+LINKED = (
+    "tools",
+    "docs",
+    "examples",
+    "licences",
+    "LICENSE",
+    "README.md",
+    "CHANGELOG.md",
+    "VERSION",
+)
 # So many seconds does a busy machine have for what takes a moment.
 PATIENCE = 60.0
 # After so many seconds a file that was written counts as written long ago.
@@ -45,7 +56,7 @@ def make_checkout(top: pathlib.Path) -> None:
         (top / f"crates/{name}/src").mkdir(parents=True)
         (top / f"crates/{name}/src/main.rt").write_text(SOURCE)
     (top / "crates.txt").write_text("rdbg:\nrdreach:\n")
-    for name in ("tools", "docs", "examples", "README.md"):
+    for name in LINKED:
         (top / name).symlink_to(TOP / name)
     # (a script looks for the others where a link to it leads, so these are none)
     (top / "ci").mkdir()
@@ -274,9 +285,9 @@ class Install(Checkout):
         prefix = self.top.parent / "prefix"
         ran = self.run_it(*words, "install", str(prefix))
         self.assertEqual(ran.returncode, 0, ran.stderr)
-        version = (prefix / "lib/rdbg/version").read_text()
+        release = (prefix / "lib/rdbg/release").read_text().splitlines()
         said = ran.stdout.replace(str(prefix), "PREFIX")
-        self.assertTrue(version.strip().endswith(said.strip().rpartition("is ")[2]), version)
+        self.assertIn(f"# rdbg {said.strip().rpartition('is ')[2]}", release)
         self.assertEqual({it for it in self.called() if it != "version"}, set())
         return said
 

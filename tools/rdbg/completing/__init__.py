@@ -1,0 +1,1 @@
+"""What completes rdbg's words in a shell: one table of them, and a script of it for each shell."""

@@ -1,0 +1,154 @@
+"""The scripts that complete rdbg's words, made of the table of them."""
+import shlex
+from typing import Callable, Dict, List, Sequence
+
+from rdbg.completing.table import Option, Word, own
+
+NONE = "-"
+FILE = "FILE"
+BASH = """\
+# Completes the words of rdbg in bash; `rdbg completion bash` prints it.
+_rdbg_words() {{
+    echo {words}
+}}
+
+_rdbg_options() {{
+    case $1 in
+{options}
+    esac
+}}
+
+# What stands behind an option of a word: FILE, words, or - for what nobody can complete.
+_rdbg_behind() {{
+    case "$1 $2" in
+{values}
+    esac
+}}
+
+# What stands behind a word.
+_rdbg_placed() {{
+    case $1 in
+{placed}
+    esac
+}}
+
+_rdbg() {{
+    local begun=${{COMP_WORDS[COMP_CWORD]}} before=${{COMP_WORDS[COMP_CWORD - 1]}} at=1 word found
+    COMPREPLY=()
+    [ "${{COMP_WORDS[1]}}" != --unproved ] || at=2
+    if ((COMP_CWORD <= at)); then
+        mapfile -t COMPREPLY < <(compgen -W "$(_rdbg_words)" -- "$begun")
+        return
+    fi
+    word=${{COMP_WORDS[at]}}
+    found=$(_rdbg_behind "$word" "$before")
+    if [ -z "$found" ]; then
+        case $begun in -*) found=$(_rdbg_options "$word") ;; *) found=$(_rdbg_placed "$word") ;; esac
+    fi
+    case $found in
+        -) ;;
+        FILE)
+            compopt -o filenames 2> /dev/null
+            mapfile -t COMPREPLY < <(compgen -f -- "$begun")
+            ;;
+        *) mapfile -t COMPREPLY < <(compgen -W "$found" -- "$begun") ;;
+    esac
+}}
+
+complete -F _rdbg rdbg
+"""
+ZSH = """\
+#compdef rdbg
+# Completes the words of rdbg in zsh; `rdbg completion zsh` prints it.
+_rdbg() {{
+    local at=2
+    local -a known
+    [[ ${{words[2]}} != --unproved ]] || at=3
+    if (( CURRENT <= at )); then
+        known=(
+{words}
+        )
+        _describe 'word of rdbg' known
+        return
+    fi
+    words=("${{(@)words[at,-1]}}")
+    (( CURRENT -= at - 1 ))
+    case ${{words[1]}} in
+{cases}
+    esac
+}}
+
+if [[ ${{funcstack[1]-}} = _rdbg ]]; then
+    _rdbg "$@"
+else
+    compdef _rdbg rdbg
+fi
+"""
+
+
+def behind(is_file: bool, choices: Sequence[str]) -> str:
+    """What stands there, for bash."""
+    return FILE if is_file else " ".join(choices) or NONE
+
+
+def bash(words: Sequence[Word]) -> str:
+    """The script for bash."""
+    options, values, placed = [], [], []
+    for word in words:
+        names = " ".join(name for it in word.options for name in it.names)
+        options.append(f"        {word.name}) echo {shlex.quote(names)} ;;")
+        placed.append(
+            f"        {word.name}) echo {shlex.quote(behind(word.has_files, word.choices))} ;;"
+        )
+        for it in word.options:
+            if it.value:
+                which = " | ".join(shlex.quote(f"{word.name} {name}") for name in it.names)
+                said = shlex.quote(behind(it.is_file, it.choices))
+                values.append(f"        {which}) echo {said} ;;")
+    first = [it.name for it in words] + [name for it in own() for name in it.names]
+    return BASH.format(
+        words=shlex.quote(" ".join(first)),
+        options="\n".join(options),
+        values="\n".join(values),
+        placed="\n".join(placed),
+    )
+
+
+def told(text: str) -> str:
+    """A text inside of a specification of zsh's."""
+    for sign in "\\[]:":
+        text = text.replace(sign, f"\\{sign}")
+    return text
+
+
+def action(is_file: bool, choices: Sequence[str]) -> str:
+    """What stands there, for zsh."""
+    return "_files" if is_file else f"({' '.join(choices)})" if choices else " "
+
+
+def specifications(option: Option) -> List[str]:
+    """An option as zsh's `_arguments` has it, by each name."""
+    value = f":{told(option.value)}:{action(option.is_file, option.choices)}"
+    repeated = "*" if option.is_repeated else ""
+    return [
+        f"{repeated}{name}[{told(option.text)}]{value if option.value else ''}"
+        for name in option.names
+    ]
+
+
+def case_of(word: Word) -> str:
+    """The case of a word in the script for zsh."""
+    said = [text for it in word.options for text in specifications(it)]
+    said.append(f"*:word:{action(word.has_files, word.choices)}")
+    return f"        {word.name}) _arguments {' '.join(map(shlex.quote, said))} ;;"
+
+
+def zsh(words: Sequence[Word]) -> str:
+    """The script for zsh."""
+    first = [f"{it.name}:{told(it.text)}" for it in words]
+    first += [f"{name}:{told(it.text)}" for it in own() for name in it.names]
+    known = "\n".join(f"            {shlex.quote(it)}" for it in first)
+    return ZSH.format(words=known, cases="\n".join(map(case_of, words)))
+
+
+OF_SHELL: Dict[str, Callable[[Sequence[Word]], str]] = {"bash": bash, "zsh": zsh}

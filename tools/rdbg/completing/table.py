@@ -1,0 +1,108 @@
+"""The words that stand behind `rdbg`, with their options, gathered from where each is read."""
+import argparse
+import dataclasses
+import re
+from typing import Iterator, List, Optional, Tuple
+
+from rdbg import main, program_help
+
+# What is behind an option or a word: a file, or a folder.
+FILES = ("FILE", "OUT", "OUT.html", "OUT.json", "COMMANDS", "ANSWER", "FOLDER", "PREFIX", "IN")
+# An option as the help of a program has it, with its value.
+TOLD = re.compile(r"^ +(?:(-\w), )?(--?[\w-]+)(?: <?([\w.\-/=]+)>?)?  +(\S.*)$", re.MULTILINE)
+PLACED = re.compile(r"[<\[]?\b([A-Z]+)\b[>\]]?")
+SHELLS = ("bash", "zsh")
+
+
+@dataclasses.dataclass(frozen=True)
+class Option:
+    """An option by its names; what its value is called, empty where none stands behind it; what that
+    can be; and whether the option may stand more than once."""
+
+    names: Tuple[str, ...]
+    value: str
+    text: str
+    choices: Tuple[str, ...] = ()
+    is_repeated: bool = False
+
+    @property
+    def is_file(self) -> bool:
+        """Whether a file stands behind it."""
+        return self.value in FILES
+
+
+@dataclasses.dataclass(frozen=True)
+class Word:
+    """A word behind `rdbg`: what it is for, its options, and what may stand behind it: files, or
+    these words."""
+
+    name: str
+    text: str
+    options: Tuple[Option, ...] = ()
+    has_files: bool = False
+    choices: Tuple[str, ...] = ()
+
+
+def repeats(action: argparse.Action) -> bool:
+    """Whether an option may stand more than once."""
+    return isinstance(action.default, (list, dict))
+
+
+def option_of(action: argparse.Action) -> Option:
+    """An option of a command line that is read here."""
+    value = "" if action.nargs == 0 else str(action.metavar or action.dest.upper())
+    choices = tuple(map(str, action.choices or ()))
+    names = tuple(action.option_strings)
+    return Option(names, value, (action.help or "").replace("%%", "%"), choices, repeats(action))
+
+
+def of_parser(name: str, parser: argparse.ArgumentParser) -> Word:
+    """A companion, by the words that it reads."""
+    actions = parser._actions  # pylint: disable=protected-access
+    placed = [it for it in actions if not it.option_strings]
+    choices = tuple(str(word) for it in placed for word in it.choices or ())
+    has_files = any(it.metavar in FILES for it in placed)
+    options = tuple(option_of(it) for it in actions if it.option_strings)
+    return Word(name, main.summary(name), options, has_files, choices)
+
+
+def of_help(name: str, text: str) -> Word:
+    """A word of a program, by its help."""
+    options = []
+    for short, long, value, said in TOLD.findall(text):
+        if not long.startswith("-"):
+            continue
+        names = tuple(name for name in (short, long) if name)
+        options.append(Option(names, value, said, is_repeated=True))
+    usage = next(line for line in text.split("\n") if line.startswith("Usage:"))
+    usage = re.sub(r"--?[\w-]+ <?\w+>?", "", usage)
+    has_files = any(it in FILES for it in PLACED.findall(usage))
+    return Word(name, text.split("\n")[0], tuple(options), has_files)
+
+
+def companion(name: str) -> Optional[Word]:
+    """A companion, if it reads its words here."""
+    make = getattr(main.companion(name), "parser", None)
+    return None if make is None else of_parser(name, make())
+
+
+def words() -> List[Word]:
+    """All words, but options of the wrapper's own."""
+    found = [of_help(name, text) for name, text in program_help.OF.items()]
+    known = {it.name for it in found}
+    found += filter(None, (companion(name) for name in main.names() if name not in known))
+    names = tuple(sorted(it.name for it in found))
+    return sorted([*found, Word("help", "says more of a word", choices=names)], key=by_name)
+
+
+def by_name(word: Word) -> str:
+    """By what words are ordered."""
+    return word.name
+
+
+def own() -> Iterator[Option]:
+    """The wrapper's own options, in place of a word."""
+    yield Option(("--help",), "", "says which words there are")
+    yield Option(("--version",), "", "says what it is, and whether it is proved")
+    yield Option(("--unproved",), "", "of a checkout: with a program that is built without proof")
+    yield Option(("--build",), "", "says where the program is")

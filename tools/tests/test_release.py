@@ -1,0 +1,314 @@
+"""What `ci/release` makes: the same each time, and an rdbg that wants nothing of a checkout."""
+import gzip
+import hashlib
+import os
+import pathlib
+import re
+import shutil
+import subprocess
+import tarfile
+import tempfile
+import unittest
+from typing import Dict, List
+
+from rdbg.client import program
+from tests import releases
+from tests.rooms import free_port
+from tests.paths import TOP
+
+PLAIN = {"PATH": "/usr/bin:/bin"}
+NEEDED = shutil.which("dpkg-deb") is not None
+VERSION = (TOP / "VERSION").read_text().strip()
+SAID = "rdbg: nothing is proved\n"
+
+
+class Made:
+    """Two releases of one commit, made in two folders, the second by who lets nobody else read."""
+
+    folder: pathlib.Path
+    made: List[pathlib.Path]
+    again: List[pathlib.Path]
+
+
+def setUpModule() -> None:
+    """Makes both, once."""
+    if not NEEDED:
+        raise unittest.SkipTest("dpkg-deb isn't there")
+    folder = tempfile.TemporaryDirectory()
+    unittest.addModuleCleanup(folder.cleanup)
+    Made.folder = pathlib.Path(folder.name)
+    first, second = Made.folder / "first", Made.folder / "another folder"
+    releases.repository(first)
+    releases.git(Made.folder, "clone", "-q", str(first), str(second))
+    Made.made = releases.release(first, Made.folder / "out")
+    mask = os.umask(0o077)
+    Made.again = releases.release(second, second / "out")
+    os.umask(mask)
+
+
+class Released(unittest.TestCase):
+    """A test of what was made."""
+
+    def setUp(self) -> None:
+        self.folder, self.made, self.again = Made.folder, Made.made, Made.again
+
+
+class Same(Released):
+    """The same bytes twice, and what is said where they aren't."""
+
+    def check_it(self, file: pathlib.Path) -> "subprocess.CompletedProcess[str]":
+        """What comes of a comparison."""
+        return releases.run(self.folder / "first", "--check", str(file), *releases.unproved())
+
+    def test_names(self) -> None:
+        names = [f"rdbg-{VERSION}-unproved-x86_64.tar.gz", f"rdbg_{VERSION}~unproved_amd64.deb"]
+        self.assertEqual([it.name for it in self.made], names)
+
+    def test_the_same_bytes(self) -> None:
+        for one, other in zip(self.made, self.again):
+            self.assertEqual(one.read_bytes(), other.read_bytes(), one.name)
+
+    def test_who_and_when(self) -> None:
+        with tarfile.open(self.made[0]) as tar:
+            members = tar.getmembers()
+        self.assertEqual({(it.uid, it.gid, it.mtime) for it in members}, {(0, 0, 1_000_000_000)})
+        self.assertEqual({it.mode for it in members}, {0o755, 0o644})
+        parts = [it.name.split("/") for it in members]
+        self.assertEqual(parts, sorted(parts))
+        names = [it.name for it in members]
+        self.assertEqual([it for it in names if it.endswith(".pyc") or "__pycache__" in it], [])
+        self.assertEqual([it for it in names if "/tests" in it], [])
+
+    def test_a_comparison(self) -> None:
+        for file in self.made:
+            ran = self.check_it(file)
+            self.assertEqual((ran.returncode, ran.stderr), (0, ""), ran.stdout)
+
+    def test_the_first_difference(self) -> None:
+        other = self.folder / "other.tar.gz"
+        changed = gzip.decompress(self.made[0].read_bytes()).replace(
+            b"#!/usr/bin/env bash\n", b"#!/usr/bin/env bask\n", 1
+        )
+        other.write_bytes(gzip.compress(changed))
+        ran = self.check_it(other)
+        self.assertEqual(ran.returncode, 1, ran.stderr)
+        self.assertIn(f"rdbg-{VERSION}-unproved-x86_64/bin/rdbg: line 1 differs\n", ran.stdout)
+        other.write_bytes(gzip.compress(gzip.decompress(self.made[0].read_bytes()), 1))
+        self.assertIn("the same files, packed otherwise", self.check_it(other).stdout)
+
+    def test_a_difference_of_a_debian_package(self) -> None:
+        root = self.folder / "root"
+        subprocess.run(["dpkg-deb", "-R", str(self.made[1]), str(root)], check=True)
+        (root / "usr/bin/rdbg").chmod(0o700)
+        other = self.folder / "other.deb"
+        words = ["dpkg-deb", "--root-owner-group", "-Zgzip", "-b", str(root), str(other)]
+        environment = {**os.environ, "SOURCE_DATE_EPOCH": "1000000000"}
+        subprocess.run(words, check=True, stdout=subprocess.DEVNULL, env=environment)
+        ran = self.check_it(other)
+        self.assertEqual(ran.returncode, 1, ran.stderr)
+        self.assertIn("./usr/bin/rdbg: its mode is 700, and 755 is expected\n", ran.stdout)
+
+    def test_what_is_no_package(self) -> None:
+        other = self.folder / "none.tar.gz"
+        other.write_bytes(b"nothing")
+        ran = self.check_it(other)
+        self.assertEqual((ran.returncode, ran.stderr), (1, ""))
+        self.assertIn("it can't be unpacked", ran.stdout)
+        for name in ("none.zip", "nowhere.deb"):
+            self.assertEqual(self.check_it(self.folder / name).returncode, 2)
+
+
+class Refusals(unittest.TestCase):
+    """Where no release is made."""
+
+    def setUp(self) -> None:
+        folder = tempfile.TemporaryDirectory()
+        self.addCleanup(folder.cleanup)
+        self.top = pathlib.Path(folder.name)
+        releases.repository(self.top)
+
+    def refused(self, *words: str) -> str:
+        """Why there is none."""
+        ran = releases.run(self.top, "--out", str(self.top / "out"), *words)
+        self.assertEqual(ran.returncode, 2)
+        return ran.stderr
+
+    def test_changes(self) -> None:
+        (self.top / "README.md").write_text("changed\n")
+        self.assertIn("README.md changed since the commit", self.refused(*releases.unproved()))
+
+    def test_programs(self) -> None:
+        self.assertIn("crates/rdbg/out/rdbg isn't there", self.refused())
+        named = releases.unproved()[:3]
+        self.assertIn("--programs and --unproved go together", self.refused(*named))
+        other = ["--programs", program(), str(self.top / "rdbg"), "--unproved"]
+        self.assertIn("is no program for x86-64", self.refused(*other))
+
+    def test_programs_of_other_sources(self) -> None:
+        source = self.top / "crates/rdbg/src/main.rt"
+        source.parent.mkdir(parents=True)
+        source.write_text("fn main() {}\n")
+        releases.git(self.top, "add", "-A")
+        releases.git(self.top, "commit", "-q", "-m", "a source")
+        for name in ("rdbg", "rdreach"):
+            built = self.top / "crates" / name / "out" / name
+            built.parent.mkdir(parents=True)
+            shutil.copy(program(), built)
+            os.utime(built, (1, 1))
+        self.assertIn("is newer than crates/rdbg/out/rdbg", self.refused())
+
+
+class Installed(Released):
+    """The first hour of who has unpacked one, with nothing but the system around."""
+
+    def places(self) -> Dict[str, pathlib.Path]:
+        """Each package unpacked, and the folder in which `bin` is."""
+        unpacked = self.folder / "unpacked here"
+        if not unpacked.exists():
+            with tarfile.open(self.made[0]) as tar:
+                tar.extractall(unpacked)
+            words = ["dpkg-deb", "-x", str(self.made[1]), str(unpacked / "debian")]
+            subprocess.run(words, check=True)
+        return {
+            "tar.gz": unpacked / self.made[0].name.replace(".tar.gz", ""),
+            "deb": unpacked / "debian/usr",
+        }
+
+    def run_it(
+        self, place: pathlib.Path, *words: str, given: str = "", status: int = 0
+    ) -> "subprocess.CompletedProcess[str]":
+        """What an installed rdbg does on these words, in a folder that isn't its own."""
+        home = self.folder / "home"
+        home.mkdir(exist_ok=True)
+        ran = subprocess.run(
+            [str(place / "bin/rdbg"), *words],
+            cwd=home,
+            env={**PLAIN, "HOME": str(home)},
+            input=given,
+            stdout=subprocess.PIPE,
+            stderr=subprocess.PIPE,
+            universal_newlines=True,
+        )
+        self.assertEqual(ran.returncode, status, ran.stderr)
+        return ran
+
+    def test_the_first_hour(self) -> None:
+        for kind, place in self.places().items():
+            with self.subTest(kind):
+                examples = place / "share/rdbg/examples"
+                lost, meeting = examples / "lost_item.json", str(examples / "meeting.json")
+                ran = self.run_it(place, "sh", str(lost), given="step worker\nback 1\n")
+                self.assertEqual((ran.stdout, ran.stderr), ("ok at 1\nok at 0\n", SAID))
+                asked = (examples / "lost_item.commands").read_text()
+                ran = self.run_it(place, "run", "--app", str(lost), given=asked)
+                self.assertEqual(ran.stdout, (examples / "lost_item.replies").read_text())
+                ran = self.run_it(place, "check", str(lost))
+                self.assertEqual(ran.stdout, f"{lost}: accepted: 3 tasks, 1 queue, 2 cores\n")
+                ran = self.run_it(place, "hunt", meeting, "asleep", status=1)
+                self.assertIn("found: asleep, at 8, with 1 surprise\n", ran.stderr)
+                ran = self.run_it(place, "reach", meeting, "asleep", status=1)
+                self.assertEqual(ran.stdout.split("\n")[0], "found")
+                ran = self.run_it(place, "trace", str(lost), given="forward 3\n")
+                self.assertIn("worker", ran.stdout)
+                self.assertIn("usage: rdbg dap", self.run_it(place, "dap", "--help").stdout)
+                self.assertIn("rdbg serve", self.run_it(place, "--help").stdout)
+                ran = self.run_it(place, "--build")
+                self.assertEqual(ran.stdout, f"{place}/lib/rdbg/rdbg\n")
+                ran = self.run_it(place, "install", "there", status=2)
+                self.assertIn("it is installed already", ran.stderr)
+
+    def test_a_room(self) -> None:
+        place = self.places()["deb"]
+        words = [str(place / "bin/rdbg"), "room", str(place / "share/rdbg/examples/turns.json")]
+        port = free_port()
+        with subprocess.Popen(
+            [*words, "--port", str(port)],
+            env={**PLAIN, "HOME": str(self.folder)},
+            stdout=subprocess.PIPE,
+            stderr=subprocess.PIPE,
+            universal_newlines=True,
+        ) as room:
+            assert room.stdout is not None
+            try:
+                self.assertEqual(room.stdout.readline(), f"listening {port}\n")
+            finally:
+                room.terminate()
+            said, _ = room.communicate()
+            self.assertEqual(room.returncode, 0, said)
+
+    def test_the_version(self) -> None:
+        commit = releases.git(self.folder / "first", "rev-parse", "HEAD")
+        summed = hashlib.sha256(pathlib.Path(program()).read_bytes()).hexdigest()
+        for kind, place in self.places().items():
+            with self.subTest(kind):
+                said = self.run_it(place, "--version").stdout.splitlines()
+                self.assertRegex(said[0], rf"^rdbg {VERSION} at commit {commit}; \S+ logic \S+$")
+                self.assertEqual(said[1], f"rdbg is not proved; its SHA-256 is {summed}")
+                self.assertRegex(said[2], "^rdreach is not proved; its SHA-256 is [0-9a-f]{64}$")
+
+    def test_another_program_in_its_place(self) -> None:
+        place = self.folder / "other"
+        shutil.copytree(self.places()["deb"], place)
+        release = place / "lib/rdbg/release"
+        release.write_text(release.read_text().replace("# rdbg not proved", "# rdbg proved"))
+        self.assertIn("\nrdbg is proved; ", self.run_it(place, "--version").stdout)
+        with open(place / "lib/rdbg/rdbg", "ab") as file:
+            file.write(b"\0")
+        self.assertIn("\nrdbg is not known to be proved, ", self.run_it(place, "--version").stdout)
+
+    def test_the_sums(self) -> None:
+        for kind, place in self.places().items():
+            with self.subTest(kind):
+                words = ["sha256sum", "--strict", "--quiet", "-c", "lib/rdbg/release"]
+                subprocess.run(words, cwd=place, check=True)
+                listed = (place / "lib/rdbg/release").read_text().splitlines()
+                named = {line.partition("  ")[2] for line in listed if not line.startswith("# ")}
+                files = {it for it in place.rglob("*") if it.is_file() and it.suffix != ".pyc"}
+                found = {str(it.relative_to(place)) for it in files} - {"lib/rdbg/release"}
+                self.assertEqual(named, found)
+
+    def test_what_is_in_it(self) -> None:
+        for kind, place in self.places().items():
+            with self.subTest(kind):
+                packed = ".gz" if kind == "deb" else ""
+                zsh = "vendor-completions" if kind == "deb" else "site-functions"
+                for name in (
+                    f"share/man/man1/rdbg.1{packed}",
+                    "share/bash-completion/completions/rdbg",
+                    f"share/zsh/{zsh}/_rdbg",
+                    "share/rdbg/docs/application.schema.json",
+                    "share/rdbg/editors/emacs/rdbg-dap.el",
+                    "share/rdbg/README.md",
+                    "share/doc/rdbg/copyright",
+                ):
+                    self.assertTrue((place / name).is_file(), name)
+
+    def test_what_the_package_wants(self) -> None:
+        words = ["dpkg-deb", "--field", str(self.made[1])]
+        fields = subprocess.run(words, check=True, stdout=subprocess.PIPE).stdout.decode()
+        self.assertRegex(fields, r"\nDepends: libc6 \(>= 2\.\d+\), python3 \(>= 3\.8\)\n")
+        self.assertFalse(re.search("^(Recommends|Suggests)", fields, re.MULTILINE))
+        self.assertIn(f"\nVersion: {VERSION}~unproved\n", fields)
+
+
+class Versions(unittest.TestCase):
+    """The version stands at one place, and others say the same."""
+
+    def test_the_changes(self) -> None:
+        titles = re.findall("^## (.*)$", (TOP / "CHANGELOG.md").read_text(), re.MULTILINE)
+        self.assertEqual(titles[0], VERSION)
+        parts = [[int(part) for part in it.split(".")] for it in titles]
+        self.assertEqual(parts, sorted(parts, reverse=True))
+
+    def test_the_editors(self) -> None:
+        self.assertIn(
+            f'"version": "{VERSION}"', (TOP / "tools/editors/vscode/package.json").read_text()
+        )
+
+    def test_the_checkout(self) -> None:
+        ran = subprocess.run([str(TOP / "rdbg"), "--version"], stdout=subprocess.PIPE, check=True)
+        self.assertTrue(ran.stdout.decode().startswith(f"rdbg {VERSION} at commit "))
+
+
+if __name__ == "__main__":
+    unittest.main()
