@@ -26,6 +26,9 @@ class Sessions(unittest.TestCase):
     def test_editors(self) -> None:
         self.check(DOCS / "EDITORS.md")
 
+    def test_from_c(self) -> None:
+        self.check(DOCS / "FROM_C.md")
+
     def test_hunting(self) -> None:
         self.check(DOCS / "HUNTING.md")
 

@@ -7,6 +7,7 @@ from typing import Any, Dict, Iterator, List, Optional, Sequence
 from rdbg.adapter.messages import Arguments, Values, Wrong
 from rdbg.adapter.opening import BUILTIN
 from rdbg.application import Instruction
+from rdbg.from_c.lines import below
 from rdbg.files.source import Source
 
 # The text of the built-in application is in no file; the editor asks for it by this number.
@@ -52,6 +53,8 @@ class Text:
             spot(lines, it.name, pc, code) for it in tasks for pc, code in enumerate(it.code)
         ]
         self._at = {(spot.task, spot.pc): spot for spot in self.spots}
+        # (where an instruction stands above the C that it is of)
+        self._below = below(source.text) if source is not None and source.is_c else {}
 
     @property
     def is_generated(self) -> bool:
@@ -120,7 +123,7 @@ class Text:
     def found(self, line: int, column: Optional[int]) -> Spot:
         """The instruction at a line and a column, the nearest one before it; the first at the next
         line that has one. Raises `Wrong` where there is none behind it."""
-        there = self.at(line)
+        there = self.at(line) or self.at(self._below.get(line, line))
         if not there:
             later = [spot.line for spot in self.spots if spot.line > line]
             if not later:

@@ -2,13 +2,15 @@
 import argparse
 import re
 import sys
-from typing import Sequence
+from typing import List, Sequence
 
+from rdbg import kinds
 from rdbg.checking.faults import MOST_FAULTS
 from rdbg.checking.remarks import remarks_of
 from rdbg.wording import counted, shown
 from rdbg.digits import number
 from rdbg.failure import Failure
+from rdbg.fault import Fault
 from rdbg.files.definitions import take_definitions
 from rdbg.files.source import Given, Source, load, source, standard_input
 
@@ -21,7 +23,7 @@ KIND = re.compile(r"L[1-7] ")
 EPILOG = (
     "Each fault is one line on standard output, FILE:LINE:COLUMN: and what would be right; the last"
     " line says what rdbg itself says of the file. The status is 0 where all files are accepted,"
-    " 1 where one is refused, 2 where one can't be read."
+    " 1 where one is refused, or its C has gone another way than its lines, 2 where one can't be read."
 )
 
 
@@ -40,7 +42,7 @@ def parser() -> argparse.ArgumentParser:
         "files",
         nargs="+",
         metavar="FILE",
-        help="JSON, or a text in lines (.fw); - is standard input",
+        help="JSON, a text in lines (.fw), or C with such lines (.c); - is standard input",
     )
     made.add_argument(
         "--first", action="store_true", help="prints the first fault of each file, and nothing else"
@@ -81,16 +83,35 @@ def check(path: str, given: argparse.Namespace) -> int:
         where = "" if path in str(failure) else f"{path}: "
         print(f"rdbg check: {where}{failure}", file=sys.stderr)
         return failure.status
-    lines = [f"{found.path}:{fault}" for fault in found.faults]
+    apart = drifts(found)
+    lines = [f"{found.path}:{fault}" for fault in (*found.faults, *apart)]
     if given.first:
         lines = lines[:1]
     else:
         remarks = [] if found.root is None else [*found.remarks, *remarks_of(found.root)]
         lines = lines[: given.most] + [f"{found.path}:{remark}" for remark in remarks[: given.most]]
-        lines.append(f"{found.path}: {said(found, given.most)}")
+        lines.append(f"{found.path}: {said(found, given.most)}{told_of(apart)}")
     for line in lines:
         print(line)
-    return 1 if found.faults else 0
+    return 1 if found.faults or apart else 0
+
+
+def drifts(found: Source) -> List[Fault]:
+    """Where a C source and the model in it have gone apart. (Of one with faults nothing is known.)"""
+    named = found.named()
+    if not found.is_c or found.application is None or named is None:
+        return []
+    from rdbg.from_c.drift import drifts as drifts_of
+
+    names = {thing.name for kind in kinds.ALL for thing in found.application.of(kind)}
+    return drifts_of(found.text, names, named.constants)
+
+
+def told_of(apart: Sequence[Fault]) -> str:
+    """How often they have gone apart."""
+    if not apart:
+        return ""
+    return f"; the C differs from it in {counted(len(apart), 'place')}"
 
 
 def said(found: Source, most: int) -> str:

@@ -1,4 +1,5 @@
-"""Makes the JSON of an application from its text in lines, or the text from the JSON."""
+"""Makes the JSON of an application from its text in lines, which may stand in comments of C, or the
+text from the JSON."""
 import argparse
 import os
 import sys
@@ -8,6 +9,7 @@ from rdbg.application import Application
 from rdbg.failure import Failure
 from rdbg.json_layout import MOST_BYTES, json_of
 from rdbg.firmware.expansion import expansions
+from rdbg.from_c.lines import in_lines
 from rdbg.firmware.writer import jumps_of, text_of
 from rdbg.files.definitions import take_definitions
 from rdbg.files.source import Given, Source, load, source
@@ -20,7 +22,7 @@ EPILOG = (
     " faults they are printed on standard error, each as FILE:LINE:COLUMN: and what would be right,"
     " and nothing is written. Lines that become several instructions are printed with these. The status is 0, 1 for faults, or 2 for a file that can't be had."
 )
-TEXT, JSON = ".fw", ".json"
+TEXT, JSON, C = ".fw", ".json", ".c"
 MOST_FAULTS = 100
 
 
@@ -28,13 +30,21 @@ def parser() -> argparse.ArgumentParser:
     """The words of the command line."""
     made = argparse.ArgumentParser(prog="rdbg make", description=SUMMARY, epilog=EPILOG)
     made.add_argument(
-        "file", metavar="FILE", help="the text in lines, FILE.fw; with --back, FILE.json"
+        "file",
+        metavar="FILE",
+        help="the text in lines, FILE.fw; with --back, FILE.json; with --from-c, FILE.c",
     )
     made.add_argument(
         "--back", action="store_true", help="makes the text from the JSON, on standard output"
     )
     made.add_argument(
         "-o", dest="output", metavar="OUT", help="writes to OUT; - is standard output"
+    )
+    made.add_argument(
+        "--from-c",
+        dest="is_c",
+        action="store_true",
+        help="takes the lines from comments of C, FILE.c: // rdbg: LINE; OUT may be FILE.fw, too",
     )
     take_definitions(made)
     return made
@@ -45,20 +55,43 @@ def main(words: Sequence[str]) -> int:
     given = parser().parse_args(words)
     if given.back and given.consts:
         raise Failure("a JSON has no consts: -D goes with a text in lines (.fw)", 2)
+    if given.back and given.is_c:
+        raise Failure("--back makes lines, and --from-c takes them: one at a time", 2)
     if given.back:
         return back(given.file, given.output)
+    check_form(given.file, given.is_c)
+    if given.is_c and given.output is not None and given.output.endswith(TEXT):
+        return make_lines(given.file, given.output, dict(given.consts))
     return make(given.file, given.output, dict(given.consts))
 
 
-def make(path: str, output: Optional[str], consts: Given) -> int:
-    """Makes the JSON of a text, of which consts of these names are these numbers."""
+def check_form(path: str, is_c: bool) -> None:
+    """Raises `Failure` where a file is, by its name, not what lines are taken from."""
     if path.endswith(JSON):
         raise Failure(
             f"{path} is JSON already; its text in lines is made by: rdbg make --back {path}", 2
         )
-    if not path.endswith(TEXT):
-        raise Failure(f"{path} doesn't end in {TEXT}, as a text in lines does", 2)
-    chosen = path[: -len(TEXT)] + JSON if output is None else output
+    if path.endswith(C) and not is_c:
+        raise Failure(f"{path} is C: its lines are taken by: rdbg make --from-c {path}", 2)
+    ending, what = (C, "C") if is_c else (TEXT, "a text in lines")
+    if not path.endswith(ending):
+        raise Failure(f"{path} doesn't end in {ending}, as {what} does", 2)
+
+
+def make_lines(path: str, output: str, consts: Given) -> int:
+    """Makes a text in lines of a C source. One that is there stays."""
+    if os.path.lexists(output):
+        raise Failure(f"{output} is there already, and it would be lost", 2)
+    found, application = accepted(path, MOST_FAULTS, consts)
+    with written(output) as file:
+        file.write(in_lines(found.text))
+    print(f"{output}: {', '.join(application.counts())}")
+    return 0
+
+
+def make(path: str, output: Optional[str], consts: Given) -> int:
+    """Makes the JSON of a text, of which consts of these names are these numbers."""
+    chosen = os.path.splitext(path)[0] + JSON if output is None else output
     if chosen != STANDARD_OUTPUT and not chosen.endswith(JSON):
         raise Failure(f"{chosen} doesn't end in {JSON}; it isn't written", 2)
     if same_file(path, chosen):

@@ -10,13 +10,15 @@ from rdbg.application import Application, Interrupt, application
 from rdbg.failure import Failure, trying
 from rdbg.fault import Fault
 from rdbg.checking.faults import faults_of
-from rdbg.json_layout import json_of
+from rdbg.from_c.lines import ENDING, in_lines
+from rdbg.json_layout import MOST_BYTES, json_of
 from rdbg.tree import Node, Object
 
 if TYPE_CHECKING:
     from rdbg.firmware.reader import Named
 
-LINES = ".fw"
+# A text in lines, or a C source in whose comments the lines stand.
+LINES = (".fw", ENDING)
 # Consts by their names, which were given beside a text.
 Given = Mapping[str, int]
 
@@ -36,6 +38,11 @@ class Source:
     made: Tuple[Tuple[int, str], ...] = ()
     given: Given = dataclasses.field(default_factory=dict)
 
+    @property
+    def is_c(self) -> bool:
+        """Whether it is a C source."""
+        return self.path.endswith(ENDING)
+
     def lines(self) -> List[str]:
         """The lines of the text."""
         return self.text.split("\n")
@@ -46,7 +53,7 @@ class Source:
             return None
         from rdbg.firmware.reader import named
 
-        return named(self.text, self.given)
+        return named(in_lines(self.text) if self.is_c else self.text, self.given)
 
     @contextlib.contextmanager
     def as_json(self) -> Iterator[str]:
@@ -102,7 +109,7 @@ def source(path: str, content: bytes, given: Optional[Given] = None) -> Source:
     if path.endswith(LINES):
         from rdbg.firmware.reader import read as read_lines
 
-        text = read_lines(content, given or {})
+        text = read_lines(lines_in(path, content), given or {})
         remarks, made, comments = text.remarks, text.made, text.comments
         interrupts = text.interrupts
         root, faults = text.root, list(text.faults)
@@ -128,6 +135,14 @@ def source(path: str, content: bytes, given: Optional[Given] = None) -> Source:
         made=tuple(made),
         given=dict(given or {}),
     )
+
+
+def lines_in(path: str, content: bytes) -> bytes:
+    """The lines of a file: those of a C source, which stand there where they stand in it. One that is
+    too long is left as it is, and is refused for it."""
+    if not path.endswith(ENDING) or len(content) > MOST_BYTES:
+        return content
+    return in_lines(content.decode("utf-8", "replace")).encode()
 
 
 def check_none(given: Optional[Given]) -> None:

@@ -5,6 +5,7 @@ from typing import TYPE_CHECKING, List, Optional, Sequence
 
 from rdbg import commands, record, replies
 from rdbg.looks import Names
+from rdbg.from_c.lines import below
 from rdbg.goals import conditions, reading
 from rdbg.goals import words as goal_words
 from rdbg.goals.reading import NoGoal
@@ -204,6 +205,10 @@ def at_line(shell: "Shell", file: Optional[str], line: int) -> List[Sequence[str
         raise Unable("no file is known: `break TASK PC`")
     if file is not None and pathlib.Path(file).name != pathlib.Path(source.path).name:
         raise Unable(f"the file is {source.path}: `break {line}`, or `break TASK PC`")
+    if source.is_c and line not in {
+        it.place.line for task in application.tasks for it in task.code
+    }:
+        line = below(source.text).get(line, line)
     found = [
         (it.place, task.name, number, it.written)
         for task in application.tasks

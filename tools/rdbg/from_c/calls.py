@@ -1,0 +1,179 @@
+"""FreeRTOS's calls as they stand in C: what a model says of each, which of its arguments that has,
+and where calls are found."""
+from typing import Dict, List, NamedTuple, Sequence, Tuple
+
+from rdbg.from_c.lexer import WORD, Piece, joined
+from rdbg.tree import Place
+
+# A word of a model, then its operands: of which kind each is, and behind `:` the number of the
+# argument that has it, or behind `=` what it is.
+CALLS: Dict[str, Tuple[str, ...]] = {
+    "xQueueSend": ("send Q:0 T:2",),
+    "xQueueSendToBack": ("send Q:0 T:2",),
+    "xQueueSendToFront": ("front Q:0 T:2",),
+    "xQueueReceive": ("recv Q:0 T:2",),
+    "xQueuePeek": ("peek Q:0 T:2",),
+    "xQueueOverwrite": ("over Q:0",),
+    "xQueueReset": ("qreset Q:0",),
+    "uxQueueMessagesWaiting": ("count Q:0",),
+    "uxQueueSpacesAvailable": ("spaces Q:0",),
+    "xQueueAddToSet": ("setadd Q:0 Q:1",),
+    "xQueueRemoveFromSet": ("setdel Q:0 Q:1",),
+    "xQueueSelectFromSet": ("select Q:0 T:1",),
+    "xStreamBufferSend": ("swrite Q:0 T:3",),
+    "xStreamBufferReceive": ("sread Q:0 V:2 T:3",),
+    "xStreamBufferReset": ("sreset Q:0",),
+    "xStreamBufferSetTriggerLevel": ("strig Q:0 V:1",),
+    "xStreamBufferBytesAvailable": ("scount Q:0",),
+    "xStreamBufferSpacesAvailable": ("sspaces Q:0",),
+    "xMessageBufferSend": ("mwrite Q:0 T:3",),
+    "xMessageBufferReceive": ("mread Q:0 V:2 T:3",),
+    "xMessageBufferReset": ("mreset Q:0",),
+    "xMessageBufferSpacesAvailable": ("mspaces Q:0",),
+    "xMessageBufferNextLengthBytes": ("mnext Q:0",),
+    "xTaskNotifyIndexed": ("notify K:0 V:1 V:2 ACTION:3",),
+    "xTaskNotify": ("notify K:0 V=0 V:1 ACTION:2",),
+    "xTaskNotifyGive": ("notify K:0 V=0 V=0 ACTION=inc",),
+    "xTaskNotifyGiveIndexed": ("notify K:0 V:1 V=0 ACTION=inc",),
+    "xTaskNotifyAndQueryIndexed": ("query K:0 V:1 V:2 ACTION:3",),
+    "xTaskNotifyAndQuery": ("query K:0 V=0 V:1 ACTION:2",),
+    "ulTaskNotifyTakeIndexed": ("take V:0 TAKE:1 T:2",),
+    "ulTaskNotifyTake": ("take V=0 TAKE:0 T:1",),
+    "xTaskNotifyWaitIndexed": ("nwait V:0 V:1 V:2 T:4",),
+    "xTaskNotifyWait": ("nwait V=0 V:0 V:1 T:3",),
+    "xTaskNotifyStateClearIndexed": ("nclear K:0 V:1",),
+    "xTaskNotifyStateClear": ("nclear K:0 V=0",),
+    "ulTaskNotifyValueClearIndexed": ("vclear K:0 V:1 V:2",),
+    "ulTaskNotifyValueClear": ("vclear K:0 V=0 V:1",),
+    "xEventGroupSetBits": ("gset Q:0 V:1",),
+    "xEventGroupClearBits": ("gclear Q:0 V:1",),
+    "xEventGroupGetBits": ("gget Q:0",),
+    "xEventGroupWaitBits": ("gwait Q:0 V:1 WISH:3 CLR:2 T:4",),
+    "xEventGroupSync": ("gsync Q:0 V:1 V:2 T:3",),
+    "xSemaphoreTake": ("take Q:0 T:1", "recv Q:0 T:1"),
+    "xSemaphoreGive": ("give Q:0", "send Q:0 T=0"),
+    "uxSemaphoreGetCount": ("count Q:0",),
+    "vTaskDelay": ("wait T:0", "recv NEVER=never T:0"),
+}
+# What C calls the choices of a call, and the words of a model for them.
+CHOICES: Dict[str, Dict[str, str]] = {
+    "ACTION": {
+        "eNoAction": "none",
+        "eSetBits": "bits",
+        "eIncrement": "inc",
+        "eSetValueWithOverwrite": "set",
+        "eSetValueWithoutOverwrite": "setif",
+    },
+    "WISH": {"pdTRUE": "all", "pdFALSE": "any"},
+    "CLR": {"pdTRUE": "clear", "pdFALSE": "keep"},
+    "TAKE": {"pdTRUE": "clear", "pdFALSE": "dec"},
+}
+VALUES, NAMES, TIME = ("V", "T"), ("Q", "K"), "T"
+
+
+class Operand(NamedTuple):
+    """An operand of a model's line: its kind, and the number of the argument, or what it is."""
+
+    kind: str
+    argument: int
+    fixed: str
+
+
+class Template(NamedTuple):
+    """What a model says of a call."""
+
+    word: str
+    operands: Tuple[Operand, ...]
+
+
+def template(text: str) -> Template:
+    """A row of the table, read."""
+    word, *parts = text.split()
+    operands = []
+    for part in parts:
+        kind, sign, value = part.partition("=")
+        if sign:
+            operands.append(Operand(kind, -1, value))
+        else:
+            kind, _, value = part.partition(":")
+            operands.append(Operand(kind, int(value), ""))
+    return Template(word, tuple(operands))
+
+
+TEMPLATES = {name: tuple(map(template, texts)) for name, texts in CALLS.items()}
+# The words of a model that say that there is a call.
+WORDS = frozenset(it.word for each in TEMPLATES.values() for it in each)
+
+
+class Call(NamedTuple):
+    """A call: the name of the function, its arguments, where it begins, and the line of its end."""
+
+    name: str
+    arguments: Tuple[str, ...]
+    place: Place
+    end: int
+
+    def argument(self, number: int) -> str:
+        """An argument; empty where there aren't so many."""
+        return self.arguments[number] if 0 <= number < len(self.arguments) else ""
+
+
+class Block(NamedTuple):
+    """What stands between the outermost braces of a function: its pieces, its first line, which is
+    the one of its name, and its last."""
+
+    pieces: Tuple[Piece, ...]
+    begin: int
+    end: int
+
+
+def blocks(code: Sequence[Piece]) -> List[Block]:
+    """The functions of a source, by its pieces of code."""
+    found: List[Block] = []
+    depth, head, inside = 0, 0, -1
+    for at, piece in enumerate(code):
+        if piece.text == "{":
+            before = code[at - 1].text if at else ""
+            if depth == 0 and before.startswith('"'):
+                head = at + 1  # (extern "C")
+                continue
+            if depth == 0:
+                inside = at if before == ")" else -1
+            depth += 1
+        elif piece.text == "}" and depth:
+            depth -= 1
+            if depth == 0 and inside >= 0:
+                begin = code[head].place.line
+                found.append(Block(tuple(code[inside : at + 1]), begin, piece.end))
+            head = at + 1 if depth == 0 else head
+        elif piece.text == ";" and depth == 0:
+            head = at + 1
+    return found
+
+
+def arguments(code: Sequence[Piece], at: int) -> Tuple[Tuple[str, ...], int]:
+    """The arguments behind the `(` at this place, and where its `)` is."""
+    found: List[str] = []
+    part: List[Piece] = []
+    depth = 0
+    for index in range(at, len(code)):
+        text = code[index].text
+        depth += (text in ("(", "[", "{")) - (text in (")", "]", "}"))
+        if depth == 0:
+            return (*found, joined(part)) if found or part else (), index
+        if depth == 1 and text == ",":
+            found.append(joined(part))
+            part = []
+        elif index > at:
+            part.append(code[index])
+    return (*found, joined(part)), len(code) - 1
+
+
+def calls_in(code: Sequence[Piece]) -> List[Call]:
+    """All calls in a function, of whatever it calls, in order."""
+    found: List[Call] = []
+    for at, piece in enumerate(code[:-1]):
+        if piece.kind == WORD and code[at + 1].text == "(":
+            given, end = arguments(code, at + 1)
+            found.append(Call(piece.text, given, piece.place, code[end].end))
+    return found

@@ -1,0 +1,96 @@
+"""The lines of a model that stand in the comments of a C source: `// rdbg: recv jobs 10`."""
+import re
+from typing import Dict, Iterator, List, NamedTuple, Sequence
+
+from rdbg.from_c.lexer import COMMENT, Piece, pieces
+from rdbg.tree import Place
+
+ENDING = ".c"
+# What begins a line of a model in a comment, with the function in which its call is made.
+MARK = re.compile(r"(?://|/\*)[*/]*\s*rdbg(?:\(([A-Za-z_]\w*)\))?:")
+STAR = re.compile(r"\s*\*+(?!/)")
+# The line of a call that isn't in the model.
+SKIP = "skip"
+
+
+class Line(NamedTuple):
+    """A line of a model: its text, where that begins, the function that makes its call where one is
+    named, and whether nothing of C stands beside it."""
+
+    text: str
+    place: Place
+    function: str
+    is_alone: bool
+
+    @property
+    def number(self) -> int:
+        """Its line in the source."""
+        return self.place.line
+
+
+def is_c(path: str) -> bool:
+    """Whether a file is a C source, by its name."""
+    return path.endswith(ENDING)
+
+
+def bodies(piece: Piece) -> Iterator[Line]:
+    """The lines of a model in a comment, if it has any."""
+    mark = MARK.match(piece.text)
+    if mark is None:
+        return
+    closed = piece.text[:-2] if piece.text.startswith("/*") else piece.text
+    for number, text in enumerate(closed.split("\n")):
+        begin = mark.end() if number == 0 else 0
+        if number:
+            star = STAR.match(text)
+            begin = star.end() if star else 0
+        body = text[begin:].rstrip()
+        begin += len(body) - len(body.lstrip())
+        column = begin + (piece.place.column if number == 0 else 1)
+        if body.strip():
+            place = Place(piece.place.line + number, column)
+            yield Line(body.strip(), place, mark[1] or "", False)
+
+
+def lines_of(found: Sequence[Piece]) -> List[Line]:
+    """The lines of a model in a source."""
+    code = {line for it in found if it.is_code for line in (it.place.line, it.end)}
+    said = [line for it in found if it.kind == COMMENT for line in bodies(it)]
+    return [it._replace(is_alone=it.number not in code) for it in said]
+
+
+def code_beside(text: str, found: Sequence[Piece]) -> Dict[int, str]:
+    """What each line of a source has besides lines of a model."""
+    rows = dict(enumerate(text.split("\n"), 1))
+    for piece in found:
+        if piece.kind == COMMENT and MARK.match(piece.text):
+            begin, end = piece.place.column - 1, piece.place.column - 1 + len(piece.text)
+            if piece.place.line == piece.end:
+                row = rows[piece.end]
+                rows[piece.end] = row[:begin] + " " * len(piece.text) + row[end:]
+            else:
+                for number in range(piece.place.line, piece.end + 1):
+                    rows[number] = rows[number][:begin] if number == piece.place.line else ""
+    return {number: row.strip() for number, row in rows.items()}
+
+
+def in_lines(text: str) -> str:
+    """The model of a source as a text in lines: each line stands where it stands in the source, with
+    the C beside it as its comment."""
+    found = [*pieces(text)]
+    said: Dict[int, str] = {}
+    for line in lines_of(found):
+        if line.text != SKIP:
+            # (two in one line are read as one, which is refused)
+            said[line.number] = said.get(line.number, "").ljust(line.place.column - 1) + line.text
+    made = []
+    for number, code in sorted(code_beside(text, found).items()):
+        comment = f" // {code}" if code else ""
+        made.append((said.get(number, "") + comment) if number in said else comment.lstrip())
+    return "\n".join(made) + "\n"
+
+
+def below(text: str) -> Dict[int, int]:
+    """The lines of C that stand below lines of a model alone in theirs, each with the last of these."""
+    alone = {it.number for it in lines_of([*pieces(text)]) if it.is_alone}
+    return {number + 1: number for number in alone if number + 1 not in alone}
