@@ -81,6 +81,7 @@ def parser() -> argparse.ArgumentParser:
     made.add_argument(
         "--page", metavar="OUT.html", help="writes the first find as one page of HTML"
     )
+    made.add_argument("--report", metavar="FILE", help="writes what came of it as SARIF")
     count = bounded(1)
     made.add_argument(
         "--surprises", type=bounded(0), metavar="N", help="orders of so many surprises at the most"
@@ -193,8 +194,25 @@ class Hunt:
         return bool(self.finds or self.differences)
 
     def say(self) -> None:
-        """Prints what was found, or that nothing was."""
+        """Prints what was found, or that nothing was, and reports it."""
         said = self._said()
+        self._print(said)
+        self._report()
+
+    def _report(self) -> None:
+        """Writes what came of it, where that was asked."""
+        if self.given.report is None:
+            return
+        from rdbg.hunting import sarif  # (which takes its time)
+
+        finds = self.finds or [it.find for it in self.differences]
+        left = self.search.left()
+        found = sarif.results(self.source, self.goal.text, self.stage, finds, left)
+        with whole_file.written(self.given.report) as file:
+            file.write(sarif.text_of([*found]))
+
+    def _print(self, said: Sequence[str]) -> None:
+        """Prints what is said, and the lines of what was found."""
         path = self.given.output
         if not self.is_found:
             is_mixed = path in (None, STANDARD)
@@ -270,8 +288,9 @@ def hunt(given: argparse.Namespace, source: Source, path: str) -> int:
         why = "differs begins where interrupts have come, and counts anew: give their calls"
         raise Failure(f"{OPTION} NAME after or apart: {why}", CANT)
     empty(given.output, given.file)
-    if given.page not in (None, STANDARD):
-        whole_file.check(given.page)
+    for output in (given.page, given.report):
+        if output not in (None, STANDARD):
+            whole_file.check(output)
     end = None if given.within is None else time.monotonic() + given.within
     options = tuple(word for pair in passed(given) for word in pair)
     stage = Stage(source, may_come)

@@ -7,7 +7,18 @@ from typing import Iterator, List, Optional, Tuple
 from rdbg import main, program_help
 
 # What is behind an option or a word: a file, or a folder.
-FILES = ("FILE", "OUT", "OUT.html", "OUT.json", "COMMANDS", "ANSWER", "FOLDER", "PREFIX", "IN")
+FILES = (
+    "FILE",
+    "OUT",
+    "OUT.html",
+    "OUT.json",
+    "COMMANDS",
+    "ANSWER",
+    "FOLDER",
+    "PATH",
+    "PREFIX",
+    "IN",
+)
 # An option as the help of a program has it, with its value.
 TOLD = re.compile(r"^ +(?:(-\w), )?(--?[\w-]+)(?: <?([\w.\-/=]+)>?)?  +(\S.*)$", re.MULTILINE)
 PLACED = re.compile(r"[<\[]?\b([A-Z]+)\b[>\]]?")

@@ -1,0 +1,116 @@
+"""What a search has come to, as SARIF: each order that was found is a result, whose moves are its code
+flow."""
+import json
+import os
+from typing import Any, Dict, Iterator, List, Optional, Sequence
+
+from rdbg.application import Application
+from rdbg.driving.parts import look_through
+from rdbg.effects import Move
+from rdbg.files.source import Source
+from rdbg.hunting.stage import Find, Stage
+from rdbg.reaching.said import Answer, Kind
+from rdbg.tree import Place
+
+Values = Dict[str, Any]
+SCHEMA = "https://json.schemastore.org/sarif-2.1.0.json"
+VERSION = "2.1.0"
+RULE = "goal-reached"
+RULES = [
+    {
+        "id": RULE,
+        "shortDescription": {"text": "an order of moves leads to a goal"},
+        "fullDescription": {
+            "text": "Some order of the moves of tasks, ticks and interrupts leads to where the goal is"
+            " so. Its moves are the code flow."
+        },
+    }
+]
+# So many moves of an order are told at the most.
+MOST_MOVES = 1_000
+# What is said where no order is found: that none leads there, or that it isn't known.
+PASS, OPEN, FAIL = "pass", "open", "fail"
+
+
+def physical(path: str, place: Optional[Place]) -> Values:
+    """A place in a file."""
+    uri = os.path.relpath(path).replace(os.sep, "/")
+    found: Values = {"artifactLocation": {"uri": uri}}
+    if place is not None:
+        found["region"] = {"startLine": place.line, "startColumn": place.column}
+    return found
+
+
+def place_of(application: Application, move: Move) -> Optional[Place]:
+    """Where the instruction of a move stands; none where no task made it."""
+    task = None if move.task is None else application.task(move.task)
+    if task is None or move.pc is None or move.pc >= len(task.code):
+        return None
+    return task.code[move.pc].place
+
+
+def step(source: Source, move: Move) -> Values:
+    """A move as a place of a flow."""
+    assert source.application is not None
+    place = place_of(source.application, move)
+    where = {"physicalLocation": physical(source.path, place), "message": {"text": move.row()}}
+    return {"location": where, "executionOrder": move.place}
+
+
+def moves_of(stage: Stage, find: Find) -> List[Move]:
+    """The moves of an order, which is made once more."""
+    stage.at_boot().tell_all(find.order.lines)
+    done = min(find.order.place, MOST_MOVES)
+    return list(look_through(stage.target, 1, done).moves) if done else []
+
+
+def found(source: Source, goal: str, stage: Stage, find: Find) -> Values:
+    """An order that was found."""
+    moves = moves_of(stage, find)
+    count = find.order.place
+    said = f"{goal}: so behind {count} move{'' if count == 1 else 's'}"
+    if find.order.told:
+        said += f"; {'; '.join(find.order.told)}"
+    steps = [step(source, move) for move in moves]
+    last = steps[-1]["location"]["physicalLocation"] if steps else physical(source.path, None)
+    result: Values = {
+        "ruleId": RULE,
+        "kind": FAIL,
+        "level": "error",
+        "message": {"text": said},
+        "locations": [{"physicalLocation": last}],
+        "properties": {"lines": list(find.order.lines), "moves": count},
+    }
+    if steps:
+        result["codeFlows"] = [{"threadFlows": [{"locations": steps}]}]
+    return result
+
+
+def none(source: Source, goal: str, answer: Answer) -> Values:
+    """That no order was found, which is a theorem where the answer is `never`."""
+    kind = PASS if answer.kind is Kind.NONE else OPEN
+    said = f"{goal}: {answer.head()}" + (f"; {answer.why}" if answer.why else "")
+    return {
+        "ruleId": RULE,
+        "kind": kind,
+        "level": "none",
+        "message": {"text": said},
+        "locations": [{"physicalLocation": physical(source.path, None)}],
+    }
+
+
+def results(
+    source: Source, goal: str, stage: Stage, finds: Sequence[Find], answer: Answer
+) -> Iterator[Values]:
+    """What a search has come to: each find, or that there is none."""
+    for find in finds:
+        yield found(source, goal, stage, find)
+    if not finds:
+        yield none(source, goal, answer)
+
+
+def text_of(said: Sequence[Values]) -> str:
+    """A report of these results."""
+    driver = {"name": "rdbg", "rules": RULES}
+    run = {"tool": {"driver": driver}, "results": list(said), "columnKind": "unicodeCodePoints"}
+    return json.dumps({"$schema": SCHEMA, "version": VERSION, "runs": [run]}, indent=2) + "\n"
