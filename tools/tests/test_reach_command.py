@@ -88,9 +88,9 @@ class Answers(InFolder):
                 self.assertEqual((2, "", errors.splitlines()), said(*ASKED))
 
     def test_what_goes_with_a_goal(self) -> None:
-        for words in (("-o", "out"), ("--within", "5"), ("--page", "out.html")):
+        for words in (("-o", "out"), ("--within", "5"), ("--page", "o.html"), ("--report", "r")):
             with self.subTest(words), program("ok\n\n") as it:
-                wanted = (2, "", ["rdbg reach: -o, --within and --page go with a goal"])
+                wanted = (2, "", ["rdbg reach: -o, --within, --page and --report go with a goal"])
                 self.assertEqual(wanted, said(LOST, *words))
                 self.assertEqual("", it.words())
 

@@ -11,7 +11,7 @@ class Own(unittest.TestCase):
     def test_none_of_them(self) -> None:
         words = ["a.json", "count", "q", "=", "2", "--moves", "5", "--exact", "--pace=2..4"]
         for given in (words, [*words, PROGRESS], [PROGRESS, *words]):
-            self.assertEqual(([PROGRESS, *words], None, None, (), None), tuple(read(given)))
+            self.assertEqual(([PROGRESS, *words], None, None, (), None, None), tuple(read(given)))
 
     def test_each_way_to_write_them(self) -> None:
         for line in (
@@ -27,12 +27,20 @@ class Own(unittest.TestCase):
 
     def test_behind_two_dashes_there_are_none(self) -> None:
         words = "a.json --moves 5 -- asleep -o --within".split()
-        self.assertEqual(([PROGRESS, *words], None, None, (), None), tuple(read(words)))
+        self.assertEqual(([PROGRESS, *words], None, None, (), None, None), tuple(read(words)))
+
+    def test_a_report(self) -> None:
+        for line in ("a.json asleep --report r", "--report=r a.json asleep"):
+            asked = read(line.split())
+            self.assertEqual(
+                (f"{PROGRESS} a.json asleep".split(), "r"), (asked.program, asked.report)
+            )
 
     def test_what_is_wrong(self) -> None:
         for line, why in (
             ("a.json asleep -o", "-o lacks its OUT"),
             ("a.json asleep --within", "--within lacks its SECONDS"),
+            ("a.json asleep --report", "--report lacks its FILE"),
             ("a.json asleep -o one -otwo", "-o stands twice"),
             ("--within 1 a.json asleep --within=2", "--within stands twice"),
             ("a.json asleep --within 0", "--within takes a number of seconds above 0, and not '0'"),

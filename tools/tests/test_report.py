@@ -1,13 +1,16 @@
-"""`hunt --report`: what came of a hunt, as SARIF."""
+"""`hunt --report` and `reach --report`: what came of a search, as SARIF."""
 import json
 import os
 import pathlib
+import subprocess
+import sys
 import tempfile
 import unittest
 from typing import Any, Dict, List
 
+from rdbg.reaching.asking import program
 from tests.hunts import said
-from tests.paths import EXAMPLES
+from tests.paths import COMPANION, EXAMPLES
 
 MEETING, MENDED = EXAMPLES / "meeting.json", EXAMPLES / "meeting_mended.json"
 
@@ -65,6 +68,44 @@ class Report(unittest.TestCase):
     def test_where_it_can_not_be_written(self) -> None:
         ran = said(str(MEETING), "asleep", "--report", "/nowhere/report.sarif")
         self.assertEqual(ran[0], 2)
+
+
+class Reach(unittest.TestCase):
+    """The report of `rdbg reach`."""
+
+    def result(self, status: int, *words: str) -> Dict[str, Any]:
+        """The result of a search that ends with this status."""
+        with tempfile.TemporaryDirectory() as folder:
+            path = pathlib.Path(folder) / "report.sarif"
+            asked = [sys.executable, "-B", str(COMPANION), "reach", *words, "--report", str(path)]
+            ran = subprocess.run(
+                asked, env={**os.environ, "RDBG_REACH": program()}, stdout=subprocess.PIPE
+            )
+            self.assertEqual(ran.returncode, status)
+            (result,) = json.loads(path.read_text())["runs"][0]["results"]
+        found: Dict[str, Any] = result
+        return found
+
+    def test_an_order(self) -> None:
+        result = self.result(1, str(MEETING), "asleep")
+        self.assertEqual(result["kind"], "fail")
+        self.assertEqual(len(result["codeFlows"][0]["threadFlows"][0]["locations"]), 8)
+
+    def test_behind_other_lines(self) -> None:
+        with tempfile.NamedTemporaryFile("w", suffix=".commands") as run:
+            run.write("step 0\nstep 1\n")
+            run.flush()
+            result = self.result(1, str(MEETING), "asleep", "--from", run.name)
+        self.assertEqual(result["properties"]["lines"][:2], ["step 0", "step 1"])
+        steps = result["codeFlows"][0]["threadFlows"][0]["locations"]
+        told = [it["location"]["message"]["text"] for it in steps]
+        self.assertEqual(result["properties"]["moves"], len(steps))
+        self.assertEqual([it.split()[1:3] for it in told[:2]], [["core", "0"], ["core", "1"]])
+        self.assertIn("waits without end", told[-1])
+
+    def test_none(self) -> None:
+        result = self.result(0, str(MENDED), "asleep")
+        self.assertEqual((result["kind"], result["message"]["text"]), ("pass", "asleep: never"))
 
 
 if __name__ == "__main__":

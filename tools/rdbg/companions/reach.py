@@ -17,8 +17,18 @@ from rdbg.goals.scope import Scope
 from rdbg.reaching import running, said
 from rdbg.reaching.asking import STOPPED
 from rdbg.reaching.handlers import handlers
-from rdbg.reaching.said import UNTOLD
-from rdbg.reaching.words import DEFINE, OUTPUT, PAGE, PROGRESS, WITHIN, Words, read
+from rdbg.reaching.said import UNTOLD, Answer
+from rdbg.reaching.words import (
+    DEFINE,
+    LOST,
+    OUTPUT,
+    PAGE,
+    PROGRESS,
+    REPORT,
+    WITHIN,
+    Words,
+    read,
+)
 
 SUMMARY = "answers whether some order of moves comes to a goal; that none does is a theorem"
 # What names the program.
@@ -34,8 +44,11 @@ def program() -> str:
 
 
 def check_output(asked: Words) -> None:
-    """Raises `Failure` where the order couldn't be written, or its page, before it is looked for."""
-    for option, path in ((OUTPUT, asked.output), (PAGE, asked.page)):
+    """Raises `Failure` where the order, its page or the report couldn't be written, before it is
+    looked for."""
+    if asked.report is not None and LOST in asked.program:
+        raise Failure(f"{REPORT} is of what an order leads to; {LOST} asks of a run", 2)
+    for option, path in ((OUTPUT, asked.output), (PAGE, asked.page), (REPORT, asked.report)):
         if path is None:
             continue
         if path == whole_file.STANDARD_OUTPUT:
@@ -60,7 +73,9 @@ def say(asked: Words, outcome: running.Outcome) -> int:
     if outcome.is_stopped and last is None:
         raise Failure("it was stopped before it could say how far it was", UNTOLD)
     if outcome.is_stopped:
-        print(*said.lines(said.stopped(last, surprises, STOPPED)), sep="\n")
+        answer = said.stopped(last, surprises, STOPPED)
+        print(*said.lines(answer), sep="\n")
+        write_report(asked, answer)
         return UNTOLD
     said.check(outcome.output, outcome.status, said.known(last, surprises))
     try:
@@ -69,9 +84,11 @@ def say(asked: Words, outcome: running.Outcome) -> int:
     finally:
         # (what was found isn't lost where it can't be written)
         sys.stdout.write(outcome.output)
-    if asked.page is not None and outcome.output:
+    if outcome.output:
         sys.stdout.flush()
-        write_page(asked, outcome.output, asked.page)
+        if asked.page is not None:
+            write_page(asked, outcome.output, asked.page)
+        write_report(asked, said.read(outcome.output.splitlines()))
     return outcome.status
 
 
@@ -81,6 +98,18 @@ def write_page(asked: Words, answered: str, path: str) -> None:
 
     file, *goal = (asked.program[at] for at in asked.plain())
     write(asked, source_of(asked, file), " ".join(goal), answered, path)
+
+
+def write_report(asked: Words, answer: Answer) -> None:
+    """Writes an answer as SARIF, where that was asked."""
+    if asked.report is None:
+        return
+    from rdbg.reaching.report import text_of  # (which takes its time)
+
+    file, *goal = (asked.program[at] for at in asked.plain())
+    text = text_of(source_of(asked, file), " ".join(goal), answer)
+    with whole_file.written(asked.report) as written:
+        written.write(text)
 
 
 def source_of(asked: Words, file: str) -> Source:
@@ -129,8 +158,8 @@ def become_engine(asked: Words, words: Sequence[str]) -> NoReturn:
     """Becomes the program, which answers lines where it is asked for no goal: nothing stands between.
     Raises `Failure` where it can't be started, and where something is asked that goes with a goal.
     """
-    if (asked.output, asked.seconds, asked.page) != (None, None, None):
-        raise Failure(f"{OUTPUT}, {WITHIN} and {PAGE} go with a goal", 2)
+    if (asked.output, asked.seconds, asked.page, asked.report) != (None, None, None, None):
+        raise Failure(f"{OUTPUT}, {WITHIN}, {PAGE} and {REPORT} go with a goal", 2)
     found = program()
     sys.stdout.flush()
     signal.signal(signal.SIGPIPE, signal.SIG_DFL)

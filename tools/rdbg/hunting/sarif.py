@@ -57,20 +57,17 @@ def step(source: Source, move: Move) -> Values:
     return {"location": where, "executionOrder": move.place}
 
 
-def moves_of(stage: Stage, find: Find) -> List[Move]:
-    """The moves of an order, which is made once more."""
-    stage.at_boot().tell_all(find.order.lines)
-    done = min(find.order.place, MOST_MOVES)
-    return list(look_through(stage.target, 1, done).moves) if done else []
-
-
-def found(source: Source, goal: str, stage: Stage, find: Find) -> Values:
-    """An order that was found."""
-    moves = moves_of(stage, find)
-    count = find.order.place
+def found(
+    source: Source, goal: str, stage: Stage, lines: Sequence[str], told: Sequence[str] = ()
+) -> Values:
+    """An order that was found, by the lines that make it from boot, with what is told of it."""
+    stage.at_boot().tell_all(lines)
+    count = stage.walk.place
+    last_told = min(count, MOST_MOVES)
+    moves = look_through(stage.target, 1, last_told).moves if count else ()
     said = f"{goal}: so behind {count} move{'' if count == 1 else 's'}"
-    if find.order.told:
-        said += f"; {'; '.join(find.order.told)}"
+    if told:
+        said += f"; {'; '.join(told)}"
     steps = [step(source, move) for move in moves]
     last = steps[-1]["location"]["physicalLocation"] if steps else physical(source.path, None)
     result: Values = {
@@ -79,7 +76,7 @@ def found(source: Source, goal: str, stage: Stage, find: Find) -> Values:
         "level": "error",
         "message": {"text": said},
         "locations": [{"physicalLocation": last}],
-        "properties": {"lines": list(find.order.lines), "moves": count},
+        "properties": {"lines": list(lines), "moves": count},
     }
     if steps:
         result["codeFlows"] = [{"threadFlows": [{"locations": steps}]}]
@@ -104,7 +101,7 @@ def results(
 ) -> Iterator[Values]:
     """What a search has come to: each find, or that there is none."""
     for find in finds:
-        yield found(source, goal, stage, find)
+        yield found(source, goal, stage, find.order.lines, find.order.told)
     if not finds:
         yield none(source, goal, answer)
 

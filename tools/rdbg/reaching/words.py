@@ -8,12 +8,13 @@ from rdbg.failure import Failure
 from rdbg.reaching.handlers import OPTION, Handler
 
 OUTPUT, WITHIN, SURPRISES, PAGE = "-o", "--within", "--surprises", "--page"
+REPORT, LOST = "--report", "--lost"
 # A const of a text in lines; it may stand more than once.
 DEFINE = "-D"
 # Has the program say how far it is, which it always does here.
 PROGRESS = "--progress"
 # What stands behind each of these, which the program doesn't know.
-OWN = {OUTPUT: "OUT", WITHIN: "SECONDS", PAGE: "OUT.html"}
+OWN = {OUTPUT: "OUT", WITHIN: "SECONDS", PAGE: "OUT.html", REPORT: "FILE"}
 # Options of the program behind which a value stands.
 VALUED = {
     *"--from --moves --pace --isr --times --after --apart --states --memory --part".split(),
@@ -31,6 +32,7 @@ class Words(NamedTuple):
     seconds: Optional[float]
     consts: Tuple[str, ...] = ()
     page: Optional[str] = None
+    report: Optional[str] = None
 
     def value(self, wanted: str) -> Optional[str]:
         """The value of an option of the program, the last where it stands more than once."""
@@ -114,7 +116,8 @@ def own(word: str) -> Tuple[str, Optional[str]]:
         value = word[len(OUTPUT) :]
         return OUTPUT, (value[1:] if value.startswith("=") else value) or None
     option, has_value, value = word.partition("=")
-    return (option, value if has_value else None) if option in (WITHIN, PAGE) else ("", None)
+    is_own = option in (WITHIN, PAGE, REPORT)
+    return (option, value if has_value else None) if is_own else ("", None)
 
 
 def read(words: Sequence[str]) -> Words:
@@ -141,7 +144,7 @@ def read(words: Sequence[str]) -> Words:
             raise Failure(f"{option} lacks its {OWN[option]}", 2)
         found[option] = left.pop(0) if value is None else value
     seconds_given = limit(found.get(WITHIN))
-    outputs = found.get(OUTPUT), seconds_given, tuple(consts), found.get(PAGE)
+    outputs = found.get(OUTPUT), seconds_given, tuple(consts), found.get(PAGE), found.get(REPORT)
     return Words(program + left, *outputs)
 
 
