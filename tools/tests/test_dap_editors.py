@@ -91,7 +91,7 @@ class Folders(Held):
         self.assertTrue((VSCODE / language["configuration"]).is_file())
         json.loads((VSCODE / language["configuration"]).read_text())
         breaks = [it["language"] for it in self.package["contributes"]["breakpoints"]]
-        self.assertEqual(breaks, [language["id"], "json"])
+        self.assertEqual(breaks, [language["id"], "json", "c"])
         self.assertEqual(breaks, self.debugger["languages"])
 
     def test_what_the_folder_starts_does_what_the_configurations_say(self) -> None:
