@@ -94,7 +94,7 @@ def say(asked: Words, outcome: running.Outcome) -> int:
 
 def write_page(asked: Words, answered: str, path: str) -> None:
     """Writes the page of the order in an answer, or of the run that was asked about."""
-    from rdbg.reaching.page import write  # (which takes its time)
+    from rdbg.tracing.answered import write  # (which takes its time)
 
     file, *goal = (asked.program[at] for at in asked.plain())
     write(asked, source_of(asked, file), " ".join(goal), answered, path)
@@ -104,10 +104,10 @@ def write_report(asked: Words, answer: Answer) -> None:
     """Writes an answer as SARIF, where that was asked."""
     if asked.report is None:
         return
-    from rdbg.reaching.report import text_of  # (which takes its time)
+    from rdbg.hunting import sarif  # (which takes its time)
 
     file, *goal = (asked.program[at] for at in asked.plain())
-    text = text_of(source_of(asked, file), " ".join(goal), answer)
+    text = sarif.of_answer(source_of(asked, file), " ".join(goal), answer)
     with whole_file.written(asked.report) as written:
         written.write(text)
 

@@ -111,3 +111,14 @@ def text_of(said: Sequence[Values]) -> str:
     driver = {"name": "rdbg", "rules": RULES}
     run = {"tool": {"driver": driver}, "results": list(said), "columnKind": "unicodeCodePoints"}
     return json.dumps({"$schema": SCHEMA, "version": VERSION, "runs": [run]}, indent=2) + "\n"
+
+
+def of_answer(source: Source, goal: str, answer: Answer) -> str:
+    """The report of an answer to whether a goal can come; its order is made by rdbg."""
+    if not answer.has_order:
+        return text_of([none(source, goal, answer)])
+    stage = Stage(source, ())
+    try:
+        return text_of([found(source, goal, stage, answer.order)])
+    finally:
+        stage.close()

@@ -348,7 +348,8 @@ class Room:
     def tell(self, text: str, but: Optional[Member] = None) -> None:
         """Tells all who are here, but for one."""
         notice = f"# {shown(text)}"
-        for member in self._members.values():
+        # (others may come and go meanwhile)
+        for member in list(self._members.values()):
             if member is not but:
                 member.hear(notice)
 

@@ -17,6 +17,8 @@ from rdbg.rooms.room import Room
 
 # A search ends after so many seconds, or with so many mebibytes.
 SECONDS, MEBIBYTES = 20.0, 256
+# How lines begin behind which a condition stands.
+WITH_A_CONDITION = (["until"], ["watch"], [record.BACK, "until"])
 
 
 def is_question(words: Sequence[str]) -> bool:
@@ -42,8 +44,8 @@ def goal_in(line: str, reply: str) -> Sequence[str]:
 def told(room: Room, line: str, reply: str) -> str:
     """A reply to a line; of one with a condition that is refused with what would be right."""
     words = line.split()
-    behind = words[2:] if words[:2] == [record.BACK, "until"] else words[1:]
-    if not reply.startswith("no ") or words[:1] not in (["until"], ["watch"], [record.BACK]):
+    behind = next((words[len(it) :] for it in WITH_A_CONDITION if words[: len(it)] == it), None)
+    if behind is None or not reply.startswith("no "):
         return reply
     try:
         counted(behind, Scope.of(room.app_source))
