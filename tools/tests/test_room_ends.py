@@ -63,16 +63,14 @@ class Ends(unittest.TestCase):
     def test_a_signal_that_another_thread_gets(self) -> None:
         with room("--web", "0", sessions=2) as here:
             number = here.process.pid
-            others: List[str] = []
 
-            def are_there() -> bool:
-                others[:] = set(os.listdir(f"/proc/{number}/task")) - {str(number)}
-                return bool(others)
+            def is_told() -> bool:
+                others = set(os.listdir(f"/proc/{number}/task")) - {str(number)}
+                tell = ctypes.CDLL(None).syscall
+                return any(tell(TGKILL, number, int(it), int(signal.SIGTERM)) == 0 for it in others)
 
-            until(are_there)
             time.sleep(0.2)  # (the room waits for somebody to come)
-            said = ctypes.CDLL(None).syscall(TGKILL, number, int(others[0]), int(signal.SIGTERM))
-            self.assertEqual(0, said)
+            until(is_told)
             self.assertEqual(0, here.end(0))
 
     def test_a_talk_is_complete_however_it_ends(self) -> None:
@@ -162,20 +160,22 @@ class Ends(unittest.TestCase):
         until(lambda: not os.path.exists(f"/proc/{child}"))
 
     def test_one_whose_program_answers_no_more(self) -> None:
-        with room(sessions=2) as here, Caller(here.port, "left") as left:
-            child = child_of(here.process.pid)
-            os.kill(int(child), signal.SIGSTOP)
-            left.send("tick")
+        for line in ("tick", None):
+            with self.subTest(line), room(sessions=2) as here, Caller(here.port, "left") as left:
+                child = child_of(here.process.pid)
+                os.kill(int(child), signal.SIGSTOP)
+                if line is not None:
+                    left.send(line)
 
-            def is_over() -> bool:
-                here.process.send_signal(signal.SIGINT)
-                time.sleep(0.2)
-                return here.process.poll() is not None
+                def is_over() -> bool:
+                    here.process.send_signal(signal.SIGINT)
+                    time.sleep(0.2)
+                    return here.process.poll() is not None
 
-            until(is_over)
-            # (a signal more can come when Python has ended)
-            self.assertIn(here.end(0), (130, -signal.SIGINT))
-            until(lambda: not os.path.exists(f"/proc/{child}"))
+                until(is_over)
+                # (a signal more can come when Python has ended)
+                self.assertIn(here.end(0), (130, -signal.SIGINT), here.errors)
+                until(lambda: not os.path.exists(f"/proc/{child}"))
 
     def test_a_program_that_ends_before(self) -> None:
         with room(sessions=2) as here, Caller(here.port, "left") as left:

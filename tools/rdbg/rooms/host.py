@@ -164,7 +164,9 @@ class Host:
         return ""
 
     def _errors_said(self) -> str:
-        """The last line that it said on standard error."""
+        """The last line that it said on standard error; empty where it was closed before."""
+        if self._errors.closed:
+            return ""
         self._errors.seek(0)
         said = self._errors.read().decode("utf-8", "replace").strip().splitlines()
         return said[-1] if said else ""
