@@ -4,7 +4,7 @@ import functools
 import re
 
 from functions import functions_of, homes_in
-from spans import Body, body_of, in_order, words_of
+from spans import body_of, in_order, words_of
 
 NUMBER, TEXT = re.compile(r"\d"), re.compile(r"b?[\"']")
 CONSTANT = re.compile(r"[A-Z][A-Z0-9_]+$")

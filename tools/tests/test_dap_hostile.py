@@ -6,7 +6,6 @@ import socket
 import unittest
 from typing import Any, List, Tuple
 
-from rdbg.adapter.framing import MOST_BODY
 from rdbg.adapter.server import REQUESTS
 from tests.dap_client import Client, Message, editor, started
 from tests.dap_schema import Held

@@ -6,7 +6,6 @@ import sys
 import time
 import unittest
 from typing import Iterator, List, Tuple
-from unittest import mock
 
 from rdbg.client import Session
 from tests.dap_client import ALL, Client, Message, editor, started

@@ -10,7 +10,7 @@ from typing import List, Tuple
 from rdbg.rooms.room import Member, Room
 from rdbg.rooms.talk import Talk
 from rdbg.files.source import load
-from tests.paths import COMPANION, EXAMPLES
+from tests.paths import COMPANION
 from tests.rooms import LOST, Caller, Process, room, rows, talk
 from tests.shell_terminal import PROMPT, Terminal
 

@@ -1,5 +1,4 @@
 """`rdbg test`: what is said of cases, what is refused, the report, and how it ends."""
-import contextlib
 import io
 import os
 import pathlib

@@ -1,7 +1,7 @@
 """What an editor's user sets to be stopped at: lines, names and conditions, variables, failures."""
 import dataclasses
 import re
-from typing import Callable, Dict, List, Optional, Sequence, Tuple
+from typing import Callable, Dict, List, Sequence, Tuple
 
 from rdbg import commands, instructions
 from rdbg.adapter.losing import Loses

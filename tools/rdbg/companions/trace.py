@@ -38,9 +38,8 @@ def parser() -> argparse.ArgumentParser:
         metavar="GOAL",
         help="marks the move behind which it could come no more, in rows or in the page, and says it",
     )
-    place = bounded(0)
-    made.add_argument("--from", dest="first", type=place, metavar="N", help="from place N on")
-    made.add_argument("--to", dest="last", type=place, metavar="N", help="up to place N")
+    made.add_argument("--from", dest="first", type=bounded(0), metavar="N", help="from place N on")
+    made.add_argument("--to", dest="last", type=bounded(0), metavar="N", help="up to place N")
     made.add_argument(
         "--events", metavar="OUT", help="writes Chrome trace events to OUT; - is standard output"
     )

@@ -2,7 +2,7 @@
 flow."""
 import json
 import os
-from typing import Any, Dict, Iterator, List, Optional, Sequence
+from typing import Any, Dict, Iterator, Optional, Sequence
 
 from rdbg.application import Application
 from rdbg.driving.parts import look_through
