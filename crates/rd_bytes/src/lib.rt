@@ -1,5 +1,5 @@
 //! Bytes that lie in the value itself, bytes that are read and changed at their end, and the
-//! refusal of a growth.
+//! refusal of a growth. Page: `docs/decisions/KEPT_BYTES.md`.
 #![tactic(auto)]
 
 pub mod byte_stack;

@@ -1,4 +1,6 @@
 //! The commands of a session, and what they name of an application.
+//! Page: `docs/COMMANDS.md`. Definitions in reading order (`specs/`): `Digits`, `Keywords`,
+//! `Demands`, `Forms`, `Commands`, `Bindings`, `Recents`, `Tables`.
 #![tactic(auto)]
 
 pub mod binding;

@@ -1,4 +1,5 @@
 //! A sequential debugger of many sessions, with its history: who did what, and what was replied.
+//! Page: `docs/decisions/SESSIONS.md`.
 #![tactic(auto)]
 
 pub mod asked;

@@ -1,4 +1,5 @@
 //! Edits: what is changed by hand.
+//! Page: `docs/MODEL.md`. Definitions in reading order (`specs/`): `Edits`, `EditLaws`.
 #![tactic(auto)]
 
 pub mod edit;

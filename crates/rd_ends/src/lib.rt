@@ -1,4 +1,5 @@
 //! Where bytes come from, and where they go, and whether a call there has failed.
+//! Page: `docs/ARCHITECTURE.md`. Definitions in reading order (`specs/`): `Ends`.
 #![tactic(auto)]
 
 pub mod ends;

@@ -1,5 +1,6 @@
 //! One debugger behind one lock, for several sessions: a session has a receipt for each entry of
 //! its own, and at the end all receipts are tested against the history.
+//! Page: `docs/decisions/SESSIONS.md`.
 #![tactic(auto)]
 
 pub mod account;

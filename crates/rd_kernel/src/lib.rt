@@ -1,4 +1,6 @@
 //! What every call of the kernel stands on: single changes of tasks, block times, waking, outcomes.
+//! Page: `docs/MODEL.md`. Definitions in reading order (`specs/`): `Tasks`, `Waking`, `Outcomes`,
+//! `Telling`, `Holding`, `Costs`.
 #![tactic(auto)]
 
 pub mod calling;

@@ -1,4 +1,5 @@
 //! The program: its words, one session over standard input and output, and many over connections.
+//! Page: `docs/FORMATS.md`. Definitions in reading order (`specs/`): `Running`.
 #![tactic(auto)]
 
 ghost use Rattle.std.specs.Prelude.{◌≡◌, ◌≢◌, ◌≤◌, length, map, string_bytes, IfErr};

@@ -1,5 +1,5 @@
 //! What the things of an application are called, and the application itself: what runs, with the
-//! names of it.
+//! names of it. Page: `docs/decisions/WORDS.md`.
 #![tactic(auto)]
 
 pub mod app;

@@ -1,4 +1,5 @@
 //! Sessions over connections.
+//! Page: `docs/TOGETHER.md`. Definitions in reading order (`specs/`): `Attending`, `Refused`.
 #![tactic(auto)]
 
 mod caller;

@@ -1,4 +1,5 @@
 //! Direct-to-task notifications.
+//! Page: `docs/MODEL.md`. Definitions in reading order (`specs/`): `Entries`, `Words`.
 #![tactic(auto)]
 
 pub mod action;

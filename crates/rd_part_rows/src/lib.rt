@@ -1,5 +1,5 @@
 //! Tests of the parts that cross crates: rings, items of queues, states at their limits, moves,
-//! records and the way back, over applications that are read from files.
+//! records and the way back, over applications that are read from files. Page: `docs/GATE.md`.
 #![tactic(auto)]
 
 #[cfg(test)]

@@ -1,4 +1,6 @@
 //! Queues of items of one size, and sets of queues, with the tasks that wait at them.
+//! Page: `docs/MODEL.md`. Definitions in reading order (`specs/`): `QueueSnapshot`, `Queues`,
+//! `QueueSetSnapshot`, `QueueSets`.
 #![tactic(auto)]
 
 pub mod change;

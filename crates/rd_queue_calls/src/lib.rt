@@ -1,5 +1,7 @@
 //! The calls of queues and of queue sets: what each does to its object, whom it wakes, and when it
 //! waits.
+//! Page: `docs/MODEL.md`. Definitions in reading order (`specs/`): `Posts`, `QueueCalls`,
+//! `QueueSetCalls`.
 #![tactic(auto)]
 
 pub mod calls;

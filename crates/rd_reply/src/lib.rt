@@ -1,4 +1,5 @@
 //! The texts of replies and views.
+//! Page: `docs/FORMATS.md`. Definitions in reading order (`specs/`): `Names`, `Pages`, `Replies`.
 #![tactic(auto)]
 
 pub mod buffers;

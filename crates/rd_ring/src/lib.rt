@@ -1,4 +1,6 @@
 //! A ring of bytes.
+//! Page: `docs/decisions/KEPT_BYTES.md`. Definitions in reading order (`specs/`): `Memory`,
+//! `RingView`, `Rings`.
 #![tactic(auto)]
 
 mod memory;

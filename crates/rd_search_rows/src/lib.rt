@@ -1,5 +1,5 @@
 //! Tests of searches, which cross crates: the words of goals and questions, what is gone through, and
-//! where a goal is lost.
+//! where a goal is lost. Page: `docs/REACHING.md`.
 #![tactic(auto)]
 
 #[cfg(test)]

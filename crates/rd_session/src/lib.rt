@@ -1,4 +1,6 @@
 //! A session: it reads lines, asks a hall for what they spell, and answers each.
+//! Page: `docs/FORMATS.md`. Definitions in reading order (`specs/`): `BuffersView`, `Calls`,
+//! `Lines`, `Replies`, `Answers`, `Gathering`, `Hearing`.
 #![tactic(auto)]
 
 pub mod buffers;

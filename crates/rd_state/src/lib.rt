@@ -1,4 +1,6 @@
 //! The state of the target, its primitive changes, and records that undo them.
+//! Page: `docs/MODEL.md`. Definitions in reading order (`specs/`): `Phases`, `Objects`, `Snapshot`,
+//! `Waiting`, `Settled`, `Boot`, `Sizes`, `Valid`.
 #![tactic(auto)]
 
 mod boot;

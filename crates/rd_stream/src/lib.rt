@@ -1,4 +1,6 @@
 //! Stream buffers and message buffers, each with a place for one reader and one for one writer.
+//! Page: `docs/MODEL.md`. Definitions in reading order (`specs/`): `Holders`, `StreamSnapshot`,
+//! `Streams`, `MessageSnapshot`, `Messages`.
 #![tactic(auto)]
 
 pub mod holders;

@@ -1,4 +1,5 @@
 //! The moves made so far, the way back through them, and the state that they give.
+//! Page: `docs/ARCHITECTURE.md`.
 #![tactic(auto)]
 
 pub mod answering;
