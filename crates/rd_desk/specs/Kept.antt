@@ -10,7 +10,7 @@ use Rattle.rd_desk.specs.declared.kept.Kept.{Kept}
 use Rattle.rd_desk.specs.declared.kept.Kept.TheVariants as kept
 use Rattle.rd_desk.specs.declared.kept.Kind.{Kind}
 use Rattle.rd_desk.specs.declared.kept.Kind.TheVariants as kind
-use Rattle.rd_desk.specs.declared.kept.Packed.{Packed}
+use Rattle.rd_desk.specs.declared.kept.PackedReply.{PackedReply}
 use Rattle.rd_desk.specs.declared.reply.Reply.{Reply}
 use Rattle.rd_desk.specs.declared.reply.Reply.TheVariants.{Done, Told, Shown}
 use Rattle.rd_desk.specs.HistoryView.{reply_bytes}
@@ -69,7 +69,7 @@ kept_of kind.Held first second third = kept.Held first
 kept_of (kind.Refused cause) first second third = kept.Refused cause
 kept_of kind.Shown first second third = kept.Shown (wide first second)
 
-abbrev pub packed_kept : Packed → Kept
+abbrev pub packed_kept : PackedReply → Kept
 packed_kept packed = kept_of packed.kind packed.first packed.second packed.third
 
 -- where the line ends in bytes from one place to another

@@ -72,7 +72,7 @@ pub(crate) enum Kind {
 /// The same in pieces that fit a row: three numbers of 32 bits, of which the first two may be the
 /// halves of one of 64, the lower one first. A number that the kind doesn't have is 0.
 #[derive(Clone, Copy, PartialEq, Eq)]
-pub(crate) struct Packed {
+pub(crate) struct PackedReply {
     pub(crate) first: u32,
     pub(crate) second: u32,
     pub(crate) third: u32,
@@ -80,18 +80,18 @@ pub(crate) struct Packed {
 }
 
 // A kind that has no number.
-fn plain(kind: Kind) -> Packed
+fn plain(kind: Kind) -> PackedReply
     ensures kind { result.kind ≡ kind }
 {
     narrow(kind, 0)
 }
 
 // A kind with a number of 32 bits.
-fn narrow(kind: Kind, number: u32) -> Packed
+fn narrow(kind: Kind, number: u32) -> PackedReply
     ensures kind { result.kind ≡ kind }
     ensures number { result.first ≡ number }
 {
-    Packed {
+    PackedReply {
         first: number,
         second: 0,
         third: 0,
@@ -100,12 +100,12 @@ fn narrow(kind: Kind, number: u32) -> Packed
 }
 
 // A kind with a number of 64 bits, and one of 32.
-fn wide(kind: Kind, number: usize, third: u32) -> Packed
+fn wide(kind: Kind, number: usize, third: u32) -> PackedReply
     ensures kind { result.kind ≡ kind }
     ensures number { wide result.first result.second ≡ number }
     ensures third { result.third ≡ third }
 {
-    Packed {
+    PackedReply {
         first: (number % (1 << 32)) as u32,
         second: (number / (1 << 32)) as u32,
         third,
@@ -114,14 +114,14 @@ fn wide(kind: Kind, number: usize, third: u32) -> Packed
 }
 
 // What is kept of a refusal without a number.
-fn refused(cause: Cause) -> Packed
+fn refused(cause: Cause) -> PackedReply
     ensures { packed_kept result ≡ Kept.Refused cause }
 {
     plain(Kind::Refused { cause })
 }
 
 // What is kept of a refusal.
-fn pack_refusal(refusal: Refusal) -> Packed
+fn pack_refusal(refusal: Refusal) -> PackedReply
     ensures { IsKeptOf (packed_kept result) 0 (Reply.Told (Short.Refused refusal)) }
 {
     match refusal {
@@ -147,7 +147,7 @@ fn pack_refusal(refusal: Refusal) -> Packed
 }
 
 // What is kept of who has the wheel.
-fn pack_holder(holder: Option<u32>) -> Packed
+fn pack_holder(holder: Option<u32>) -> PackedReply
     ensures { packed_kept result ≡ Kept.Holder holder }
 {
     match holder {
@@ -157,7 +157,7 @@ fn pack_holder(holder: Option<u32>) -> Packed
 }
 
 // What is kept of a reply in a few words.
-fn pack_told(told: &Short) -> Packed
+fn pack_told(told: &Short) -> PackedReply
     requires { IsNarrowTold told.now }
     ensures { IsKeptOf (packed_kept result) 0 (Reply.Told told.now) }
 {
@@ -165,7 +165,7 @@ fn pack_told(told: &Short) -> Packed
         Short::Done { at } => wide(Kind::Reached, *at, 0),
         Short::Answered { at, answer } => wide(Kind::Answered, *at, *answer),
         Short::Ended { at, end } => wide(Kind::Ended { end: *end }, *at, 0),
-        Short::Moves { done, undone, kept } => Packed {
+        Short::Moves { done, undone, kept } => PackedReply {
             first: *done as u32,
             second: *undone as u32,
             third: *kept as u32,
@@ -178,9 +178,9 @@ fn pack_told(told: &Short) -> Packed
     }
 }
 
-impl Packed {
+impl PackedReply {
     /// What is kept of a reply behind a line of so many bytes.
-    pub(crate) fn of(line: usize, reply: &Reply) -> Packed
+    pub(crate) fn of(line: usize, reply: &Reply) -> PackedReply
         requires { IsNarrow reply.now }
         ensures { IsKeptOf (packed_kept result) line reply.now }
     {

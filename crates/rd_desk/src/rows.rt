@@ -12,7 +12,7 @@ ghost use Rattle.rd_desk.specs.RowsInside.{IsPlaced, IsRowOf, SaySame};
 
 use crate::asked::{Asked, are_same_command};
 use crate::entry::{Event, Noted};
-use crate::kept::{Kind, Packed};
+use crate::kept::{Kind, PackedReply};
 use crate::reply::Reply;
 use rd_bytes::no_memory::NoMemory;
 use std::alloc::Global;
@@ -56,7 +56,7 @@ struct Placed<'a> {
 struct Unpacked<'a> {
     deed: Deed,
     line: &'a [u8],
-    packed: Packed,
+    packed: PackedReply,
     text: &'a [u8],
 }
 
@@ -105,7 +105,7 @@ fn append_reserved(bytes: &mut Vec<u8>, more: &[u8])
 
 impl Row {
     // Of what is kept, with where its bytes end.
-    fn new(end: usize, number: u32, deed: Deed, packed: Packed) -> Row
+    fn new(end: usize, number: u32, deed: Deed, packed: PackedReply) -> Row
         ensures end { row_end result ≡ end }
         ensures number { result.number ≡ number }
         ensures deed { result.deed ≡ deed }
@@ -131,7 +131,7 @@ impl Row {
     }
 
     // What is kept of its reply.
-    fn packed(&self) -> Packed
+    fn packed(&self) -> PackedReply
         ensures { result ≡ record {
           first = self.now.first;
           second = self.now.second;
@@ -139,7 +139,7 @@ impl Row {
           kind = self.now.kind;
         } }
     {
-        Packed {
+        PackedReply {
             first: self.first,
             second: self.second,
             third: self.third,
@@ -385,7 +385,7 @@ impl Rows {
     {
         append_reserved(&mut self.bytes, line);
         append_reserved(&mut self.bytes, reply_bytes(reply));
-        let packed = Packed::of(line.len(), reply);
+        let packed = PackedReply::of(line.len(), reply);
         self.rows
             .push_reserved(Row::new(self.bytes.len(), number, deed, packed));
     }
