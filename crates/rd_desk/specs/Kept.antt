@@ -8,8 +8,8 @@ use Rattle.rd_desk.specs.declared.kept.Cause.{Cause}
 use Rattle.rd_desk.specs.declared.kept.Cause.TheVariants as cause
 use Rattle.rd_desk.specs.declared.kept.Kept.{Kept}
 use Rattle.rd_desk.specs.declared.kept.Kept.TheVariants as kept
-use Rattle.rd_desk.specs.declared.kept.Kind.{Kind}
-use Rattle.rd_desk.specs.declared.kept.Kind.TheVariants as kind
+use Rattle.rd_desk.specs.declared.kept.KeptKind.{KeptKind}
+use Rattle.rd_desk.specs.declared.kept.KeptKind.TheVariants as kind
 use Rattle.rd_desk.specs.declared.kept.PackedReply.{PackedReply}
 use Rattle.rd_desk.specs.declared.reply.Reply.{Reply}
 use Rattle.rd_desk.specs.declared.reply.Reply.TheVariants.{Done, Told, Shown}
@@ -54,7 +54,7 @@ abbrev pub wide : ℕ → ℕ → ℕ
 wide low high = low + 4294967296 * high
 
 -- what is kept, by its kind and its numbers
-abbrev pub kept_of : Kind → ℕ → ℕ → ℕ → Kept
+abbrev pub kept_of : KeptKind → ℕ → ℕ → ℕ → Kept
 kept_of kind.Done first second third = kept.Done
 kept_of kind.Reached first second third = kept.Reached (wide first second)
 kept_of kind.Answered first second third = kept.Answered third (wide first second)

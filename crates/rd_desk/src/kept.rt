@@ -53,7 +53,7 @@ pub(crate) enum Kept {
 
 /// Which reply it is, with what of it isn't a number.
 #[derive(Clone, Copy, PartialEq, Eq)]
-pub(crate) enum Kind {
+pub(crate) enum KeptKind {
     Done,
     Reached,
     Answered,
@@ -76,18 +76,18 @@ pub(crate) struct PackedReply {
     pub(crate) first: u32,
     pub(crate) second: u32,
     pub(crate) third: u32,
-    pub(crate) kind: Kind,
+    pub(crate) kind: KeptKind,
 }
 
 // A kind that has no number.
-fn plain(kind: Kind) -> PackedReply
+fn plain(kind: KeptKind) -> PackedReply
     ensures kind { result.kind ≡ kind }
 {
     narrow(kind, 0)
 }
 
 // A kind with a number of 32 bits.
-fn narrow(kind: Kind, number: u32) -> PackedReply
+fn narrow(kind: KeptKind, number: u32) -> PackedReply
     ensures kind { result.kind ≡ kind }
     ensures number { result.first ≡ number }
 {
@@ -100,7 +100,7 @@ fn narrow(kind: Kind, number: u32) -> PackedReply
 }
 
 // A kind with a number of 64 bits, and one of 32.
-fn wide(kind: Kind, number: usize, third: u32) -> PackedReply
+fn wide(kind: KeptKind, number: usize, third: u32) -> PackedReply
     ensures kind { result.kind ≡ kind }
     ensures number { wide result.first result.second ≡ number }
     ensures third { result.third ≡ third }
@@ -117,7 +117,7 @@ fn wide(kind: Kind, number: usize, third: u32) -> PackedReply
 fn refused(cause: Cause) -> PackedReply
     ensures { packed_kept result ≡ Kept.Refused cause }
 {
-    plain(Kind::Refused { cause })
+    plain(KeptKind::Refused { cause })
 }
 
 // What is kept of a refusal.
@@ -127,10 +127,10 @@ fn pack_refusal(refusal: Refusal) -> PackedReply
     match refusal {
         Refusal::NoTask => refused(Cause::NoTask),
         Refusal::TickLimit => refused(Cause::TickLimit),
-        Refusal::TooFar { kept } => wide(Kind::TooFar, kept, 0),
+        Refusal::TooFar { kept } => wide(KeptKind::TooFar, kept, 0),
         Refusal::NothingUndone => refused(Cause::NothingUndone),
         Refusal::MovesFull => refused(Cause::MovesFull),
-        Refusal::Held { holder } => narrow(Kind::Held, holder),
+        Refusal::Held { holder } => narrow(KeptKind::Held, holder),
         Refusal::NoSuch => refused(Cause::NoSuch),
         Refusal::BadEdit => refused(Cause::BadEdit),
         Refusal::NoIsr => refused(Cause::NoIsr),
@@ -151,8 +151,8 @@ fn pack_holder(holder: Option<u32>) -> PackedReply
     ensures { packed_kept result ≡ Kept.Holder holder }
 {
     match holder {
-        Some(holder) => narrow(Kind::Holder, holder),
-        None => plain(Kind::Nobody),
+        Some(holder) => narrow(KeptKind::Holder, holder),
+        None => plain(KeptKind::Nobody),
     }
 }
 
@@ -162,18 +162,18 @@ fn pack_told(told: &Short) -> PackedReply
     ensures { IsKeptOf (packed_kept result) 0 (Reply.Told told.now) }
 {
     match told {
-        Short::Done { at } => wide(Kind::Reached, *at, 0),
-        Short::Answered { at, answer } => wide(Kind::Answered, *at, *answer),
-        Short::Ended { at, end } => wide(Kind::Ended { end: *end }, *at, 0),
+        Short::Done { at } => wide(KeptKind::Reached, *at, 0),
+        Short::Answered { at, answer } => wide(KeptKind::Answered, *at, *answer),
+        Short::Ended { at, end } => wide(KeptKind::Ended { end: *end }, *at, 0),
         Short::Moves { done, undone, kept } => PackedReply {
             first: *done as u32,
             second: *undone as u32,
             third: *kept as u32,
-            kind: Kind::Moves,
+            kind: KeptKind::Moves,
         },
-        Short::Wheel => plain(Kind::Wheel),
+        Short::Wheel => plain(KeptKind::Wheel),
         Short::Holder { holder } => pack_holder(*holder),
-        Short::Watch { number } => wide(Kind::Watch, *number, 0),
+        Short::Watch { number } => wide(KeptKind::Watch, *number, 0),
         Short::Refused { refusal } => pack_refusal(*refusal),
     }
 }
@@ -185,9 +185,9 @@ impl PackedReply {
         ensures { IsKeptOf (packed_kept result) line reply.now }
     {
         match reply {
-            Reply::Done => plain(Kind::Done),
+            Reply::Done => plain(KeptKind::Done),
             Reply::Told { told } => pack_told(told),
-            Reply::Shown { .. } => wide(Kind::Shown, line, 0),
+            Reply::Shown { .. } => wide(KeptKind::Shown, line, 0),
         }
     }
 
@@ -203,35 +203,35 @@ impl PackedReply {
         ensures { result ≡ packed_kept self.now }
     {
         match self.kind {
-            Kind::Done => Kept::Done,
-            Kind::Reached => Kept::Reached { at: self.number() },
-            Kind::Answered => Kept::Answered {
+            KeptKind::Done => Kept::Done,
+            KeptKind::Reached => Kept::Reached { at: self.number() },
+            KeptKind::Answered => Kept::Answered {
                 answer: self.third,
                 at: self.number(),
             },
-            Kind::Ended { end } => Kept::Ended {
+            KeptKind::Ended { end } => Kept::Ended {
                 end,
                 at: self.number(),
             },
-            Kind::Moves => Kept::Moves {
+            KeptKind::Moves => Kept::Moves {
                 done: self.first,
                 undone: self.second,
                 kept: self.third,
             },
-            Kind::Wheel => Kept::Wheel,
-            Kind::Nobody => Kept::Holder { holder: None },
-            Kind::Holder => Kept::Holder {
+            KeptKind::Wheel => Kept::Wheel,
+            KeptKind::Nobody => Kept::Holder { holder: None },
+            KeptKind::Holder => Kept::Holder {
                 holder: Some(self.first),
             },
-            Kind::Watch => Kept::Watch {
+            KeptKind::Watch => Kept::Watch {
                 number: self.number(),
             },
-            Kind::TooFar => Kept::TooFar {
+            KeptKind::TooFar => Kept::TooFar {
                 kept: self.number(),
             },
-            Kind::Held => Kept::Held { holder: self.first },
-            Kind::Refused { cause } => Kept::Refused { cause },
-            Kind::Shown => Kept::Shown {
+            KeptKind::Held => Kept::Held { holder: self.first },
+            KeptKind::Refused { cause } => Kept::Refused { cause },
+            KeptKind::Shown => Kept::Shown {
                 line: self.number(),
             },
         }

@@ -12,7 +12,7 @@ ghost use Rattle.rd_desk.specs.RowsInside.{IsPlaced, IsRowOf, SaySame};
 
 use crate::asked::{Asked, are_same_command};
 use crate::entry::{Event, Noted};
-use crate::kept::{Kind, PackedReply};
+use crate::kept::{KeptKind, PackedReply};
 use crate::reply::Reply;
 use rd_bytes::no_memory::NoMemory;
 use std::alloc::Global;
@@ -41,7 +41,7 @@ struct Row {
     low_end: u32,
     high_end: u32,
     deed: Deed,
-    kind: Kind,
+    kind: KeptKind,
 }
 
 // A row with its bytes.
@@ -187,7 +187,7 @@ fn is_same_reply(one: Unpacked<'_>, other: Unpacked<'_>) -> bool
         ↔ (reply_kept (packed_kept one.entry.packed) one.entry.text.now
         ≡ reply_kept (packed_kept other.entry.packed) other.entry.text.now) }
 {
-    if let (Kind::Shown, Kind::Shown) = (one.packed.kind, other.packed.kind) {
+    if let (KeptKind::Shown, KeptKind::Shown) = (one.packed.kind, other.packed.kind) {
         one.text == other.text
     } else {
         one.packed.kept() == other.packed.kept()
@@ -199,7 +199,7 @@ impl<'a> Placed<'a> {
     fn line_len(self) -> usize
         ensures { result ≡ line_size self.entry.row.now self.entry.bytes.now }
     {
-        if let Kind::Shown = self.row.kind {
+        if let KeptKind::Shown = self.row.kind {
             self.row.packed().number()
         } else {
             self.bytes.len()

@@ -3,7 +3,7 @@ use Rattle.std.proofs.Common.{◌≡◌, ◌∙◌, ◌<◌, List, ℕ, ap, arit
 use Rattle.std.specs.Prelude.{Some, get_or, slice_get, slice_range}
 use Rattle.std.proofs.lemmas.Option.{slice_get-get_or}
 use Rattle.rd_desk.specs.declared.entry.Noted.{Noted}
-use Rattle.rd_desk.specs.declared.kept.Kind.TheVariants as kind
+use Rattle.rd_desk.specs.declared.kept.KeptKind.TheVariants as kind
 use Rattle.rd_desk.specs.declared.rows.Deed.TheVariants.{Enter}
 use Rattle.rd_desk.specs.declared.rows.Row.{Row}
 use Rattle.rd_desk.specs.declared.rows.Rows.TheInside.{Inside}
