@@ -4,8 +4,8 @@ use Rattle.rd_refusal.specs.declared.refusal.Refusal.{Refusal}
 use Rattle.rd_refusal.specs.declared.refusal.Refusal.TheVariants as refusal
 use Rattle.rd_reply.specs.declared.reply.Reply.TheVariants as told
 use Rattle.rd_reply.specs.declared.reply.Reply as short
-use Rattle.rd_desk.specs.declared.kept.Cause.{Cause}
-use Rattle.rd_desk.specs.declared.kept.Cause.TheVariants as cause
+use Rattle.rd_desk.specs.declared.kept.RefusalCause.{RefusalCause}
+use Rattle.rd_desk.specs.declared.kept.RefusalCause.TheVariants as cause
 use Rattle.rd_desk.specs.declared.kept.Kept.{Kept}
 use Rattle.rd_desk.specs.declared.kept.Kept.TheVariants as kept
 use Rattle.rd_desk.specs.declared.kept.KeptKind.{KeptKind}
@@ -16,7 +16,7 @@ use Rattle.rd_desk.specs.declared.reply.Reply.TheVariants.{Done, Told, Shown}
 use Rattle.rd_desk.specs.HistoryView.{reply_bytes}
 
 -- the refusal of a cause
-abbrev pub cause_refusal : Cause → Refusal
+abbrev pub cause_refusal : RefusalCause → Refusal
 cause_refusal cause.NoTask = refusal.NoTask
 cause_refusal cause.TickLimit = refusal.TickLimit
 cause_refusal cause.NothingUndone = refusal.NothingUndone

@@ -15,7 +15,7 @@ use std::alloc::Global;
 
 /// Why a command was refused, where no number goes with the refusal.
 #[derive(Clone, Copy, PartialEq, Eq)]
-pub(crate) enum Cause {
+pub(crate) enum RefusalCause {
     NoTask,
     TickLimit,
     NothingUndone,
@@ -47,7 +47,7 @@ pub(crate) enum Kept {
     Watch { number: usize },
     TooFar { kept: usize },
     Held { holder: u32 },
-    Refused { cause: Cause },
+    Refused { cause: RefusalCause },
     Shown { line: usize },
 }
 
@@ -65,7 +65,7 @@ pub(crate) enum KeptKind {
     Watch,
     TooFar,
     Held,
-    Refused { cause: Cause },
+    Refused { cause: RefusalCause },
     Shown,
 }
 
@@ -114,7 +114,7 @@ fn wide(kind: KeptKind, number: usize, third: u32) -> PackedReply
 }
 
 // What is kept of a refusal without a number.
-fn refused(cause: Cause) -> PackedReply
+fn refused(cause: RefusalCause) -> PackedReply
     ensures { packed_kept result ≡ Kept.Refused cause }
 {
     plain(KeptKind::Refused { cause })
@@ -125,24 +125,24 @@ fn pack_refusal(refusal: Refusal) -> PackedReply
     ensures { IsKeptOf (packed_kept result) 0 (Reply.Told (Short.Refused refusal)) }
 {
     match refusal {
-        Refusal::NoTask => refused(Cause::NoTask),
-        Refusal::TickLimit => refused(Cause::TickLimit),
+        Refusal::NoTask => refused(RefusalCause::NoTask),
+        Refusal::TickLimit => refused(RefusalCause::TickLimit),
         Refusal::TooFar { kept } => wide(KeptKind::TooFar, kept, 0),
-        Refusal::NothingUndone => refused(Cause::NothingUndone),
-        Refusal::MovesFull => refused(Cause::MovesFull),
+        Refusal::NothingUndone => refused(RefusalCause::NothingUndone),
+        Refusal::MovesFull => refused(RefusalCause::MovesFull),
         Refusal::Held { holder } => narrow(KeptKind::Held, holder),
-        Refusal::NoSuch => refused(Cause::NoSuch),
-        Refusal::BadEdit => refused(Cause::BadEdit),
-        Refusal::NoIsr => refused(Cause::NoIsr),
-        Refusal::HistoryFull => refused(Cause::HistoryFull),
-        Refusal::NoMemory => refused(Cause::NoMemory),
-        Refusal::Syntax => refused(Cause::Syntax),
-        Refusal::LineTooLong => refused(Cause::LineTooLong),
-        Refusal::WatchesFull => refused(Cause::WatchesFull),
-        Refusal::NoWatch => refused(Cause::NoWatch),
-        Refusal::NotHolder => refused(Cause::NotHolder),
-        Refusal::Broken => refused(Cause::Broken),
-        Refusal::Full => refused(Cause::Full),
+        Refusal::NoSuch => refused(RefusalCause::NoSuch),
+        Refusal::BadEdit => refused(RefusalCause::BadEdit),
+        Refusal::NoIsr => refused(RefusalCause::NoIsr),
+        Refusal::HistoryFull => refused(RefusalCause::HistoryFull),
+        Refusal::NoMemory => refused(RefusalCause::NoMemory),
+        Refusal::Syntax => refused(RefusalCause::Syntax),
+        Refusal::LineTooLong => refused(RefusalCause::LineTooLong),
+        Refusal::WatchesFull => refused(RefusalCause::WatchesFull),
+        Refusal::NoWatch => refused(RefusalCause::NoWatch),
+        Refusal::NotHolder => refused(RefusalCause::NotHolder),
+        Refusal::Broken => refused(RefusalCause::Broken),
+        Refusal::Full => refused(RefusalCause::Full),
     }
 }
 
@@ -239,26 +239,26 @@ impl PackedReply {
 }
 
 // The refusal of a cause.
-fn refusal_of(cause: Cause) -> Refusal
+fn refusal_of(cause: RefusalCause) -> Refusal
     ensures { result ≡ cause_refusal cause }
 {
     match cause {
-        Cause::NoTask => Refusal::NoTask,
-        Cause::TickLimit => Refusal::TickLimit,
-        Cause::NothingUndone => Refusal::NothingUndone,
-        Cause::MovesFull => Refusal::MovesFull,
-        Cause::NoSuch => Refusal::NoSuch,
-        Cause::BadEdit => Refusal::BadEdit,
-        Cause::NoIsr => Refusal::NoIsr,
-        Cause::HistoryFull => Refusal::HistoryFull,
-        Cause::NoMemory => Refusal::NoMemory,
-        Cause::Syntax => Refusal::Syntax,
-        Cause::LineTooLong => Refusal::LineTooLong,
-        Cause::WatchesFull => Refusal::WatchesFull,
-        Cause::NoWatch => Refusal::NoWatch,
-        Cause::NotHolder => Refusal::NotHolder,
-        Cause::Broken => Refusal::Broken,
-        Cause::Full => Refusal::Full,
+        RefusalCause::NoTask => Refusal::NoTask,
+        RefusalCause::TickLimit => Refusal::TickLimit,
+        RefusalCause::NothingUndone => Refusal::NothingUndone,
+        RefusalCause::MovesFull => Refusal::MovesFull,
+        RefusalCause::NoSuch => Refusal::NoSuch,
+        RefusalCause::BadEdit => Refusal::BadEdit,
+        RefusalCause::NoIsr => Refusal::NoIsr,
+        RefusalCause::HistoryFull => Refusal::HistoryFull,
+        RefusalCause::NoMemory => Refusal::NoMemory,
+        RefusalCause::Syntax => Refusal::Syntax,
+        RefusalCause::LineTooLong => Refusal::LineTooLong,
+        RefusalCause::WatchesFull => Refusal::WatchesFull,
+        RefusalCause::NoWatch => Refusal::NoWatch,
+        RefusalCause::NotHolder => Refusal::NotHolder,
+        RefusalCause::Broken => Refusal::Broken,
+        RefusalCause::Full => Refusal::Full,
     }
 }
 
