@@ -6,7 +6,7 @@ use Rattle.std.proofs.lemmas.Option.{slice_get_read}
 use Rattle.rd_desk.specs.declared.entry.Noted.{Noted}
 use Rattle.rd_desk.specs.declared.rows.Deed.{Deed}
 use Rattle.rd_desk.specs.declared.rows.Deed.TheVariants.{Enter, Ask, Leave}
-use Rattle.rd_desk.specs.declared.rows.Row.{Row}
+use Rattle.rd_desk.specs.declared.rows.KeptRow.{KeptRow}
 use Rattle.rd_desk.specs.declared.rows.Rows.TheInside.{Inside}
 use Rattle.rd_desk.specs.declared.reply.Reply.{Reply}
 use Rattle.rd_desk.specs.HistoryView.{IsLineOf, deed_event, deed_of, reply_bytes}
@@ -41,7 +41,7 @@ range_behind bytes line others from to starts ends =
 
 -- ---- what stands in a row, where other bytes came behind
 
-noted_before : (bytes more : List ℕ) (start : ℕ) (row : Row) → IsRowOf bytes start row → noted_in (bytes ++ more) start row ≡ noted_in bytes start row
+noted_before : (bytes more : List ℕ) (start : ℕ) (row : KeptRow) → IsRowOf bytes start row → noted_in (bytes ++ more) start row ≡ noted_in bytes start row
 noted_before bytes more start row within =
     ap (λ (line : List ℕ). record {
       number = row.number;
@@ -54,7 +54,7 @@ noted_before bytes more start row within =
       reply = reply_kept (row_kept row) text;
     }) (range_before bytes more (line_end start row) (row_end row) within.middles within.ends)
 
-row_before : (bytes more : List ℕ) (start : ℕ) (row : Row) → IsRowOf bytes start row → IsRowOf (bytes ++ more) start row
+row_before : (bytes more : List ℕ) (start : ℕ) (row : KeptRow) → IsRowOf bytes start row → IsRowOf (bytes ++ more) start row
 row_before bytes more start row is = record {
   ends = omega (arith, length-append bytes more, is.ends);
   middles = is.middles;
@@ -64,14 +64,14 @@ row_before bytes more start row is = record {
 
 -- ---- one row more, whose bytes came behind the others
 
-pub rows_push : (bytes more : List ℕ) (start : ℕ) (rows : List Row) (row : Row) → AreRows bytes start rows → IsRowOf (bytes ++ more) (length bytes) row
+pub rows_push : (bytes more : List ℕ) (start : ℕ) (rows : List KeptRow) (row : KeptRow) → AreRows bytes start rows → IsRowOf (bytes ++ more) (length bytes) row
     → row_end row ≡ length (bytes ++ more) → AreRows (bytes ++ more) start (rows ++ row ∷ [])
 rows_push bytes more start [] row ends is end =
     (subst (λ (from : ℕ). IsRowOf (bytes ++ more) from row) (sym ends) is, end)
 rows_push bytes more start (first ∷ rows) row are is end =
     (row_before bytes more start first are.0, rows_push bytes more (row_end first) rows row are.1 is end)
 
-pub noted_push : (bytes more : List ℕ) (start : ℕ) (rows : List Row) (row : Row) → AreRows bytes start rows
+pub noted_push : (bytes more : List ℕ) (start : ℕ) (rows : List KeptRow) (row : KeptRow) → AreRows bytes start rows
     → noted_from (bytes ++ more) start (rows ++ row ∷ []) ≡ noted_from bytes start rows ++ noted_in (bytes ++ more) (length bytes) row ∷ []
 noted_push bytes more start [] row ends = ap (λ (from : ℕ). noted_in (bytes ++ more) from row ∷ []) ends
 noted_push bytes more start (first ∷ rows) row are =
@@ -79,24 +79,24 @@ noted_push bytes more start (first ∷ rows) row are =
     ∙ ap (λ (later : List Noted). noted_in bytes start first ∷ later) (noted_push bytes more (row_end first) rows row are.1)
 
 -- It is the row of a reply behind a line that comes behind these bytes.
-pub record IsRowFor (bytes : List ℕ) (number : ℕ) (deed : Deed) (line : List ℕ) (reply : Reply) (row : Row) : Type 0 where
+pub record IsRowFor (bytes : List ℕ) (number : ℕ) (deed : Deed) (line : List ℕ) (reply : Reply) (row : KeptRow) : Type 0 where
   pub numbered : row.number ≡ number
   pub done : row.deed ≡ deed
   pub ends : row_end row ≡ length bytes + length line + length (reply_bytes reply)
   pub keeps : IsKeptOf (row_kept row) (length line) reply
 
 -- its bytes
-middle_of : (bytes : List ℕ) (number : ℕ) (deed : Deed) (line : List ℕ) (reply : Reply) (row : Row) → IsRowFor bytes number deed line reply row
+middle_of : (bytes : List ℕ) (number : ℕ) (deed : Deed) (line : List ℕ) (reply : Reply) (row : KeptRow) → IsRowFor bytes number deed line reply row
     → line_end (length bytes) row ≡ length bytes + length line
 middle_of bytes number deed line reply row is =
     ap (λ (end : ℕ). line_end_of (length bytes) end (row_kept row)) is.ends ∙ is.keeps.ends (length bytes)
 
-line_behind : (bytes : List ℕ) (number : ℕ) (deed : Deed) (line : List ℕ) (reply : Reply) (row : Row) → IsRowFor bytes number deed line reply row
+line_behind : (bytes : List ℕ) (number : ℕ) (deed : Deed) (line : List ℕ) (reply : Reply) (row : KeptRow) → IsRowFor bytes number deed line reply row
     → slice_range (bytes ++ (line ++ reply_bytes reply)) (length bytes) (line_end (length bytes) row) ≡ line
 line_behind bytes number deed line reply row is =
     range_behind bytes line (reply_bytes reply) (length bytes) (line_end (length bytes) row) refl (middle_of bytes number deed line reply row is)
 
-text_behind : (bytes : List ℕ) (number : ℕ) (deed : Deed) (line : List ℕ) (reply : Reply) (row : Row) → IsRowFor bytes number deed line reply row
+text_behind : (bytes : List ℕ) (number : ℕ) (deed : Deed) (line : List ℕ) (reply : Reply) (row : KeptRow) → IsRowFor bytes number deed line reply row
     → slice_range (bytes ++ (line ++ reply_bytes reply)) (line_end (length bytes) row) (row_end row) ≡ reply_bytes reply
 text_behind bytes number deed line reply row is =
     let text = reply_bytes reply in
@@ -107,7 +107,7 @@ text_behind bytes number deed line reply row is =
     ∙ range_behind (bytes ++ line) text [] (line_end (length bytes) row) (row_end row) (omega (arith, middle, length-append bytes line))
     (omega (arith, end, length-append bytes line))
 
-pub noted_behind : (bytes : List ℕ) (number : ℕ) (deed : Deed) (line : List ℕ) (reply : Reply) (row : Row) → IsRowFor bytes number deed line reply row
+pub noted_behind : (bytes : List ℕ) (number : ℕ) (deed : Deed) (line : List ℕ) (reply : Reply) (row : KeptRow) → IsRowFor bytes number deed line reply row
     → noted_in (bytes ++ (line ++ reply_bytes reply)) (length bytes) row
     ≡ record { number = number; event = deed_event deed line; reply = reply }
 noted_behind bytes number deed line reply row is =
@@ -119,7 +119,7 @@ noted_behind bytes number deed line reply row is =
     ∙ ap (λ (d : Deed). record { number = row.number; event = deed_event d line; reply = reply }) is.done
     ∙ ap (λ (n : ℕ). record { number = n; event = deed_event deed line; reply = reply }) is.numbered
 
-pub row_behind : (bytes : List ℕ) (number : ℕ) (deed : Deed) (line : List ℕ) (reply : Reply) (row : Row) → IsRowFor bytes number deed line reply row
+pub row_behind : (bytes : List ℕ) (number : ℕ) (deed : Deed) (line : List ℕ) (reply : Reply) (row : KeptRow) → IsRowFor bytes number deed line reply row
     → IsLineOf deed line → IsRowOf (bytes ++ (line ++ reply_bytes reply)) (length bytes) row
 row_behind bytes number deed line reply row is said =
     let middle = middle_of bytes number deed line reply row is in
@@ -151,7 +151,7 @@ size_of_line (kept.Shown line) start end size is = omega arith
 length_of_range : (bytes : List ℕ) (from to : ℕ) → from ≤ to → to ≤ length bytes → length (slice_range bytes from to) ≡ to - from
 length_of_range bytes from to rising within = length-take-le (to - from) (drop from bytes) (omega (arith, length-drop from bytes, rising, within))
 
-middle_is : (bytes : List ℕ) (start : ℕ) (row : Row) → IsRowOf bytes start row
+middle_is : (bytes : List ℕ) (start : ℕ) (row : KeptRow) → IsRowOf bytes start row
     → line_end start row ≡ start + line_size row (slice_range bytes start (row_end row))
 middle_is bytes start row is =
     let middles = is.middles in
@@ -159,7 +159,7 @@ middle_is bytes start row is =
     let long = length_of_range bytes start (row_end row) (omega (arith, middles, starts)) is.ends in
     size_of_line (row_kept row) start (row_end row) (length (slice_range bytes start (row_end row))) (omega (arith, long, middles, starts))
 
-line_is : (bytes : List ℕ) (start : ℕ) (row : Row) → IsRowOf bytes start row
+line_is : (bytes : List ℕ) (start : ℕ) (row : KeptRow) → IsRowOf bytes start row
     → let all = slice_range bytes start (row_end row) in slice_range bytes start (line_end start row) ≡ take (line_size row all) all
 line_is bytes start row is =
     let all = slice_range bytes start (row_end row) in
@@ -168,7 +168,7 @@ line_is bytes start row is =
     ap (λ (n : ℕ). take n (drop start bytes)) (let n : line_end start row - start ≡ line_size row all = omega (arith, middle) in n)
     ∙ sym (take-take (line_size row all) (row_end row - start) (drop start bytes) (omega (arith, middle, middles)))
 
-text_is : (bytes : List ℕ) (start : ℕ) (row : Row) → IsRowOf bytes start row
+text_is : (bytes : List ℕ) (start : ℕ) (row : KeptRow) → IsRowOf bytes start row
     → let all = slice_range bytes start (row_end row) in slice_range bytes (line_end start row) (row_end row) ≡ drop (line_size row all) all
 text_is bytes start row is =
     let all = slice_range bytes start (row_end row) in
@@ -180,7 +180,7 @@ text_is bytes start row is =
     ∙ sym (drop-take size (row_end row - line_end start row) (drop start bytes))
     ∙ ap (λ (n : ℕ). drop size (take n (drop start bytes))) (let n : size + (row_end row - line_end start row) ≡ row_end row - start = omega (arith, middle, middles) in n)
 
-pub noted_placed : (bytes : List ℕ) (start : ℕ) (row : Row) → IsRowOf bytes start row → noted_in bytes start row ≡ noted_by row (slice_range bytes start (row_end row))
+pub noted_placed : (bytes : List ℕ) (start : ℕ) (row : KeptRow) → IsRowOf bytes start row → noted_in bytes start row ≡ noted_by row (slice_range bytes start (row_end row))
 noted_placed bytes start row is =
     let all = slice_range bytes start (row_end row) in
     ap (λ (line : List ℕ). record {
@@ -194,7 +194,7 @@ noted_placed bytes start row is =
       reply = reply_kept (row_kept row) text;
     }) (text_is bytes start row is)
 
-pub row_placed : (bytes : List ℕ) (start : ℕ) (row : Row) → IsRowOf bytes start row → IsPlaced row (slice_range bytes start (row_end row))
+pub row_placed : (bytes : List ℕ) (start : ℕ) (row : KeptRow) → IsRowOf bytes start row → IsPlaced row (slice_range bytes start (row_end row))
 row_placed bytes start row is =
     let middle = middle_is bytes start row is in
     let middles = is.middles in
@@ -207,28 +207,28 @@ row_placed bytes start row is =
 
 -- ---- the row at an index
 
-pub noted_length : (bytes : List ℕ) (start : ℕ) (rows : List Row) → length (noted_from bytes start rows) ≡ length rows
+pub noted_length : (bytes : List ℕ) (start : ℕ) (rows : List KeptRow) → length (noted_from bytes start rows) ≡ length rows
 noted_length bytes start [] = refl
 noted_length bytes start (row ∷ rows) = ap suc (noted_length bytes (row_end row) rows)
 
-pub noted_at : (bytes : List ℕ) (start : ℕ) (rows : List Row) (index : ℕ) (row : Row) → slice_get rows index ≡ Some row
+pub noted_at : (bytes : List ℕ) (start : ℕ) (rows : List KeptRow) (index : ℕ) (row : KeptRow) → slice_get rows index ≡ Some row
     → slice_get (noted_from bytes start rows) index ≡ Some (noted_in bytes (start_at start rows index) row)
 noted_at bytes start [] index row at = absurd cc
 noted_at bytes start (first ∷ rows) zero row at =
-    let is : first ≡ row = cc in ap (λ (r : Row). Some (noted_in bytes start r)) is
+    let is : first ≡ row = cc in ap (λ (r : KeptRow). Some (noted_in bytes start r)) is
 noted_at bytes start (first ∷ rows) (suc index) row at = noted_at bytes (row_end first) rows index row at
 
-pub row_at : (bytes : List ℕ) (start : ℕ) (rows : List Row) (index : ℕ) (row : Row) → AreRows bytes start rows → slice_get rows index ≡ Some row
+pub row_at : (bytes : List ℕ) (start : ℕ) (rows : List KeptRow) (index : ℕ) (row : KeptRow) → AreRows bytes start rows → slice_get rows index ≡ Some row
     → IsRowOf bytes (start_at start rows index) row
 row_at bytes start [] index row are at = absurd cc
 row_at bytes start (first ∷ rows) zero row are at =
     let is : first ≡ row = cc in subst (IsRowOf bytes start) is are.0
 row_at bytes start (first ∷ rows) (suc index) row are at = row_at bytes (row_end first) rows index row are.1 at
 
-pub start_behind : (start : ℕ) (rows : List Row) (index : ℕ) (row : Row) → slice_get rows index ≡ Some row → start_at start rows (suc index) ≡ row_end row
+pub start_behind : (start : ℕ) (rows : List KeptRow) (index : ℕ) (row : KeptRow) → slice_get rows index ≡ Some row → start_at start rows (suc index) ≡ row_end row
 start_behind start [] index row at = absurd cc
 start_behind start (first ∷ rows) zero row at =
-    let is : first ≡ row = cc in ap (λ (r : Row). row_end r) is
+    let is : first ≡ row = cc in ap (λ (r : KeptRow). row_end r) is
 start_behind start (first ∷ rows) (suc index) row at = start_behind (row_end first) rows index row at
 
 -- as many as there are rows
@@ -236,7 +236,7 @@ pub as_many : (r : Inside) (now : RowsView) → rows_of r ≡ now → length r.r
 as_many r now seen = sym (noted_length r.bytes.items 0 r.rows.items) ∙ ap (λ (v : RowsView). length v.noted) seen
 
 -- a row that was read is what is noted at its index
-pub noted_read : (r : Inside) (now : RowsView) (index : ℕ) (row : Row) → rows_of r ≡ now → index < length now.noted → row ≡ get_or r.rows.items index row
+pub noted_read : (r : Inside) (now : RowsView) (index : ℕ) (row : KeptRow) → rows_of r ≡ now → index < length now.noted → row ≡ get_or r.rows.items index row
     → slice_get now.noted index ≡ Some (noted_in r.bytes.items (start_at 0 r.rows.items index) row)
 noted_read r now index row seen within read =
     ap (λ (v : RowsView). slice_get v.noted index) (sym seen)

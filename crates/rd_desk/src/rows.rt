@@ -33,7 +33,7 @@ pub enum Deed {
 // it the text of its view. They begin where those of the row before end. The halves of where they
 // end, and of the reply that is kept, lie side by side, so that a row has no gap but at its end.
 #[derive(Clone, Copy)]
-struct Row {
+struct KeptRow {
     first: u32,
     second: u32,
     third: u32,
@@ -47,7 +47,7 @@ struct Row {
 // A row with its bytes.
 #[derive(Clone, Copy)]
 struct Placed<'a> {
-    row: &'a Row,
+    row: &'a KeptRow,
     bytes: &'a [u8],
 }
 
@@ -64,7 +64,7 @@ struct Unpacked<'a> {
 /// and the bytes of the line of its command and of its view.
 #[derive(Drop)]
 pub struct Rows {
-    rows: Vec<Row>,
+    rows: Vec<KeptRow>,
     bytes: Vec<u8>,
 }
 
@@ -103,15 +103,15 @@ fn append_reserved(bytes: &mut Vec<u8>, more: &[u8])
     }
 }
 
-impl Row {
+impl KeptRow {
     // Of what is kept, with where its bytes end.
-    fn new(end: usize, number: u32, deed: Deed, packed: PackedReply) -> Row
+    fn new(end: usize, number: u32, deed: Deed, packed: PackedReply) -> KeptRow
         ensures end { row_end result ≡ end }
         ensures number { result.number ≡ number }
         ensures deed { result.deed ≡ deed }
         ensures kept { row_kept result ≡ packed_kept packed }
     {
-        Row {
+        KeptRow {
             first: packed.first,
             second: packed.second,
             third: packed.third,
@@ -149,7 +149,7 @@ impl Row {
 }
 
 // Where the bytes of a row begin.
-fn start_of(rows: &[Row], index: usize) -> usize
+fn start_of(rows: &[KeptRow], index: usize) -> usize
     requires { index < length rows.now }
     ensures { result ≡ start_at 0 rows.now index }
 {
@@ -157,7 +157,7 @@ fn start_of(rows: &[Row], index: usize) -> usize
 }
 
 // The bytes of a row, which begin there.
-fn bytes_of<'a>(bytes: &'a [u8], start: usize, row: &Row) -> &'a [u8]
+fn bytes_of<'a>(bytes: &'a [u8], start: usize, row: &KeptRow) -> &'a [u8]
     requires { IsRowOf bytes.now start row.now }
     ensures { result.now ≡ slice_range bytes.now start (row_end row.now) }
 {
@@ -387,6 +387,6 @@ impl Rows {
         append_reserved(&mut self.bytes, reply_bytes(reply));
         let packed = PackedReply::of(line.len(), reply);
         self.rows
-            .push_reserved(Row::new(self.bytes.len(), number, deed, packed));
+            .push_reserved(KeptRow::new(self.bytes.len(), number, deed, packed));
     }
 }

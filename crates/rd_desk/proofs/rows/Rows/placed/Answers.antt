@@ -5,7 +5,7 @@ use Rattle.std.proofs.lemmas.Option.{slice_get-get_or}
 use Rattle.rd_desk.specs.declared.entry.Noted.{Noted}
 use Rattle.rd_desk.specs.declared.kept.KeptKind.TheVariants as kind
 use Rattle.rd_desk.specs.declared.rows.Deed.TheVariants.{Enter}
-use Rattle.rd_desk.specs.declared.rows.Row.{Row}
+use Rattle.rd_desk.specs.declared.rows.KeptRow.{KeptRow}
 use Rattle.rd_desk.specs.declared.rows.Rows.TheInside.{Inside}
 use Rattle.rd_desk.specs.Rows.{RowsView}
 use Rattle.rd_desk.specs.RowsInside.{AreKept, AreRows, IsPlaced, IsRowOf, noted_by, noted_from, row_end, rows_of, start_at}
@@ -25,11 +25,11 @@ bounds-rows-index c =
     omega (arith, c.requires, as_many c.self.inside c.args.self.now c.self.view_is, ap length c.as_slice-rows.ensures.value)
 
 -- the row at an index, where it is read
-abbrev row_of : List Row → ℕ → Row
+abbrev row_of : List KeptRow → ℕ → KeptRow
 row_of rows index = get_or rows index (record { first = 0; second = 0; third = 0; number = 0; low_end = 0; high_end = 0; deed = Enter; kind = kind.Done })
 
 -- it is a row of these bytes
-is_row : (r : Inside) (now : RowsView) (index : ℕ) (rows : List Row) → rows_of r ≡ now → AreKept r → rows ≡ r.rows.items → index < length now.noted
+is_row : (r : Inside) (now : RowsView) (index : ℕ) (rows : List KeptRow) → rows_of r ≡ now → AreKept r → rows ≡ r.rows.items → index < length now.noted
     → IsRowOf r.bytes.items (start_at 0 rows index) (row_of rows index)
 is_row r now index rows seen kept are there =
     let within : index < length rows = omega (arith, there, as_many r now seen, ap length are) in
@@ -57,7 +57,7 @@ returns-clause-noted c =
     let row = row_of rows c.args.index in
     let within : c.args.index < length rows = omega (arith, c.requires, as_many c.self.inside c.args.self.now c.self.view_is, ap length c.as_slice-rows.ensures.value) in
     ap (λ (v : RowsView). slice_get v.noted c.args.index) (sym c.self.view_is)
-    ∙ ap (λ (all : List Row). slice_get (noted_from bytes 0 all) c.args.index) (sym c.as_slice-rows.ensures.value)
+    ∙ ap (λ (all : List KeptRow). slice_get (noted_from bytes 0 all) c.args.index) (sym c.as_slice-rows.ensures.value)
     ∙ noted_at bytes 0 rows c.args.index row (slice_get-get_or rows c.args.index _ within)
     ∙ ap (λ (noted : Noted). Some noted) (noted_placed bytes (start_at 0 rows c.args.index) row (is_row c.self.inside c.args.self.now c.args.index c.as_slice-rows.result.now c.self.view_is c.self.invariant c.as_slice-rows.ensures.value c.requires))
     ∙ ap (λ (all : List ℕ). Some (noted_by row all)) (sym (bytes_are c))

@@ -1,7 +1,7 @@
 -- The goals of push that the check left open.
 use Rattle.std.proofs.Common.{◌≡◌, ◌∙◌, ◌++◌, ◌∷◌, [], List, ℕ, ap, append_assoc, arith, length, length-append, subst, sym}
 use Rattle.rd_desk.specs.declared.entry.Noted.{Noted}
-use Rattle.rd_desk.specs.declared.rows.Row.{Row}
+use Rattle.rd_desk.specs.declared.rows.KeptRow.{KeptRow}
 use Rattle.rd_desk.specs.HistoryView.{deed_event, reply_bytes}
 use Rattle.rd_desk.specs.Rows.{RowsView}
 use Rattle.rd_desk.specs.RowsInside.{AreRows, noted_from}
@@ -36,7 +36,7 @@ invariant_of-self c =
     let more = line ++ reply_bytes reply in
     let row = c.new.result in
     let end = (row_is c).ends in
-    subst (λ (rows : List Row). AreRows c.append_reserved-2.new.bytes.items 0 rows) (sym c.push_reserved.ensures.items)
+    subst (λ (rows : List KeptRow). AreRows c.append_reserved-2.new.bytes.items 0 rows) (sym c.push_reserved.ensures.items)
     (subst (λ (all : List ℕ). AreRows all 0 (c.self.inside.rows.items ++ row ∷ [])) (sym (bytes_are c))
     (rows_push bytes more 0 c.self.inside.rows.items row c.self.invariant
     (row_behind bytes c.args.number c.args.deed line reply row (row_is c) c.requires.line)
