@@ -10,7 +10,7 @@ use Rattle.rd_command.specs.Commands.{CommandView, command_of}
 use Rattle.rd_text.specs.Words.{words_of}
 use Rattle.rd_command.specs.declared.binding.Bound.{Bound}
 use Rattle.rd_command.specs.declared.binding.Bound.TheVariants as bound
-use Rattle.rd_desk.specs.declared.entry.Entry.{Entry}
+use Rattle.rd_desk.specs.declared.entry.HistoryEntry.{HistoryEntry}
 use Rattle.rd_desk.specs.declared.entry.Event.{Event}
 use Rattle.rd_desk.specs.declared.entry.Event.TheVariants.{Enter, Ask, Leave}
 use Rattle.rd_desk.specs.declared.reply.Reply.{Reply}
@@ -111,7 +111,7 @@ sessions_stay d who command there =
 
 -- ---- one entry more
 
-Leads-push : (d : Debugger) (history : List Entry) (last : Debugger) (who : ℕ) (event : Event) → Leads d history last → MayAct last who event
+Leads-push : (d : Debugger) (history : List HistoryEntry) (last : Debugger) (who : ℕ) (event : Event) → Leads d history last → MayAct last who event
     → Leads d (history ++ entry_of last who event ∷ []) (served last who event)
 Leads-push d [] last who event is may =
     let P : Debugger → Type 0 = λ start. Leads start (entry_of last who event ∷ []) (served last who event) in
@@ -119,13 +119,13 @@ Leads-push d [] last who event is may =
 Leads-push d (entry ∷ later) last who event leads may =
     (leads.0, leads.1, Leads-push (served d entry.who entry.event) later last who event leads.2 may)
 
-pub legal_push : (d : Debugger) (history : List Entry) (who : ℕ) (event : Event) (after : Debugger) (longer : List Entry) → IsLegal history d
+pub legal_push : (d : Debugger) (history : List HistoryEntry) (who : ℕ) (event : Event) (after : Debugger) (longer : List HistoryEntry) → IsLegal history d
     → MayAct d who event → after ≡ served d who event → longer ≡ history ++ entry_of d who event ∷ [] → IsLegal longer after
 legal_push d history who event after longer legal may then is =
     let more = Leads-push (opening d.app d.most_moves) history d who event legal may in
     let begun = subst (λ (start : Debugger). Leads start (history ++ entry_of d who event ∷ []) (served d who event)) (sym (opened_alike d (served d who event) (same_served d who event))) more in
-    let P : List Entry → Debugger → Type 0 = λ entries e. IsLegal entries e in
-    subst (λ (entries : List Entry). P entries after) (sym is)
+    let P : List HistoryEntry → Debugger → Type 0 = λ entries e. IsLegal entries e in
+    subst (λ (entries : List HistoryEntry). P entries after) (sym is)
     (subst (λ (e : Debugger). P (history ++ entry_of d who event ∷ []) e) (sym then) begun)
 
 -- ---- what is shown changes nothing, and takes memory

@@ -10,7 +10,7 @@ use Rattle.rd_command.specs.declared.binding.Bound.{Bound}
 use Rattle.rd_command.specs.declared.binding.Bound.TheVariants as bound
 use Rattle.rd_command.specs.declared.view.View.{View}
 use Rattle.rd_command.specs.declared.view.View.TheVariants as view
-use Rattle.rd_desk.specs.declared.entry.Entry.{Entry}
+use Rattle.rd_desk.specs.declared.entry.HistoryEntry.{HistoryEntry}
 use Rattle.rd_desk.specs.declared.entry.Event.TheVariants.{Enter, Ask, Leave}
 use Rattle.rd_desk.specs.declared.reply.Reply.{Reply}
 use Rattle.rd_desk.specs.Debugger.{Debugger, own_watches, target_of, watching}
@@ -117,12 +117,12 @@ watches_are_seen_by_their_session d who other watches Leave may there differ = r
 
 -- ---- the history
 
-get_before : (xs ys : List Entry) (place : ℕ) → place < length xs → slice_get (xs ++ ys) place ≡ slice_get xs place
+get_before : (xs ys : List HistoryEntry) (place : ℕ) → place < length xs → slice_get (xs ++ ys) place ≡ slice_get xs place
 get_before [] ys place within = absurd (omega (arith, within))
 get_before (x ∷ xs) ys zero within = refl
 get_before (x ∷ xs) ys (suc place) within = get_before xs ys place (omega (arith, within))
 
 pub the_history_stays : TheHistoryStays
 the_history_stays old new who event receipt does place within =
-    ap (λ (entries : List Entry). slice_get entries place) does.history
+    ap (λ (entries : List HistoryEntry). slice_get entries place) does.history
     ∙ get_before old.history (entry_of old.debugger who event ∷ []) place within

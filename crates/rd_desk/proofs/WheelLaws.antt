@@ -11,7 +11,7 @@ use Rattle.rd_command.specs.Keywords.{Wheel, Taken, Given, Needed, Free, wheel_o
 use Rattle.rd_command.specs.declared.binding.Bound.{Bound}
 use Rattle.rd_command.specs.declared.binding.Bound.TheVariants as bound
 use Rattle.rd_command.proofs.Offered.{wheel_as_said}
-use Rattle.rd_desk.specs.declared.entry.Entry.{Entry}
+use Rattle.rd_desk.specs.declared.entry.HistoryEntry.{HistoryEntry}
 use Rattle.rd_desk.specs.declared.entry.Event.{Event}
 use Rattle.rd_desk.specs.declared.entry.Event.TheVariants.{Enter, Ask, Leave}
 use Rattle.rd_desk.specs.declared.reply.Reply.{Reply}
@@ -74,7 +74,7 @@ served_wheel d who Enter = refl
 served_wheel d who (Ask command) = command_wheel d who command
 served_wheel d who Leave = refl
 
-led_wheel : (d : Debugger) (history : List Entry) (last : Debugger) → Leads d history last → last.wheel ≡ holder_after d.wheel history
+led_wheel : (d : Debugger) (history : List HistoryEntry) (last : Debugger) → Leads d history last → last.wheel ≡ holder_after d.wheel history
 led_wheel d [] last leads = ap (λ (e : Debugger). e.wheel) leads
 led_wheel d (entry ∷ later) last leads =
     led_wheel (served d entry.who entry.event) later last leads.2

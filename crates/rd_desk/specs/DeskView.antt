@@ -5,7 +5,7 @@ use Rattle.rd_state.specs.Change.{Change}
 use Rattle.rd_state.specs.Snapshot.{Snapshot}
 use Rattle.rd_timeline.specs.History.{state_after, CanRewind, Retraces}
 use Rattle.rd_timeline.specs.Runs.{Moves, kept}
-use Rattle.rd_desk.specs.declared.entry.Entry.{Entry}
+use Rattle.rd_desk.specs.declared.entry.HistoryEntry.{HistoryEntry}
 use Rattle.rd_desk.specs.declared.entry.Event.{Event}
 use Rattle.rd_desk.specs.declared.entry.Receipt.{Receipt}
 use Rattle.rd_desk.specs.declared.sessions.TheConstants.{MAX_JOINS}
@@ -21,7 +21,7 @@ pub record DeskView : Type 0 where
   pub debugger : Debugger
   pub log : List (List Change)
   pub most_entries : ℕ
-  pub history : List Entry
+  pub history : List HistoryEntry
 
 -- a desk, for how many entries more its history has room, and for how many bytes of theirs
 pub record RoomedDesk : Type 0 where
@@ -56,7 +56,7 @@ pub record IsKept (d : DeskView) : Type 0 where
   pub paired : AreNamesOf (target_of d.debugger) d.debugger.app.names
 
 -- the entry of an event
-abbrev pub entry_of : Debugger → ℕ → Event → Entry
+abbrev pub entry_of : Debugger → ℕ → Event → HistoryEntry
 entry_of d who event = record { who = who; event = event; reply = reply_of d who event }
 
 -- The event was done: just its entry was appended, and the receipt is that entry with its place.

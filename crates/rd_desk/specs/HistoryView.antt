@@ -2,7 +2,7 @@
 use Rattle.std.specs.Prelude.{ℕ, ◌≡◌, ⊤, List, [], IsSome, Some, slice_get}
 use Rattle.rd_text.specs.Words.{words_of}
 use Rattle.rd_command.specs.Commands.{command_of}
-use Rattle.rd_desk.specs.declared.entry.Entry.{Entry}
+use Rattle.rd_desk.specs.declared.entry.HistoryEntry.{HistoryEntry}
 use Rattle.rd_desk.specs.declared.entry.Event.{Event}
 use Rattle.rd_desk.specs.declared.entry.Event.TheVariants as event
 use Rattle.rd_desk.specs.declared.entry.Receipt.{Receipt}
@@ -14,7 +14,7 @@ use Rattle.rd_desk.specs.Asked.{asked_by}
 
 -- the entries, for how many more there is room, and for how many bytes of theirs
 pub record HistoryView : Type 0 where
-  pub entries : List Entry
+  pub entries : List HistoryEntry
   pub row_room : ℕ
   pub byte_room : ℕ
 
@@ -37,7 +37,7 @@ IsLineOf Ask line = IsSome (command_of (words_of line))
 IsLineOf Leave line = ⊤
 
 -- The receipt is the entry at its place.
-abbrev pub IsEntered : List Entry → Receipt → Type 0
+abbrev pub IsEntered : List HistoryEntry → Receipt → Type 0
 IsEntered entries receipt = slice_get entries receipt.place ≡ Some receipt.entry
 
 -- the bytes of a reply

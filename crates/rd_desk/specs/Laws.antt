@@ -7,7 +7,7 @@ use Rattle.rd_command.specs.Commands.{CommandView}
 use Rattle.rd_command.specs.declared.view.Overview.TheVariants as overview
 use Rattle.rd_command.specs.declared.view.View.{View}
 use Rattle.rd_command.specs.declared.view.View.TheVariants.{Overview}
-use Rattle.rd_desk.specs.declared.entry.Entry.{Entry}
+use Rattle.rd_desk.specs.declared.entry.HistoryEntry.{HistoryEntry}
 use Rattle.rd_desk.specs.declared.entry.Event.{Event}
 use Rattle.rd_desk.specs.declared.entry.Receipt.{Receipt}
 use Rattle.rd_desk.specs.Debugger.{Debugger, own_watches, target_of, watching}
@@ -43,7 +43,7 @@ TrimmingIsSeenInMovesAlone =
 -- Who has the wheel is the last who took it, and neither gave it nor left: the history alone tells.
 abbrev pub TheHolderTookTheWheelLast : Type 0
 TheHolderTookTheWheelLast =
-    (d : Debugger) (history : List Entry) → IsLegal history d → d.wheel ≡ holder_after None history
+    (d : Debugger) (history : List HistoryEntry) → IsLegal history d → d.wheel ≡ holder_after None history
 
 -- What a session does leaves the watches of every other as they are.
 abbrev pub WatchesAreDroppedByTheirSession : Type 0

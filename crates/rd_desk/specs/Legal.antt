@@ -1,12 +1,12 @@
 -- Histories that the sequential debugger could have made.
 use Rattle.std.specs.Prelude.{◌≡◌, List, [], ◌∷◌}
-use Rattle.rd_desk.specs.declared.entry.Entry.{Entry}
+use Rattle.rd_desk.specs.declared.entry.HistoryEntry.{HistoryEntry}
 use Rattle.rd_desk.specs.Debugger.{Debugger, opening}
 use Rattle.rd_desk.specs.Serving.{MayAct, reply_of, served}
 
 -- The events, in order, lead from one debugger to the other, and each reply is the debugger's at
 -- its place.
-abbrev pub Leads : Debugger → List Entry → Debugger → Type 0
+abbrev pub Leads : Debugger → List HistoryEntry → Debugger → Type 0
 Leads d [] last = last ≡ d
 Leads d (entry ∷ later) last =
     MayAct d entry.who entry.event
@@ -14,5 +14,5 @@ Leads d (entry ∷ later) last =
     × Leads (served d entry.who entry.event) later last
 
 -- From its opening the history leads to this debugger.
-abbrev pub IsLegal : List Entry → Debugger → Type 0
+abbrev pub IsLegal : List HistoryEntry → Debugger → Type 0
 IsLegal history d = Leads (opening d.app d.most_moves) history d

@@ -1,6 +1,6 @@
 -- What a contract sees of rows.
 use Rattle.std.specs.Prelude.{ℕ, ◌≡◌, ◌≤◌, List, Option, None, Some}
-use Rattle.rd_desk.specs.declared.entry.Entry.{Entry}
+use Rattle.rd_desk.specs.declared.entry.HistoryEntry.{HistoryEntry}
 use Rattle.rd_desk.specs.declared.entry.Noted.{Noted}
 use Rattle.rd_desk.specs.declared.entry.Receipt.{Receipt}
 
@@ -11,7 +11,7 @@ pub record RowsView : Type 0 where
   pub byte_room : ℕ
 
 -- the entry of whom the number names
-abbrev pub entry_noted : Noted → Entry
+abbrev pub entry_noted : Noted → HistoryEntry
 entry_noted noted = record { who = noted.number; event = noted.event; reply = noted.reply }
 
 -- a session's receipt at the place that the number names

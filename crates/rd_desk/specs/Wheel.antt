@@ -4,7 +4,7 @@ use Rattle.std.specs.Prelude.{Option, None, Some}
 use Rattle.rd_command.specs.Keywords.{wheel_of, Taken, Given, Needed, Free}
 use Rattle.rd_command.specs.Keywords as keywords
 use Rattle.rd_reply.specs.declared.reply.Reply.TheVariants.{Wheel}
-use Rattle.rd_desk.specs.declared.entry.Entry.{Entry}
+use Rattle.rd_desk.specs.declared.entry.HistoryEntry.{HistoryEntry}
 use Rattle.rd_desk.specs.declared.entry.Event.{Event}
 use Rattle.rd_desk.specs.declared.entry.Event.TheVariants.{Enter, Ask, Leave}
 use Rattle.rd_desk.specs.declared.reply.Reply.{Reply}
@@ -31,7 +31,7 @@ holder_by holder who (Ask command) reply =
 holder_by holder who Leave reply = freed holder who
 
 -- the last who took the wheel, and neither gave it nor left
-abbrev pub holder_after : Option ℕ → List Entry → Option ℕ
+abbrev pub holder_after : Option ℕ → List HistoryEntry → Option ℕ
 holder_after holder [] = holder
 holder_after holder (entry ∷ later) =
     holder_after (holder_by holder entry.who entry.event entry.reply) later

@@ -17,7 +17,7 @@ ghost use Rattle.rd_desk.specs.Refusals.{is_serve_full, KeepsOut, LetsIn};
 ghost use Rattle.rd_desk.specs.Sessions.{IsPresent, present_count, watch_count};
 
 use crate::asked::Asked;
-use crate::entry::{Entry, Event, Receipt};
+use crate::entry::{HistoryEntry, Event, Receipt};
 use crate::history::History;
 use crate::limits::Limits;
 use crate::machine::Machine;
@@ -115,7 +115,7 @@ fn admit(machine: &mut Machine, history: &mut History) -> Receipt
     history.push(who, Deed::Enter, &[], &Reply::Done);
     Receipt {
         place,
-        entry: Entry {
+        entry: HistoryEntry {
             who,
             event: Event::Enter,
             reply: Reply::Done,
@@ -400,7 +400,7 @@ impl Desk {
         self.history.push(who, Deed::Ask, line, &reply);
         Ok(Receipt {
             place,
-            entry: Entry {
+            entry: HistoryEntry {
                 who,
                 event: Event::Ask { command: asked },
                 reply,
@@ -419,7 +419,7 @@ impl Desk {
         self.history.push(who, Deed::Leave, &[], &Reply::Done);
         Receipt {
             place,
-            entry: Entry {
+            entry: HistoryEntry {
                 who,
                 event: Event::Leave,
                 reply: Reply::Done,

@@ -16,7 +16,7 @@ pub enum Event {
 
 /// What a session did, and what was replied.
 #[derive(Drop)]
-pub struct Entry {
+pub struct HistoryEntry {
     /// The session's number, from 1 on.
     pub who: u32,
     /// What it did.
@@ -31,7 +31,7 @@ pub struct Receipt {
     /// The place, counted from 0.
     pub place: usize,
     /// The entry.
-    pub entry: Entry,
+    pub entry: HistoryEntry,
 }
 
 /// What a session did and what was replied, under a number: the session's in a history, and its

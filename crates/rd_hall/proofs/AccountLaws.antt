@@ -8,7 +8,7 @@ use Rattle.std.proofs.Math.Seq.{drop-cons}
 use Rattle.std.proofs.lemmas.List.{append_assoc, append-nil, length-append, take_more}
 use Rattle.std.proofs.lemmas.List.Sums.{sum_by-cons}
 use Rattle.std.proofs.lemmas.List.Elements.{recursion_from_All}
-use Rattle.rd_desk.specs.declared.entry.Entry.{Entry}
+use Rattle.rd_desk.specs.declared.entry.HistoryEntry.{HistoryEntry}
 use Rattle.rd_desk.specs.declared.entry.Receipt.{Receipt}
 use Rattle.rd_hall.specs.SeatView.{SeatView, IsSeries, next_place}
 use Rattle.rd_desk.specs.HistoryView.{IsEntered}
@@ -59,7 +59,7 @@ abbrev pub IsOwn : SeatView → Type 0
 IsOwn gone = IsSeries gone.who 0 gone.receipts
 
 -- the receipts of one session with those of one seat more
-series_more : (history : List Entry) (before : List SeatView) (g : SeatView) (who : ℕ) → Fits history before g → IsOwn g → IsSeries who 0 (receipts_of who before) → (b : Bool) → nat_eq g.who who ≡ b
+series_more : (history : List HistoryEntry) (before : List SeatView) (g : SeatView) (who : ℕ) → Fits history before g → IsOwn g → IsSeries who 0 (receipts_of who before) → (b : Bool) → nat_eq g.who who ≡ b
     → IsSeries who 0 (receipts_of who before ++ (if b then g.receipts ++ [] else []))
 series_more history before g who fits own series true is =
     let same : g.who ≡ who = grind (arith, nat_tests, is) in
@@ -70,7 +70,7 @@ series_more history before g who fits own series true is =
 series_more history before g who fits own series false is =
     subst (IsSeries who 0) (sym (append-nil (receipts_of who before))) series
 
-series_of : (history : List Entry) (before gones : List SeatView) (who : ℕ) → AllFit history before gones → AllByRecursion IsOwn gones → IsSeries who 0 (receipts_of who before)
+series_of : (history : List HistoryEntry) (before gones : List SeatView) (who : ℕ) → AllFit history before gones → AllByRecursion IsOwn gones → IsSeries who 0 (receipts_of who before)
     → IsSeries who 0 (receipts_of who (before ++ gones))
 series_of history before [] who fit own series = subst (λ (gs : List SeatView). IsSeries who 0 (receipts_of who gs)) (sym (append-nil before)) series
 series_of history before (g ∷ gs) who fit own series =
@@ -83,7 +83,7 @@ ByRecursion-append : {X : Type 0} (P : X → Type 0) (xs ys : List X) → AllByR
 ByRecursion-append P [] ys all more = more
 ByRecursion-append P (x ∷ xs) ys all more = (all.0, ByRecursion-append P xs ys all.1 more)
 
-entered_of : (history : List Entry) (before gones : List SeatView) (who : ℕ) → AllFit history before gones → AllByRecursion (IsEntered history) (receipts_of who gones)
+entered_of : (history : List HistoryEntry) (before gones : List SeatView) (who : ℕ) → AllFit history before gones → AllByRecursion (IsEntered history) (receipts_of who gones)
 entered_of history before [] who fit = tt
 entered_of history before (g ∷ gs) who fit =
     let rest = entered_of history (before ++ g ∷ []) gs who fit.1 in
@@ -94,10 +94,10 @@ entered_of history before (g ∷ gs) who fit =
 
 -- ---- no session has more receipts than entries; with as many, they are its entries
 
-abbrev IsAt : ℕ → List Entry → Receipt → Type 0
+abbrev IsAt : ℕ → List HistoryEntry → Receipt → Type 0
 IsAt place history r = slice_get history (r.place - place) ≡ Some r.entry
 
-at_later : (who place : ℕ) (e : Entry) (es : List Entry) (rs : List Receipt) → IsSeries who (place + 1) rs → AllByRecursion (IsAt place (e ∷ es)) rs → AllByRecursion (IsAt (place + 1) es) rs
+at_later : (who place : ℕ) (e : HistoryEntry) (es : List HistoryEntry) (rs : List Receipt) → IsSeries who (place + 1) rs → AllByRecursion (IsAt place (e ∷ es)) rs → AllByRecursion (IsAt (place + 1) es) rs
 at_later who place e es [] series at = tt
 at_later who place e es (r ∷ rs) series at =
     let k = r.place - (place + 1) in
@@ -109,7 +109,7 @@ at_later who place e es (r ∷ rs) series at =
     series_from who low high [] le series = tt
     series_from who low high (r ∷ rs) le series = (series.0, omega (arith, le, series.1), series.2)
 
-at_start : (history : List Entry) (rs : List Receipt) → AllByRecursion (IsEntered history) rs → AllByRecursion (IsAt 0 history) rs
+at_start : (history : List HistoryEntry) (rs : List Receipt) → AllByRecursion (IsEntered history) rs → AllByRecursion (IsAt 0 history) rs
 at_start history [] entered = tt
 at_start history (r ∷ rs) entered =
     let P : ℕ → Type 0 = λ n. slice_get history n ≡ Some r.entry in
@@ -123,24 +123,24 @@ no_length (x ∷ xs) none = absurd (omega (arith, none))
 abbrev Bounded : List Receipt → List Receipt → Type 0
 Bounded rs es = (length rs ≤ length es) × (length rs ≡ length es → rs ≡ es)
 
-bounded_here : (who place : ℕ) (e : Entry) (rest : List Receipt) (r : Receipt) (rs : List Receipt) → r.place ≡ place → e ≡ r.entry → r.entry.who ≡ who → Bounded rs rest
+bounded_here : (who place : ℕ) (e : HistoryEntry) (rest : List Receipt) (r : Receipt) (rs : List Receipt) → r.place ≡ place → e ≡ r.entry → r.entry.who ≡ who → Bounded rs rest
     → Bounded (r ∷ rs) (if nat_eq e.who who then record { place = place; entry = e } ∷ rest else rest)
 bounded_here who place e rest r rs at is by bound =
     let test : nat_eq e.who who ≡ true = grind (arith, nat_tests, is, by) in
-    let receipt : ℕ → Entry → Receipt = λ p x. record { place = p; entry = x } in
-    let head : r ≡ receipt place e = ap (λ p. receipt p r.entry) at ∙ ap (λ (x : Entry). receipt place x) (sym is) in
+    let receipt : ℕ → HistoryEntry → Receipt = λ p x. record { place = p; entry = x } in
+    let head : r ≡ receipt place e = ap (λ p. receipt p r.entry) at ∙ ap (λ (x : HistoryEntry). receipt place x) (sym is) in
     let P : Bool → Type 0 = λ b. Bounded (r ∷ rs) (if b then record { place = place; entry = e } ∷ rest else rest) in
     let whole : P true = (omega (arith, bound.0), λ same. ap (λ (x : Receipt). x ∷ rs) head ∙ ap (λ xs. receipt place e ∷ xs) (bound.1 (omega (arith, same)))) in
     subst P (sym test) whole
 
-bounded_later : (who place : ℕ) (e : Entry) (rest rs : List Receipt) → Bounded rs rest → Bounded rs (if nat_eq e.who who then record { place = place; entry = e } ∷ rest else rest)
+bounded_later : (who place : ℕ) (e : HistoryEntry) (rest rs : List Receipt) → Bounded rs rest → Bounded rs (if nat_eq e.who who then record { place = place; entry = e } ∷ rest else rest)
 bounded_later who place e rest rs bound =
     elim (nat_eq e.who who) as (λ b. Bounded rs (if b then record { place = place; entry = e } ∷ rest else rest)) [
       | true ↦ (omega (arith, bound.0), λ same. absurd (omega (arith, bound.0, same)))
       | false ↦ bound
     ]
 
-bounded : (who place : ℕ) (history : List Entry) (rs : List Receipt) → IsSeries who place rs → AllByRecursion (IsAt place history) rs → Bounded rs (entries_of who place history)
+bounded : (who place : ℕ) (history : List HistoryEntry) (rs : List Receipt) → IsSeries who place rs → AllByRecursion (IsAt place history) rs → Bounded rs (entries_of who place history)
 bounded who place [] [] series at = (omega arith, λ same. refl)
 bounded who place [] (r ∷ rs) series at = let none = at.0 in cc
 bounded who place (e ∷ es) [] series at = (omega arith, λ same. no_length (entries_of who place (e ∷ es)) same)
@@ -160,19 +160,19 @@ bounded who place (e ∷ es) (r ∷ rs) series at =
 
 -- ---- and in all there are as many
 
-abbrev below : ℕ → Entry → Type 0
+abbrev below : ℕ → HistoryEntry → Type 0
 below n e = e.who < n
 
-abbrev top : List Entry → ℕ
+abbrev top : List HistoryEntry → ℕ
 top [] = 0
 top (e ∷ es) = e.who + 1 + top es
 
-top_over : (history : List Entry) (place : ℕ) (e : Entry) → slice_get history place ≡ Some e → e.who < top history
+top_over : (history : List HistoryEntry) (place : ℕ) (e : HistoryEntry) → slice_get history place ≡ Some e → e.who < top history
 top_over [] place e at = cc
-top_over (x ∷ xs) zero e at = let is : x ≡ e = cc in omega (arith, ap (λ (y : Entry). y.who) is)
+top_over (x ∷ xs) zero e at = let is : x ≡ e = cc in omega (arith, ap (λ (y : HistoryEntry). y.who) is)
 top_over (x ∷ xs) (suc place) e at = omega (arith, top_over xs place e at)
 
-entries_total : (n place : ℕ) (history : List Entry) → top history ≤ n → total n (λ w. length (entries_of w place history)) ≡ length history
+entries_total : (n place : ℕ) (history : List HistoryEntry) → top history ≤ n → total n (λ w. length (entries_of w place history)) ≡ length history
 entries_total n place [] within = total-zero n
 entries_total n place (e ∷ es) within =
     let one : (w : ℕ) → length (entries_of w place (e ∷ es)) ≡ at_one e.who 1 w + length (entries_of w (place + 1) es) = λ w.
@@ -189,11 +189,11 @@ entries_total n place (e ∷ es) within =
     )
 
 -- each seat handed in is of a session that has an entry
-owner_below : (history : List Entry) (before : List SeatView) (who : ℕ) (rs : List Receipt) → IsTrue (ends_in_leave rs) → AllByRecursion (IsEntered history) rs → IsSeries who 0 rs → who < top history
+owner_below : (history : List HistoryEntry) (before : List SeatView) (who : ℕ) (rs : List Receipt) → IsTrue (ends_in_leave rs) → AllByRecursion (IsEntered history) rs → IsSeries who 0 rs → who < top history
 owner_below history before who [] left entered own = cc
 owner_below history before who (r ∷ rs) left entered own = omega (arith, top_over history r.place r.entry entered.0, own.0)
 
-receipts_total : (n : ℕ) (history : List Entry) (before gones : List SeatView) → top history ≤ n → AllFit history before gones → AllByRecursion IsOwn gones
+receipts_total : (n : ℕ) (history : List HistoryEntry) (before gones : List SeatView) → top history ≤ n → AllFit history before gones → AllByRecursion IsOwn gones
     → total n (λ w. length (receipts_of w gones)) ≡ count_of gones
 receipts_total n history before [] within fit own = total-zero n
 receipts_total n history before (g ∷ gs) within fit own =
@@ -213,7 +213,7 @@ receipts_total n history before (g ∷ gs) within fit own =
       receipts_total n history (before ++ g ∷ []) gs within fit.1 own.1,
     )
 
-pub IsAccounted-from_account : (history : List Entry) (gones : List SeatView) → IsAccount history gones → All IsOwn gones → IsAccounted history gones
+pub IsAccounted-from_account : (history : List HistoryEntry) (gones : List SeatView) → IsAccount history gones → All IsOwn gones → IsAccounted history gones
 IsAccounted-from_account history gones account all who =
     let own = recursion_from_All IsOwn gones all in
     let n = top history + who + 1 in
@@ -224,7 +224,7 @@ IsAccounted-from_account history gones account all who =
     (each who).1 (total-exact n (λ w. length (receipts_of w gones)) (λ w. length (entries_of w 0 history)) (λ w. (each w).0) totals who (omega arith))
 
 -- the test at one seat more
-pub AllFit-more : (history : List Entry) (gones : List SeatView) (i : ℕ) (g : SeatView) → i < length gones → g ≡ get_or gones i g → Fits history (take i gones) g
+pub AllFit-more : (history : List HistoryEntry) (gones : List SeatView) (i : ℕ) (g : SeatView) → i < length gones → g ≡ get_or gones i g → Fits history (take i gones) g
     → (AllFit history (take i gones) (drop i gones) → AllFit history (take (i + 1) gones) (drop (i + 1) gones))
     × (AllFit history (take (i + 1) gones) (drop (i + 1) gones) → AllFit history (take i gones) (drop i gones))
 AllFit-more history gones i g within is fits =

@@ -14,7 +14,7 @@ use Rattle.rd_desk.proofs.Offered.{same_served}
 use Rattle.rd_hall.specs.Account.{ClosedView}
 use Rattle.rd_hall.proofs.SeatLaws.{receipts_push}
 use Rattle.rd_hall.specs.SeatView.{SeatView, seat_of, with_receipt}
-use Rattle.rd_desk.specs.declared.entry.Entry.{Entry}
+use Rattle.rd_desk.specs.declared.entry.HistoryEntry.{HistoryEntry}
 use Rattle.rd_hall.specs.Seats.{Finds, IsFound, IsOf, RoomView, Serves}
 
 -- ---- the application and the limits
@@ -71,16 +71,16 @@ on_err (Err error) P holds = holds
 
 -- ---- what is known of a debugger that has ended
 
-pub legal_of : {E : Type 0} (result : Result ClosedView E) (history : List Entry) (gones : List SeatView) (d : Debugger) (app : AppView) (moves : ℕ)
+pub legal_of : {E : Type 0} (result : Result ClosedView E) (history : List HistoryEntry) (gones : List SeatView) (d : Debugger) (app : AppView) (moves : ℕ)
     → IfOk result (λ closed. closed ≡ record { history = history; gones = gones }) → IsLegal history d → d.app ≡ app → d.most_moves ≡ moves
     → IfOk result (λ closed. (end : Debugger) × Leads (opening app moves) closed.history end)
 legal_of (Ok closed) history gones d app moves is legal a m =
     let of_moves : Leads (opening d.app moves) history d = subst (λ (n : ℕ). Leads (opening d.app n) history d) m legal in
     let of_app : Leads (opening app moves) history d = subst (λ (x : AppView). Leads (opening x moves) history d) a of_moves in
-    (d, subst (λ (h : List Entry). Leads (opening app moves) h d) (sym (ap (λ (c : ClosedView). c.history) is)) of_app)
+    (d, subst (λ (h : List HistoryEntry). Leads (opening app moves) h d) (sym (ap (λ (c : ClosedView). c.history) is)) of_app)
 legal_of (Err error) history gones d app moves is legal a m = tt
 
-pub gones_of : {E : Type 0} (result : Result ClosedView E) (history : List Entry) (gones : List SeatView)
+pub gones_of : {E : Type 0} (result : Result ClosedView E) (history : List HistoryEntry) (gones : List SeatView)
     → IfOk result (λ closed. closed ≡ record { history = history; gones = gones }) → IfOk result (λ closed. closed.gones ≡ gones)
 gones_of (Ok closed) history gones is = ap (λ (c : ClosedView). c.gones) is
 gones_of (Err error) history gones is = tt

@@ -13,7 +13,7 @@ ghost use Rattle.rd_hall.specs.SeatView.{IsSeries, next_place, with_receipt};
 use crate::setup::Setup;
 use rd_bytes::no_memory::NoMemory;
 use rd_command::order::Order;
-use rd_desk::entry::{Entry, Receipt};
+use rd_desk::entry::{HistoryEntry, Receipt};
 use rd_desk::history::History;
 use rd_desk::reply::Reply;
 use rd_desk::rows::{Deed, Rows};
@@ -251,7 +251,7 @@ impl<L: Setup> Gone<L> {
         let noted = self.receipts.get(alloc, index)?;
         Ok(Receipt {
             place: noted.number as usize,
-            entry: Entry {
+            entry: HistoryEntry {
                 who: self.who,
                 event: noted.event,
                 reply: noted.reply,

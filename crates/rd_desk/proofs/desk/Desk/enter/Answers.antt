@@ -1,7 +1,7 @@
 -- The goal of enter that the check left open.
 use Rattle.std.proofs.Common.{◌≡◌, ◌∙◌, ◌+◌, ◌++◌, ◌∷◌, [], List, ap, arith, length, refl}
 use Rattle.std.proofs.lemmas.List.{length_push}
-use Rattle.rd_desk.specs.declared.entry.Entry.{Entry}
+use Rattle.rd_desk.specs.declared.entry.HistoryEntry.{HistoryEntry}
 use Rattle.rd_desk.specs.declared.entry.Event.TheVariants.{Enter}
 use Rattle.rd_desk.specs.Debugger.{Debugger}
 use Rattle.rd_desk.specs.DeskView.{RoomedDesk, entry_of, used}
@@ -15,7 +15,7 @@ invariant_of-self c =
     let who = length d.machine.debugger.sessions + 1 in
     let last = entry_of d.machine.debugger who Enter in
     let entries : c.admit.new.history.entries ≡ d.history.entries ++ last ∷ [] =
-    c.admit.ensures.history ∙ ap (λ (es : List Entry). es ++ last ∷ []) c.make_room.ensures.entries in
+    c.admit.ensures.history ∙ ap (λ (es : List HistoryEntry). es ++ last ∷ []) c.make_room.ensures.entries in
     let longer = ap length entries in
     let one_more = length_push d.history.entries last in
     let one_joined = ap (λ (e : Debugger). length e.sessions) c.admit.ensures.machine in

@@ -5,7 +5,7 @@ use Rattle.rd_state.specs.Change.{Change}
 use Rattle.rd_command.specs.Commands.{command_of}
 use Rattle.std.specs.Prelude.{Result, Ok, Err, OnErr}
 use Rattle.std.proofs.lemmas.List.{length_push}
-use Rattle.rd_desk.specs.declared.entry.Entry.{Entry}
+use Rattle.rd_desk.specs.declared.entry.HistoryEntry.{HistoryEntry}
 use Rattle.rd_desk.specs.declared.entry.Event.TheVariants.{Ask}
 use Rattle.rd_desk.specs.Asked.{asked_by}
 use Rattle.rd_desk.specs.Debugger.{Debugger}
@@ -28,11 +28,11 @@ invariant_of-self-2 c =
     let answered : IsAnswered d.machine.debugger who command c.serve.new.self.debugger reply = c.in_ok-reply.ensures.ok in
     let stay = sessions_stay d.machine.debugger who command there in
     let last = entry_of d.machine.debugger who (Ask command) in
-    let kept : Entry = record { who = who; event = Ask (asked_by c.line-line.result.now); reply = reply } in
+    let kept : HistoryEntry = record { who = who; event = Ask (asked_by c.line-line.result.now); reply = reply } in
     let before : c.make_room_for.new.history.entries ≡ d.history.entries = c.make_room_for.ensures.entries ∙ c.make_room.ensures.entries in
     let entries : c.push.new.self.entries ≡ d.history.entries ++ last ∷ [] =
-    c.push.ensures.entries ∙ ap (λ (es : List Entry). es ++ kept ∷ []) before
-    ∙ ap (λ (e : Entry). d.history.entries ++ e ∷ []) (entry_is d.machine.debugger who c.line-line.result.now command reply (ap (λ (line : List ℕ). command_of (words_of line)) c.line-line.ensures.line ∙ c.line-line.ensures.says) answered.reply_is) in
+    c.push.ensures.entries ∙ ap (λ (es : List HistoryEntry). es ++ kept ∷ []) before
+    ∙ ap (λ (e : HistoryEntry). d.history.entries ++ e ∷ []) (entry_is d.machine.debugger who c.line-line.result.now command reply (ap (λ (line : List ℕ). command_of (words_of line)) c.line-line.ensures.line ∙ c.line-line.ensures.says) answered.reply_is) in
     let longer = ap length entries in
     let one_more = length_push d.history.entries last in
     let present = ap (λ (e : Debugger). present_count e.sessions) answered.after ∙ stay.present in
@@ -62,7 +62,7 @@ invariant_of-self-in_err-make_room_for c =
     let joins = ap (λ (e : Debugger). length e.sessions) same in
     record {
       legal = subst (λ (e : Debugger). IsLegal c.make_room_for.new.history.entries e) (sym same)
-          (subst (λ (es : List Entry). IsLegal es d.machine.debugger) (sym before) whole.legal);
+          (subst (λ (es : List HistoryEntry). IsLegal es d.machine.debugger) (sym before) whole.legal);
       within = omega (arith, longer, present, whole.within);
       joins = omega (arith, joins, whole.joins);
       room = omega (arith, present, c.make_room_for.ensures.rows, c.make_room.ensures.kept_rows, whole.room);
@@ -86,7 +86,7 @@ returns-in_err-make_room_for-clause-err c =
     on_err _ c.from_residual-in_err-make_room_for.result
     (ap (λ (e : Debugger). record { debugger = e; log = c.serve.new.self.log; most_entries = d.limit; history = c.make_room_for.new.history.entries }) same
     ∙ ap (λ (log : List (List Change)). record { debugger = d.machine.debugger; log = log; most_entries = d.limit; history = c.make_room_for.new.history.entries }) stays
-    ∙ ap (λ (es : List Entry). record { debugger = d.machine.debugger; log = d.machine.log; most_entries = d.limit; history = es }) before
+    ∙ ap (λ (es : List HistoryEntry). record { debugger = d.machine.debugger; log = d.machine.log; most_entries = d.limit; history = es }) before
     ∙ ap (λ (v : RoomedDesk). v.desk) c.self.view_is)
 
 pub returns-in_err-make_room_for-clause-lacks : goal.returns-in_err-make_room_for-clause-lacks
