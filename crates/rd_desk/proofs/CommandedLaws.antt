@@ -5,11 +5,11 @@ use Rattle.rd_refusal.specs.declared.refusal.Refusal.TheVariants.{Held, NoSuch}
 use Rattle.rd_command.specs.Bindings.{bound_of}
 use Rattle.rd_command.specs.Commands.{CommandView}
 use Rattle.rd_command.specs.declared.binding.Bound.{Bound}
-use Rattle.rd_desk.specs.declared.reply.Reply.{Reply}
+use Rattle.rd_desk.specs.declared.reply.DeskReply.{DeskReply}
 use Rattle.rd_desk.specs.Debugger.{Debugger}
 use Rattle.rd_desk.specs.Serving.{after_bound, after_command, after_if_there, after_unless_held, held_by, refused, reply_if_there, reply_to_bound, reply_to_command, reply_unless_held}
 
-pub commanded : (P : Debugger → Reply → Type 0) (d : Debugger) (who : ℕ) (command : CommandView) → ((holder : ℕ) → P d (refused (Held holder)))
+pub commanded : (P : Debugger → DeskReply → Type 0) (d : Debugger) (who : ℕ) (command : CommandView) → ((holder : ℕ) → P d (refused (Held holder)))
     → P d (refused NoSuch)
     → ((made : Bound) → held_by d who command ≡ None → bound_of d.app command ≡ Some made → P (after_bound d who made) (reply_to_bound d who made))
     → P (after_command d who command) (reply_to_command d who command)

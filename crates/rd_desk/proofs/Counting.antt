@@ -24,8 +24,8 @@ use Rattle.rd_command.specs.declared.view.View.TheVariants as view
 use Rattle.rd_command.specs.declared.binding.Bound.{Bound}
 use Rattle.rd_command.specs.declared.binding.Bound.TheVariants as bound
 use Rattle.rd_reply.specs.Replies.{answer_reply}
-use Rattle.rd_desk.specs.declared.reply.Reply.{Reply}
-use Rattle.rd_desk.specs.declared.reply.Reply.TheVariants.{Told}
+use Rattle.rd_desk.specs.declared.reply.DeskReply.{DeskReply}
+use Rattle.rd_desk.specs.declared.reply.DeskReply.TheVariants.{Told}
 use Rattle.rd_desk.specs.Debugger.{Debugger, is_holder, own_watches}
 use Rattle.rd_desk.specs.Laws.{BackGivesTheTargetBack, RefusedCommandsChangeNothing, TrimmingIsSeenInMovesAlone}
 use Rattle.rd_desk.specs.Serving.{after_bound, after_dropped, after_kept, after_request, after_search, refused, reply_to_bound, reply_to_dropped, reply_to_giver, reply_to_kept, reply_to_request, reply_to_search}
@@ -82,7 +82,7 @@ same_bound d who (bound.Looks view) refusal is = refl
 
 pub refused_commands_change_nothing : RefusedCommandsChangeNothing
 refused_commands_change_nothing d who command refusal is =
-    commanded (λ (after : Debugger) (reply : Reply). reply ≡ refused refusal → after ≡ d) d who command (λ holder _. refl) (λ _. refl)
+    commanded (λ (after : Debugger) (reply : DeskReply). reply ≡ refused refusal → after ≡ d) d who command (λ holder _. refl) (λ _. refl)
     (λ bound _ _. same_bound d who bound refusal) is
 
 -- ---- back

@@ -13,8 +13,8 @@ use Rattle.rd_command.specs.declared.binding.Bound.TheVariants as bound
 use Rattle.rd_desk.specs.declared.entry.HistoryEntry.{HistoryEntry}
 use Rattle.rd_desk.specs.declared.entry.Event.{Event}
 use Rattle.rd_desk.specs.declared.entry.Event.TheVariants.{Enter, Ask, Leave}
-use Rattle.rd_desk.specs.declared.reply.Reply.{Reply}
-use Rattle.rd_desk.specs.declared.reply.Reply.TheVariants.{Done, Told, Shown}
+use Rattle.rd_desk.specs.declared.reply.DeskReply.{DeskReply}
+use Rattle.rd_desk.specs.declared.reply.DeskReply.TheVariants.{Done, Told, Shown}
 use Rattle.rd_desk.specs.Asked.{asked_by, no_command}
 use Rattle.rd_desk.specs.Debugger.{Debugger, is_holder, opening, own_watches, watching}
 use Rattle.rd_desk.specs.declared.entry.Receipt.{Receipt}
@@ -60,7 +60,7 @@ same_bound d who (bound.Looks view) = same d
 pub same_served : (d : Debugger) (who : ℕ) (event : Event) → IsSame d (served d who event)
 same_served d who Enter = record { app = refl; most_moves = refl }
 same_served d who (Ask command) =
-    commanded (λ (after : Debugger) (reply : Reply). IsSame d after) d who command (λ holder. same d) (same d) (λ made _ _. same_bound d who made)
+    commanded (λ (after : Debugger) (reply : DeskReply). IsSame d after) d who command (λ holder. same d) (same d) (λ made _ _. same_bound d who made)
 same_served d who Leave = record { app = refl; most_moves = refl }
 
 -- a debugger that was opened alike
@@ -107,7 +107,7 @@ stay_bound d who (bound.Looks view) there = stays d
 
 pub sessions_stay : (d : Debugger) (who : ℕ) (command : CommandView) → IsPresent d.sessions who → Stay d (after_command d who command)
 sessions_stay d who command there =
-    commanded (λ (after : Debugger) (reply : Reply). Stay d after) d who command (λ holder. stays d) (stays d) (λ made _ _. stay_bound d who made there)
+    commanded (λ (after : Debugger) (reply : DeskReply). Stay d after) d who command (λ holder. stays d) (stays d) (λ made _ _. stay_bound d who made there)
 
 -- ---- one entry more
 
@@ -160,7 +160,7 @@ shows_bound d who (bound.Keeps condition) text is = absurd (kept_is_told (positi
 shows_bound d who (bound.Drops number) text is = absurd (dropped_is_told number (watch_at (own_watches d who) number) text is)
 shows_bound d who (bound.Looks view) text is = (refl, ap is_text is)
 
-view_is : (reply : Reply) → IsView reply → (text : List ℕ) × (reply ≡ Shown text)
+view_is : (reply : DeskReply) → IsView reply → (text : List ℕ) × (reply ≡ Shown text)
 view_is Done view = absurd view
 view_is (Told told) view = absurd view
 view_is (Shown text) view = (text, refl)
@@ -173,11 +173,11 @@ needs d who command made free is takes = record {
   needs = subst (λ (o : Option Bound). IsSomeAnd o (λ bound. needs_memory d who bound ≡ true)) {x = Some made} (sym is) takes;
 }
 
-pub a_view_shows : (d : Debugger) (who : ℕ) (command : CommandView) (reply : Reply) → reply ≡ reply_to_command d who command → IsView reply
+pub a_view_shows : (d : Debugger) (who : ℕ) (command : CommandView) (reply : DeskReply) → reply ≡ reply_to_command d who command → IsView reply
     → Shows d (after_command d who command) (NeedsMemory d who command)
 a_view_shows d who command reply is view =
     let shown = view_is reply view in
-    commanded (λ (after : Debugger) (given : Reply). given ≡ Shown shown.0 → Shows d after (NeedsMemory d who command)) d who command
+    commanded (λ (after : Debugger) (given : DeskReply). given ≡ Shown shown.0 → Shows d after (NeedsMemory d who command)) d who command
     (λ holder told. absurd cc) (λ told. absurd cc)
     (λ made free bound told.
     let shows = shows_bound d who made shown.0 told in (shows.0, needs d who command made free bound shows.1))
@@ -189,12 +189,12 @@ pub asked_is : (line : List ℕ) (command : CommandView) → command_of (words_o
 asked_is line command is = ap (λ o. unwrap_or o no_command) is
 
 -- the entry of a command that was answered
-pub entry_is : (d : Debugger) (who : ℕ) (line : List ℕ) (command : CommandView) (reply : Reply) → command_of (words_of line) ≡ Some command
+pub entry_is : (d : Debugger) (who : ℕ) (line : List ℕ) (command : CommandView) (reply : DeskReply) → command_of (words_of line) ≡ Some command
     → reply ≡ reply_to_command d who command
     → record { who = who; event = Ask (asked_by line); reply = reply } ≡ entry_of d who (Ask command)
 entry_is d who line command reply is replied =
     ap (λ (c : CommandView). record { who = who; event = Ask c; reply = reply }) (asked_is line command is)
-    ∙ ap (λ (r : Reply). record { who = who; event = Ask command; reply = r }) replied
+    ∙ ap (λ (r : DeskReply). record { who = who; event = Ask command; reply = r }) replied
 
 -- Whoever is present stays so, whatever is asked.
 pub presence_stays : {E : Type 0} (old new : DeskView) (who : ℕ) (command : CommandView) (result : Result Receipt E)

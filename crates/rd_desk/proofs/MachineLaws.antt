@@ -8,7 +8,7 @@ use Rattle.rd_timeline.specs.Answers.{answer_to}
 use Rattle.rd_timeline.specs.Course.{Course}
 use Rattle.rd_timeline.specs.Runs.{Moves, answered, moves_of}
 use Rattle.rd_reply.specs.Replies.{answer_reply}
-use Rattle.rd_desk.specs.declared.reply.Reply.TheVariants.{Told}
+use Rattle.rd_desk.specs.declared.reply.DeskReply.TheVariants.{Told}
 use Rattle.rd_desk.specs.Debugger.{Debugger}
 use Rattle.rd_desk.specs.Serving.{after_request, reply_to_request}
 use Rattle.rd_desk.specs.Sessions.{SessionsView}

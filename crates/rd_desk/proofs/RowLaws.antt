@@ -8,7 +8,7 @@ use Rattle.rd_desk.specs.declared.rows.Deed.{Deed}
 use Rattle.rd_desk.specs.declared.rows.Deed.TheVariants.{Enter, Ask, Leave}
 use Rattle.rd_desk.specs.declared.rows.KeptRow.{KeptRow}
 use Rattle.rd_desk.specs.declared.rows.Rows.TheInside.{Inside}
-use Rattle.rd_desk.specs.declared.reply.Reply.{Reply}
+use Rattle.rd_desk.specs.declared.reply.DeskReply.{DeskReply}
 use Rattle.rd_desk.specs.HistoryView.{IsLineOf, deed_event, deed_of, reply_bytes}
 use Rattle.rd_desk.specs.Kept.{IsKeptOf, line_end_of, reply_kept}
 use Rattle.rd_desk.specs.Rows.{RowsView}
@@ -79,24 +79,24 @@ noted_push bytes more start (first ∷ rows) row are =
     ∙ ap (λ (later : List Noted). noted_in bytes start first ∷ later) (noted_push bytes more (row_end first) rows row are.1)
 
 -- It is the row of a reply behind a line that comes behind these bytes.
-pub record IsRowFor (bytes : List ℕ) (number : ℕ) (deed : Deed) (line : List ℕ) (reply : Reply) (row : KeptRow) : Type 0 where
+pub record IsRowFor (bytes : List ℕ) (number : ℕ) (deed : Deed) (line : List ℕ) (reply : DeskReply) (row : KeptRow) : Type 0 where
   pub numbered : row.number ≡ number
   pub done : row.deed ≡ deed
   pub ends : row_end row ≡ length bytes + length line + length (reply_bytes reply)
   pub keeps : IsKeptOf (row_kept row) (length line) reply
 
 -- its bytes
-middle_of : (bytes : List ℕ) (number : ℕ) (deed : Deed) (line : List ℕ) (reply : Reply) (row : KeptRow) → IsRowFor bytes number deed line reply row
+middle_of : (bytes : List ℕ) (number : ℕ) (deed : Deed) (line : List ℕ) (reply : DeskReply) (row : KeptRow) → IsRowFor bytes number deed line reply row
     → line_end (length bytes) row ≡ length bytes + length line
 middle_of bytes number deed line reply row is =
     ap (λ (end : ℕ). line_end_of (length bytes) end (row_kept row)) is.ends ∙ is.keeps.ends (length bytes)
 
-line_behind : (bytes : List ℕ) (number : ℕ) (deed : Deed) (line : List ℕ) (reply : Reply) (row : KeptRow) → IsRowFor bytes number deed line reply row
+line_behind : (bytes : List ℕ) (number : ℕ) (deed : Deed) (line : List ℕ) (reply : DeskReply) (row : KeptRow) → IsRowFor bytes number deed line reply row
     → slice_range (bytes ++ (line ++ reply_bytes reply)) (length bytes) (line_end (length bytes) row) ≡ line
 line_behind bytes number deed line reply row is =
     range_behind bytes line (reply_bytes reply) (length bytes) (line_end (length bytes) row) refl (middle_of bytes number deed line reply row is)
 
-text_behind : (bytes : List ℕ) (number : ℕ) (deed : Deed) (line : List ℕ) (reply : Reply) (row : KeptRow) → IsRowFor bytes number deed line reply row
+text_behind : (bytes : List ℕ) (number : ℕ) (deed : Deed) (line : List ℕ) (reply : DeskReply) (row : KeptRow) → IsRowFor bytes number deed line reply row
     → slice_range (bytes ++ (line ++ reply_bytes reply)) (line_end (length bytes) row) (row_end row) ≡ reply_bytes reply
 text_behind bytes number deed line reply row is =
     let text = reply_bytes reply in
@@ -107,7 +107,7 @@ text_behind bytes number deed line reply row is =
     ∙ range_behind (bytes ++ line) text [] (line_end (length bytes) row) (row_end row) (omega (arith, middle, length-append bytes line))
     (omega (arith, end, length-append bytes line))
 
-pub noted_behind : (bytes : List ℕ) (number : ℕ) (deed : Deed) (line : List ℕ) (reply : Reply) (row : KeptRow) → IsRowFor bytes number deed line reply row
+pub noted_behind : (bytes : List ℕ) (number : ℕ) (deed : Deed) (line : List ℕ) (reply : DeskReply) (row : KeptRow) → IsRowFor bytes number deed line reply row
     → noted_in (bytes ++ (line ++ reply_bytes reply)) (length bytes) row
     ≡ record { number = number; event = deed_event deed line; reply = reply }
 noted_behind bytes number deed line reply row is =
@@ -115,11 +115,11 @@ noted_behind bytes number deed line reply row is =
     ap (λ (l : List ℕ). record { number = row.number; event = deed_event row.deed l; reply = reply_kept (row_kept row) (slice_range all (line_end (length bytes) row) (row_end row)) })
     (line_behind bytes number deed line reply row is)
     ∙ ap (λ (t : List ℕ). record { number = row.number; event = deed_event row.deed line; reply = reply_kept (row_kept row) t }) (text_behind bytes number deed line reply row is)
-    ∙ ap (λ (r : Reply). record { number = row.number; event = deed_event row.deed line; reply = r }) is.keeps.gives
+    ∙ ap (λ (r : DeskReply). record { number = row.number; event = deed_event row.deed line; reply = r }) is.keeps.gives
     ∙ ap (λ (d : Deed). record { number = row.number; event = deed_event d line; reply = reply }) is.done
     ∙ ap (λ (n : ℕ). record { number = n; event = deed_event deed line; reply = reply }) is.numbered
 
-pub row_behind : (bytes : List ℕ) (number : ℕ) (deed : Deed) (line : List ℕ) (reply : Reply) (row : KeptRow) → IsRowFor bytes number deed line reply row
+pub row_behind : (bytes : List ℕ) (number : ℕ) (deed : Deed) (line : List ℕ) (reply : DeskReply) (row : KeptRow) → IsRowFor bytes number deed line reply row
     → IsLineOf deed line → IsRowOf (bytes ++ (line ++ reply_bytes reply)) (length bytes) row
 row_behind bytes number deed line reply row is said =
     let middle = middle_of bytes number deed line reply row is in

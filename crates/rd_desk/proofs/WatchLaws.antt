@@ -12,7 +12,7 @@ use Rattle.rd_command.specs.declared.view.View.{View}
 use Rattle.rd_command.specs.declared.view.View.TheVariants as view
 use Rattle.rd_desk.specs.declared.entry.HistoryEntry.{HistoryEntry}
 use Rattle.rd_desk.specs.declared.entry.Event.TheVariants.{Enter, Ask, Leave}
-use Rattle.rd_desk.specs.declared.reply.Reply.{Reply}
+use Rattle.rd_desk.specs.declared.reply.DeskReply.{DeskReply}
 use Rattle.rd_desk.specs.Debugger.{Debugger, own_watches, target_of, watching}
 use Rattle.rd_desk.specs.DeskView.{entry_of}
 use Rattle.rd_desk.specs.Laws.{TheHistoryStays, WatchesAreDroppedByTheirSession, WatchesAreSeenByTheirSession}
@@ -66,7 +66,7 @@ pub watches_are_dropped_by_their_session : WatchesAreDroppedByTheirSession
 watches_are_dropped_by_their_session d who other Enter may there differ =
     ap (λ (o : Option WatchesView). unwrap_or o []) (get_or_append_left d.sessions _ None (other - 1) (there_within d.sessions other there))
 watches_are_dropped_by_their_session d who other (Ask command) may there differ =
-    commanded (λ (after : Debugger) (reply : Reply). own_watches after other ≡ own_watches d other) d who command (λ holder. refl) refl
+    commanded (λ (after : Debugger) (reply : DeskReply). own_watches after other ≡ own_watches d other) d who command (λ holder. refl) refl
     (λ made _ _. dropped_bound d who other made may.numbered there.numbered differ)
 watches_are_dropped_by_their_session d who other Leave may there differ = own_stay d who other None may.numbered there.numbered differ
 

@@ -14,7 +14,7 @@ use Rattle.rd_command.proofs.Offered.{wheel_as_said}
 use Rattle.rd_desk.specs.declared.entry.HistoryEntry.{HistoryEntry}
 use Rattle.rd_desk.specs.declared.entry.Event.{Event}
 use Rattle.rd_desk.specs.declared.entry.Event.TheVariants.{Enter, Ask, Leave}
-use Rattle.rd_desk.specs.declared.reply.Reply.{Reply}
+use Rattle.rd_desk.specs.declared.reply.DeskReply.{DeskReply}
 use Rattle.rd_desk.specs.Debugger.{Debugger, is_holder, opening, own_watches}
 use Rattle.rd_desk.specs.Laws.{TheHolderTookTheWheelLast}
 use Rattle.rd_desk.specs.Legal.{Leads}
@@ -61,7 +61,7 @@ refused_wheel wheel who Free refusal = refl
 command_wheel : (d : Debugger) (who : ℕ) (command : CommandView)
     → (served d who (Ask command)).wheel ≡ holder_by d.wheel who (Ask command) (reply_of d who (Ask command))
 command_wheel d who command =
-    commanded (λ (after : Debugger) (reply : Reply). after.wheel ≡ holder_behind d.wheel who (wheel_of command.keyword) reply) d who command
+    commanded (λ (after : Debugger) (reply : DeskReply). after.wheel ≡ holder_behind d.wheel who (wheel_of command.keyword) reply) d who command
     (λ holder. refused_wheel d.wheel who (wheel_of command.keyword) (Held holder)) (refused_wheel d.wheel who (wheel_of command.keyword) NoSuch)
     (λ made free is.
     bound_wheel d who made
@@ -79,7 +79,7 @@ led_wheel d [] last leads = ap (λ (e : Debugger). e.wheel) leads
 led_wheel d (entry ∷ later) last leads =
     led_wheel (served d entry.who entry.event) later last leads.2
     ∙ ap (λ wheel. holder_after wheel later)
-    (served_wheel d entry.who entry.event ∙ ap (λ (r : Reply). holder_by d.wheel entry.who entry.event r) (sym leads.1))
+    (served_wheel d entry.who entry.event ∙ ap (λ (r : DeskReply). holder_by d.wheel entry.who entry.event r) (sym leads.1))
 
 pub the_holder_took_the_wheel_last : TheHolderTookTheWheelLast
 the_holder_took_the_wheel_last d history legal = led_wheel (opening d.app d.most_moves) history d legal

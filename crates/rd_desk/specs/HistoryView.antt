@@ -8,8 +8,8 @@ use Rattle.rd_desk.specs.declared.entry.Event.TheVariants as event
 use Rattle.rd_desk.specs.declared.entry.Receipt.{Receipt}
 use Rattle.rd_desk.specs.declared.rows.Deed.{Deed}
 use Rattle.rd_desk.specs.declared.rows.Deed.TheVariants.{Enter, Ask, Leave}
-use Rattle.rd_desk.specs.declared.reply.Reply.{Reply}
-use Rattle.rd_desk.specs.declared.reply.Reply.TheVariants.{Done, Told, Shown}
+use Rattle.rd_desk.specs.declared.reply.DeskReply.{DeskReply}
+use Rattle.rd_desk.specs.declared.reply.DeskReply.TheVariants.{Done, Told, Shown}
 use Rattle.rd_desk.specs.Asked.{asked_by}
 
 -- the entries, for how many more there is room, and for how many bytes of theirs
@@ -41,13 +41,13 @@ abbrev pub IsEntered : List HistoryEntry → Receipt → Type 0
 IsEntered entries receipt = slice_get entries receipt.place ≡ Some receipt.entry
 
 -- the bytes of a reply
-abbrev pub reply_bytes : Reply → List ℕ
+abbrev pub reply_bytes : DeskReply → List ℕ
 reply_bytes Done = []
 reply_bytes (Told told) = []
 reply_bytes (Shown text) = text
 
 -- The reply is a view.
-abbrev pub IsView : Reply → Type 0
+abbrev pub IsView : DeskReply → Type 0
 IsView Done = ⊥
 IsView (Told told) = ⊥
 IsView (Shown text) = Unit {0}

@@ -11,8 +11,8 @@ use Rattle.rd_desk.specs.declared.kept.Kept.TheVariants as kept
 use Rattle.rd_desk.specs.declared.kept.KeptKind.{KeptKind}
 use Rattle.rd_desk.specs.declared.kept.KeptKind.TheVariants as kind
 use Rattle.rd_desk.specs.declared.kept.PackedReply.{PackedReply}
-use Rattle.rd_desk.specs.declared.reply.Reply.{Reply}
-use Rattle.rd_desk.specs.declared.reply.Reply.TheVariants.{Done, Told, Shown}
+use Rattle.rd_desk.specs.declared.reply.DeskReply.{DeskReply}
+use Rattle.rd_desk.specs.declared.reply.DeskReply.TheVariants.{Done, Told, Shown}
 use Rattle.rd_desk.specs.HistoryView.{reply_bytes}
 
 -- the refusal of a cause
@@ -35,7 +35,7 @@ cause_refusal cause.Broken = refusal.Broken
 cause_refusal cause.Full = refusal.Full
 
 -- the reply, with its bytes
-abbrev pub reply_kept : Kept → List ℕ → Reply
+abbrev pub reply_kept : Kept → List ℕ → DeskReply
 reply_kept kept.Done bytes = Done
 reply_kept (kept.Reached at) bytes = Told (told.Done at)
 reply_kept (kept.Answered answer at) bytes = Told (told.Answered at answer)
@@ -89,7 +89,7 @@ line_end_of start end (kept.Shown line) = start + line
 
 -- It is kept of this reply, behind a line of so many bytes: with the reply's bytes it gives the
 -- reply, and from where the line begins it tells where it ends.
-pub record IsKeptOf (kept : Kept) (line : ℕ) (reply : Reply) : Type 0 where
+pub record IsKeptOf (kept : Kept) (line : ℕ) (reply : DeskReply) : Type 0 where
   pub gives : reply_kept kept (reply_bytes reply) ≡ reply
   pub ends : (start : ℕ)
       → line_end_of start (start + line + length (reply_bytes reply)) kept ≡ start + line
@@ -109,7 +109,7 @@ IsNarrowTold (told.Holder holder) = ⊤
 IsNarrowTold (told.Watch number) = ⊤
 IsNarrowTold (told.Refused refusal) = ⊤
 
-abbrev pub IsNarrow : Reply → Type 0
+abbrev pub IsNarrow : DeskReply → Type 0
 IsNarrow Done = ⊤
 IsNarrow (Told told) = IsNarrowTold told
 IsNarrow (Shown text) = ⊤

@@ -11,13 +11,13 @@ use Rattle.rd_timeline.specs.Runs.{may_make_moves}
 use Rattle.rd_desk.specs.Debugger.{Debugger}
 use Rattle.rd_desk.specs.declared.asked.TheConstants.{INLINE_BYTES}
 use Rattle.rd_desk.specs.DeskView.{RoomedDesk}
-use Rattle.rd_desk.specs.declared.reply.Reply.{Reply}
-use Rattle.rd_desk.specs.declared.reply.Reply.TheVariants.{Done, Told, Shown}
+use Rattle.rd_desk.specs.declared.reply.DeskReply.{DeskReply}
+use Rattle.rd_desk.specs.declared.reply.DeskReply.TheVariants.{Done, Told, Shown}
 use Rattle.rd_desk.specs.Serving.{held_by, view_of}
 use Rattle.rd_desk.specs.Sessions.{present_count}
 
 -- Is the reply a text?
-abbrev pub is_text : Reply → Bool
+abbrev pub is_text : DeskReply → Bool
 is_text Done = false
 is_text (Told told) = false
 is_text (Shown text) = true

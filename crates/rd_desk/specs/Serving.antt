@@ -24,18 +24,18 @@ use Rattle.rd_reply.specs.declared.reply.Reply.TheVariants.{Holder, Moves, Refus
 use Rattle.rd_reply.specs.Replies.{answer_reply, cores_text, line_of, watches_text}
 use Rattle.rd_desk.specs.declared.entry.Event.{Event}
 use Rattle.rd_desk.specs.declared.entry.Event.TheVariants.{Enter, Ask, Leave}
-use Rattle.rd_desk.specs.declared.reply.Reply.{Reply}
-use Rattle.rd_desk.specs.declared.reply.Reply.TheVariants.{Done, Told, Shown}
+use Rattle.rd_desk.specs.declared.reply.DeskReply.{DeskReply}
+use Rattle.rd_desk.specs.declared.reply.DeskReply.TheVariants.{Done, Told, Shown}
 use Rattle.rd_desk.specs.Debugger.{Debugger, freed, is_holder, other_holder, own_watches, target_of}
 use Rattle.rd_desk.specs.Debugger.{watching}
 use Rattle.rd_desk.specs.Sessions.{IsPresent, WatchesView, joined, watch_at, without}
 use Rattle.rd_desk.specs.Views.{view_text, watches_shown}
 
-abbrev pub refused : Refusal → Reply
+abbrev pub refused : Refusal → DeskReply
 refused refusal = Told (Refused refusal)
 
 -- the line of a view
-abbrev pub shown : List ℕ → Reply
+abbrev pub shown : List ℕ → DeskReply
 shown text = Shown (line_of text)
 
 -- ---- moves
@@ -44,7 +44,7 @@ shown text = Shown (line_of text)
 abbrev pub after_request : Debugger → PlainRequest → Debugger
 after_request d request = record d { moves = answered d.app.runs d.most_moves d.moves request }
 
-abbrev pub reply_to_request : Debugger → PlainRequest → Reply
+abbrev pub reply_to_request : Debugger → PlainRequest → DeskReply
 reply_to_request d request =
     Told (answer_reply (answer_to d.app.runs d.most_moves d.moves request))
 
@@ -53,13 +53,13 @@ abbrev pub after_search : Debugger → Option Condition → Search → Debugger
 after_search d None search = d
 after_search d (Some condition) search = after_request d (request_for search condition)
 
-abbrev pub reply_to_search : Debugger → Option Condition → Search → Reply
+abbrev pub reply_to_search : Debugger → Option Condition → Search → DeskReply
 reply_to_search d None search = refused NoWatch
 reply_to_search d (Some condition) search = reply_to_request d (request_for search condition)
 
 -- ---- the wheel
 
-abbrev pub reply_to_giver : Bool → Reply
+abbrev pub reply_to_giver : Bool → DeskReply
 reply_to_giver is_holder = if is_holder then Told Wheel else refused NotHolder
 
 -- ---- watches
@@ -70,7 +70,7 @@ after_kept d who condition None = d
 after_kept d who condition (Some number) =
     watching d who (slice_set (own_watches d who) number (Some condition))
 
-abbrev pub reply_to_kept : Option ℕ → Reply
+abbrev pub reply_to_kept : Option ℕ → DeskReply
 reply_to_kept None = refused WatchesFull
 reply_to_kept (Some number) = Told (Watch number)
 
@@ -80,24 +80,24 @@ after_dropped d who number None = d
 after_dropped d who number (Some condition) =
     watching d who (slice_set (own_watches d who) number None)
 
-abbrev pub reply_to_dropped : ℕ → Option Condition → Reply
+abbrev pub reply_to_dropped : ℕ → Option Condition → DeskReply
 reply_to_dropped number None = refused NoWatch
 reply_to_dropped number (Some condition) = Told (Watch number)
 
 -- ---- views
 
 -- what is shown of the debugger: of this target, the moves, the wheel, and a session's own watches
-abbrev pub overview_in : Snapshot → runs.Moves → Option ℕ → WatchesView → Overview → Reply
+abbrev pub overview_in : Snapshot → runs.Moves → Option ℕ → WatchesView → Overview → DeskReply
 overview_in s moves wheel watches overview.Moves =
     Told (Moves (length moves.done) (length moves.undone) (runs.kept moves))
 overview_in s moves wheel watches overview.Wheel = Told (Holder wheel)
 overview_in s moves wheel watches overview.Watches =
     shown (watches_text (watches_shown s watches))
 
-abbrev pub overview_of : Debugger → ℕ → Overview → Reply
+abbrev pub overview_of : Debugger → ℕ → Overview → DeskReply
 overview_of d who of = overview_in (target_of d) d.moves d.wheel (own_watches d who) of
 
-abbrev pub view_of : Debugger → ℕ → View → Reply
+abbrev pub view_of : Debugger → ℕ → View → DeskReply
 view_of d who (view.Thing kind number) = shown (view_text d.app.names (target_of d) kind number)
 view_of d who view.Cores = shown (cores_text d.app.names (target_of d))
 view_of d who (view.Overview of) = overview_of d who of
@@ -118,7 +118,7 @@ after_bound d who (bound.Drops number) =
 after_bound d who (bound.Looks view) = d
 
 -- its reply
-abbrev pub reply_to_bound : Debugger → ℕ → Bound → Reply
+abbrev pub reply_to_bound : Debugger → ℕ → Bound → DeskReply
 reply_to_bound d who (bound.Asks request) = reply_to_request d request
 reply_to_bound d who (bound.AsksByWatch watch search) =
     reply_to_search d (watch_at (own_watches d who) watch) search
@@ -132,7 +132,7 @@ reply_to_bound d who (bound.Looks view) = view_of d who view
 
 -- A command of this session, which names what is there, was done: this is the debugger after it,
 -- and the reply.
-pub record IsDone (old : Debugger) (who : ℕ) (command : Bound) (new : Debugger) (reply : Reply)
+pub record IsDone (old : Debugger) (who : ℕ) (command : Bound) (new : Debugger) (reply : DeskReply)
     : Type 0 where
   pub after : new ≡ after_bound old who command
   pub reply_is : reply ≡ reply_to_bound old who command
@@ -149,7 +149,7 @@ abbrev pub after_if_there : Debugger → ℕ → Option Bound → Debugger
 after_if_there d who None = d
 after_if_there d who (Some bound) = after_bound d who bound
 
-abbrev pub reply_if_there : Debugger → ℕ → Option Bound → Reply
+abbrev pub reply_if_there : Debugger → ℕ → Option Bound → DeskReply
 reply_if_there d who None = refused NoSuch
 reply_if_there d who (Some bound) = reply_to_bound d who bound
 
@@ -157,7 +157,7 @@ abbrev pub after_unless_held : Debugger → ℕ → CommandView → Option ℕ �
 after_unless_held d who command None = after_if_there d who (bound_of d.app command)
 after_unless_held d who command (Some holder) = d
 
-abbrev pub reply_unless_held : Debugger → ℕ → CommandView → Option ℕ → Reply
+abbrev pub reply_unless_held : Debugger → ℕ → CommandView → Option ℕ → DeskReply
 reply_unless_held d who command None = reply_if_there d who (bound_of d.app command)
 reply_unless_held d who command (Some holder) = refused (Held holder)
 
@@ -165,12 +165,12 @@ reply_unless_held d who command (Some holder) = refused (Held holder)
 abbrev pub after_command : Debugger → ℕ → CommandView → Debugger
 after_command d who command = after_unless_held d who command (held_by d who command)
 
-abbrev pub reply_to_command : Debugger → ℕ → CommandView → Reply
+abbrev pub reply_to_command : Debugger → ℕ → CommandView → DeskReply
 reply_to_command d who command = reply_unless_held d who command (held_by d who command)
 
 -- A command of this session was answered: this is the debugger after it, and the reply.
 pub record IsAnswered (old : Debugger) (who : ℕ) (command : CommandView) (new : Debugger)
-    (reply : Reply) : Type 0 where
+    (reply : DeskReply) : Type 0 where
   pub after : new ≡ after_command old who command
   pub reply_is : reply ≡ reply_to_command old who command
 
@@ -191,7 +191,7 @@ served d who (Ask command) = after_command d who command
 served d who Leave = left d who
 
 -- its reply
-abbrev pub reply_of : Debugger → ℕ → Event → Reply
+abbrev pub reply_of : Debugger → ℕ → Event → DeskReply
 reply_of d who Enter = Done
 reply_of d who (Ask command) = reply_to_command d who command
 reply_of d who Leave = Done

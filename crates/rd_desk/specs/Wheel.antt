@@ -7,24 +7,24 @@ use Rattle.rd_reply.specs.declared.reply.Reply.TheVariants.{Wheel}
 use Rattle.rd_desk.specs.declared.entry.HistoryEntry.{HistoryEntry}
 use Rattle.rd_desk.specs.declared.entry.Event.{Event}
 use Rattle.rd_desk.specs.declared.entry.Event.TheVariants.{Enter, Ask, Leave}
-use Rattle.rd_desk.specs.declared.reply.Reply.{Reply}
-use Rattle.rd_desk.specs.declared.reply.Reply.TheVariants.{Told}
+use Rattle.rd_desk.specs.declared.reply.DeskReply.{DeskReply}
+use Rattle.rd_desk.specs.declared.reply.DeskReply.TheVariants.{Told}
 use Rattle.rd_desk.specs.Debugger.{freed}
 
 -- was the wheel taken or given?
-abbrev pub is_wheel : Reply → Bool
+abbrev pub is_wheel : DeskReply → Bool
 is_wheel (Told Wheel) = true
 is_wheel other = false
 
 -- who has the wheel behind a command with this reply, by what it has to do with the wheel
-abbrev pub holder_behind : Option ℕ → ℕ → keywords.Wheel → Reply → Option ℕ
+abbrev pub holder_behind : Option ℕ → ℕ → keywords.Wheel → DeskReply → Option ℕ
 holder_behind holder who Taken reply = if is_wheel reply then Some who else holder
 holder_behind holder who Given reply = if is_wheel reply then None else holder
 holder_behind holder who Needed reply = holder
 holder_behind holder who Free reply = holder
 
 -- who has the wheel behind an event with this reply, where that one had it before
-abbrev pub holder_by : Option ℕ → ℕ → Event → Reply → Option ℕ
+abbrev pub holder_by : Option ℕ → ℕ → Event → DeskReply → Option ℕ
 holder_by holder who Enter reply = holder
 holder_by holder who (Ask command) reply =
     holder_behind holder who (wheel_of command.keyword) reply

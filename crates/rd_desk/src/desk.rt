@@ -21,7 +21,7 @@ use crate::entry::{HistoryEntry, Event, Receipt};
 use crate::history::History;
 use crate::limits::Limits;
 use crate::machine::Machine;
-use crate::reply::Reply;
+use crate::reply::DeskReply;
 use crate::rows::{Deed, Rows};
 use crate::sessions::MAX_JOINS;
 use crate::tally::Tally;
@@ -112,13 +112,13 @@ fn admit(machine: &mut Machine, history: &mut History) -> Receipt
     let who = machine.joins() as u32 + 1;
     let place = history.len();
     machine.enter();
-    history.push(who, Deed::Enter, &[], &Reply::Done);
+    history.push(who, Deed::Enter, &[], &DeskReply::Done);
     Receipt {
         place,
         entry: HistoryEntry {
             who,
             event: Event::Enter,
-            reply: Reply::Done,
+            reply: DeskReply::Done,
         },
     }
 }
@@ -131,7 +131,7 @@ fn make_room_for(
     rows: usize,
     receipts: &mut Rows,
     line: &[u8],
-    reply: &Reply,
+    reply: &DeskReply,
 ) -> Result<(), NoMemory>
     requires rows { rows ≤ history.old.row_room }
     requires line { length line.now ≤ history.old.byte_room }
@@ -147,12 +147,12 @@ fn make_room_for(
     ensures err { OnErr result (IsView reply.now) }
 {
     match reply {
-        Reply::Shown { text } => {
+        DeskReply::Shown { text } => {
             let bytes = line.len() + text.as_slice().len();
             history.make_room(rows, bytes)?;
             receipts.make_room(0, bytes)
         }
-        Reply::Done | Reply::Told { .. } => Ok(()),
+        DeskReply::Done | DeskReply::Told { .. } => Ok(()),
     }
 }
 
@@ -416,13 +416,13 @@ impl Desk {
     {
         let place = self.history.len();
         self.machine.leave(who);
-        self.history.push(who, Deed::Leave, &[], &Reply::Done);
+        self.history.push(who, Deed::Leave, &[], &DeskReply::Done);
         Receipt {
             place,
             entry: HistoryEntry {
                 who,
                 event: Event::Leave,
-                reply: Reply::Done,
+                reply: DeskReply::Done,
             },
         }
     }

@@ -1,7 +1,7 @@
 //! What the history says: who did what, and what was replied.
 
 use crate::asked::Asked;
-use crate::reply::Reply;
+use crate::reply::DeskReply;
 
 /// What a session does.
 #[derive(Drop)]
@@ -22,7 +22,7 @@ pub struct HistoryEntry {
     /// What it did.
     pub event: Event,
     /// What was replied.
-    pub reply: Reply,
+    pub reply: DeskReply,
 }
 
 /// An entry with its place in the history.
@@ -43,5 +43,5 @@ pub struct Noted {
     /// What was done.
     pub event: Event,
     /// What was replied.
-    pub reply: Reply,
+    pub reply: DeskReply,
 }

@@ -6,7 +6,7 @@ ghost use Rattle.rd_desk.specs.HistoryView.{deed_event, reply_bytes, IsEntered, 
 ghost use Rattle.rd_desk.specs.Kept.{IsNarrow};
 ghost use Rattle.rd_desk.specs.Rows.{receipt_of};
 
-use crate::reply::Reply;
+use crate::reply::DeskReply;
 use crate::rows::{Deed, Rows};
 use rd_bytes::no_memory::NoMemory;
 use std::alloc::Global;
@@ -76,7 +76,7 @@ impl History {
     /// Appends an entry, which there is room for. The line is that of the command, if one was asked
     /// for.
     #[inline(always)]
-    pub fn push(&mut self, who: u32, deed: Deed, line: &[u8], reply: &Reply)
+    pub fn push(&mut self, who: u32, deed: Deed, line: &[u8], reply: &DeskReply)
         requires line { IsLineOf deed line.now }
         requires narrow { IsNarrow reply.now }
         requires row { 0 < self.old.row_room }

@@ -5,7 +5,7 @@ ghost use Rattle.rd_desk.specs.HistoryView.{reply_bytes};
 ghost use Rattle.rd_desk.specs.Kept.{cause_refusal, packed_kept, reply_kept, wide, IsKeptOf};
 ghost use Rattle.rd_desk.specs.Kept.{IsNarrow, IsNarrowTold};
 
-use crate::reply::Reply;
+use crate::reply::DeskReply;
 use crate::text::Text;
 use rd_bytes::no_memory::NoMemory;
 use rd_moves::answer::SearchEnd;
@@ -122,7 +122,7 @@ fn refused(cause: RefusalCause) -> PackedReply
 
 // What is kept of a refusal.
 fn pack_refusal(refusal: Refusal) -> PackedReply
-    ensures { IsKeptOf (packed_kept result) 0 (Reply.Told (Short.Refused refusal)) }
+    ensures { IsKeptOf (packed_kept result) 0 (DeskReply.Told (Short.Refused refusal)) }
 {
     match refusal {
         Refusal::NoTask => refused(RefusalCause::NoTask),
@@ -159,7 +159,7 @@ fn pack_holder(holder: Option<u32>) -> PackedReply
 // What is kept of a reply in a few words.
 fn pack_told(told: &Short) -> PackedReply
     requires { IsNarrowTold told.now }
-    ensures { IsKeptOf (packed_kept result) 0 (Reply.Told told.now) }
+    ensures { IsKeptOf (packed_kept result) 0 (DeskReply.Told told.now) }
 {
     match told {
         Short::Done { at } => wide(KeptKind::Reached, *at, 0),
@@ -180,14 +180,14 @@ fn pack_told(told: &Short) -> PackedReply
 
 impl PackedReply {
     /// What is kept of a reply behind a line of so many bytes.
-    pub(crate) fn of(line: usize, reply: &Reply) -> PackedReply
+    pub(crate) fn of(line: usize, reply: &DeskReply) -> PackedReply
         requires { IsNarrow reply.now }
         ensures { IsKeptOf (packed_kept result) line reply.now }
     {
         match reply {
-            Reply::Done => plain(KeptKind::Done),
-            Reply::Told { told } => pack_told(told),
-            Reply::Shown { .. } => wide(KeptKind::Shown, line, 0),
+            DeskReply::Done => plain(KeptKind::Done),
+            DeskReply::Told { told } => pack_told(told),
+            DeskReply::Shown { .. } => wide(KeptKind::Shown, line, 0),
         }
     }
 
@@ -264,13 +264,13 @@ fn refusal_of(cause: RefusalCause) -> Refusal
 
 impl Kept {
     /// The reply, with the text of a view. An `Err` says that there is no memory for that.
-    pub(crate) fn reply(self, alloc: Global, text: &[u8]) -> Result<Reply, NoMemory>
+    pub(crate) fn reply(self, alloc: Global, text: &[u8]) -> Result<DeskReply, NoMemory>
         ensures { IfOk result (λ reply. reply ≡ reply_kept self text.now) }
     {
         let told = match self {
-            Kept::Done => return Ok(Reply::Done),
+            Kept::Done => return Ok(DeskReply::Done),
             Kept::Shown { .. } => {
-                return Ok(Reply::Shown {
+                return Ok(DeskReply::Shown {
                     text: Text::of(alloc, text)?,
                 });
             }
@@ -295,6 +295,6 @@ impl Kept {
                 refusal: refusal_of(cause),
             },
         };
-        Ok(Reply::Told { told })
+        Ok(DeskReply::Told { told })
     }
 }

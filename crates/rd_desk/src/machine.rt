@@ -21,7 +21,7 @@ ghost use Rattle.rd_desk.specs.Serving.{IsAnswered, IsDone};
 ghost use Rattle.rd_desk.specs.Sessions.{IsPresent, present_count, watch_count};
 ghost use Rattle.rd_desk.specs.Views.{AreNamesOf, text_shown};
 
-use crate::reply::Reply;
+use crate::reply::DeskReply;
 use crate::sessions::{MAX_JOINS, Sessions};
 use crate::showing::{show, show_all_watches};
 use crate::text::Text;
@@ -66,18 +66,18 @@ impl Model for Machine {
 }
 
 // A command was refused.
-fn refused(refusal: Refusal) -> Reply
+fn refused(refusal: Refusal) -> DeskReply
     ensures { result ≡ refused refusal }
 {
-    Reply::Told {
+    DeskReply::Told {
         told: Short::Refused { refusal },
     }
 }
 
-fn told(told: Short) -> Reply
-    ensures { result ≡ Reply.Told told }
+fn told(told: Short) -> DeskReply
+    ensures { result ≡ DeskReply.Told told }
 {
-    Reply::Told { told }
+    DeskReply::Told { told }
 }
 
 // Another session that has the wheel, if one has.
@@ -248,7 +248,7 @@ impl Machine {
 
     // Asks the timeline.
     #[inline(never)]
-    fn ask(&mut self, request: &Request<Lent<'_>>) -> Result<Reply, NoMemory>
+    fn ask(&mut self, request: &Request<Lent<'_>>) -> Result<DeskReply, NoMemory>
         requires { IsRequestOf self.old.debugger.app.runs request.now }
         ensures after { IfOk result
             (λ reply. self.new.debugger ≡ after_request self.old.debugger request.now) }
@@ -265,7 +265,7 @@ impl Machine {
     // Asks the timeline for a move, with what it carries, whose bytes are read here and stand here
     // meanwhile.
     #[inline(never)]
-    fn carry(&mut self, carried: &Carried<Digits<'_>>) -> Result<Reply, NoMemory>
+    fn carry(&mut self, carried: &Carried<Digits<'_>>) -> Result<DeskReply, NoMemory>
         requires { IsRequestOf self.old.debugger.app.runs (carrying carried.now) }
         ensures after { IfOk result
             (λ reply. self.new.debugger ≡ after_request self.old.debugger (carrying carried.now)) }
@@ -283,7 +283,7 @@ impl Machine {
 
     // Asks the timeline to search for the condition of a watch.
     #[inline(never)]
-    fn ask_by_watch(&mut self, who: u32, watch: usize, search: Search) -> Result<Reply, NoMemory>
+    fn ask_by_watch(&mut self, who: u32, watch: usize, search: Search) -> Result<DeskReply, NoMemory>
         requires { IsPresent self.old.debugger.sessions who }
         ensures ok { IfOk result (IsDone self.old.debugger who (bound.AsksByWatch watch search)
             self.new.debugger) }
@@ -299,7 +299,7 @@ impl Machine {
 
     // The session takes the wheel, which no other has.
     #[inline(never)]
-    fn take_wheel(&mut self, who: u32) -> Reply
+    fn take_wheel(&mut self, who: u32) -> DeskReply
         ensures done { IsDone self.old.debugger who bound.TakesWheel self.new.debugger result }
         ensures log { self.new.log ≡ self.old.log }
     {
@@ -309,7 +309,7 @@ impl Machine {
 
     // The session gives the wheel, if it has it.
     #[inline(never)]
-    fn give_wheel(&mut self, who: u32) -> Reply
+    fn give_wheel(&mut self, who: u32) -> DeskReply
         ensures done { IsDone self.old.debugger who bound.GivesWheel self.new.debugger result }
         ensures log { self.new.log ≡ self.old.log }
     {
@@ -336,7 +336,7 @@ impl Machine {
 
     // The session keeps a condition, at the least number that is free.
     #[inline(never)]
-    fn watch(&mut self, who: u32, condition: Condition) -> Reply
+    fn watch(&mut self, who: u32, condition: Condition) -> DeskReply
         requires there { IsPresent self.old.debugger.sessions who }
         requires named { IsConditionOf self.old.debugger.app.runs condition }
         ensures done { IsDone self.old.debugger who (bound.Keeps condition)
@@ -354,7 +354,7 @@ impl Machine {
 
     // The session drops the watch with that number, if it has it.
     #[inline(never)]
-    fn unwatch(&mut self, who: u32, number: usize) -> Reply
+    fn unwatch(&mut self, who: u32, number: usize) -> DeskReply
         requires { IsPresent self.old.debugger.sessions who }
         ensures done { IsDone self.old.debugger who (bound.Drops number) self.new.debugger result }
         ensures log { self.new.log ≡ self.old.log }
@@ -369,7 +369,7 @@ impl Machine {
 
     // A view of the target.
     #[inline(never)]
-    fn view(&self, view: View) -> Result<Reply, NoMemory>
+    fn view(&self, view: View) -> Result<DeskReply, NoMemory>
         requires there { IsSome
             (text_shown self.now.debugger.app.names (target_of self.now.debugger) view) }
         requires named { IsViewOf self.now.debugger.app.names view }
@@ -379,14 +379,14 @@ impl Machine {
     {
         self.keeps();
         let line = show(self.alloc, self.target(), self.names(), view)?;
-        Ok(Reply::Shown {
+        Ok(DeskReply::Shown {
             text: Text::new(line),
         })
     }
 
     // The view of the session's watches.
     #[inline(never)]
-    fn watches(&self, who: u32) -> Result<Reply, NoMemory>
+    fn watches(&self, who: u32) -> Result<DeskReply, NoMemory>
         requires { IsPresent self.now.debugger.sessions who }
         ensures { IfOk result
             (λ reply. reply ≡ overview_of self.now.debugger who Overview.Watches) }
@@ -394,11 +394,11 @@ impl Machine {
         self.timeline.keeps();
         let watches = self.sessions.watches(who);
         let text = show_all_watches(&self.timeline, self.alloc, watches)?;
-        Ok(Reply::Shown { text })
+        Ok(DeskReply::Shown { text })
     }
 
     // What the session is shown. Nothing changes.
-    fn look(&self, who: u32, view: View) -> Result<Reply, NoMemory>
+    fn look(&self, who: u32, view: View) -> Result<DeskReply, NoMemory>
         requires there { IsPresent self.now.debugger.sessions who }
         requires named { IsViewOf self.now.debugger.app.names view }
         ensures ok { IfOk result (λ reply. reply ≡ view_of self.now.debugger who view) }
@@ -420,7 +420,7 @@ impl Machine {
     }
 
     // Does what a command asks for.
-    fn obey(&mut self, who: u32, bound: &Bound<'_>) -> Result<Reply, NoMemory>
+    fn obey(&mut self, who: u32, bound: &Bound<'_>) -> Result<DeskReply, NoMemory>
         requires there { IsPresent self.old.debugger.sessions who }
         requires named { IsBoundOf self.old.debugger.app bound.now }
         ensures ok { IfOk result (IsDone self.old.debugger who bound.now self.new.debugger) }
@@ -460,7 +460,7 @@ impl Machine {
     /// that there is no memory for the moves or the text that the command makes, and comes only
     /// where it makes some; then nothing has changed either. What is shown leaves the records of
     /// the moves too. The order was bound for this application.
-    pub fn serve(&mut self, who: u32, order: &Order<'_, '_>) -> Result<Reply, NoMemory>
+    pub fn serve(&mut self, who: u32, order: &Order<'_, '_>) -> Result<DeskReply, NoMemory>
         requires there { IsPresent self.old.debugger.sessions who }
         requires application { order.now.known ≡ known_of self.old.debugger.app }
         ensures ok { IfOk result

@@ -9,7 +9,7 @@ use std::alloc::Global;
 
 /// What is replied to an event.
 #[derive(Drop)]
-pub enum Reply {
+pub enum DeskReply {
     /// To a session that enters or leaves. No line is written for it.
     Done,
     /// In a few words.
@@ -18,15 +18,15 @@ pub enum Reply {
     Shown { text: Text },
 }
 
-impl Reply {
+impl DeskReply {
     /// An equal reply. An `Err` says that there is no memory for the text of a view.
-    pub fn copy(&self, alloc: Global) -> Result<Reply, NoMemory>
+    pub fn copy(&self, alloc: Global) -> Result<DeskReply, NoMemory>
         ensures { IfOk result (λ reply. reply ≡ self.now) }
     {
         match self {
-            Reply::Done => Ok(Reply::Done),
-            Reply::Told { told } => Ok(Reply::Told { told: *told }),
-            Reply::Shown { text } => Ok(Reply::Shown {
+            DeskReply::Done => Ok(DeskReply::Done),
+            DeskReply::Told { told } => Ok(DeskReply::Told { told: *told }),
+            DeskReply::Shown { text } => Ok(DeskReply::Shown {
                 text: text.copy(alloc)?,
             }),
         }

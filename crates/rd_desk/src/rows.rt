@@ -13,7 +13,7 @@ ghost use Rattle.rd_desk.specs.RowsInside.{IsPlaced, IsRowOf, SaySame};
 use crate::asked::{Asked, are_same_command};
 use crate::entry::{Event, Noted};
 use crate::kept::{KeptKind, PackedReply};
-use crate::reply::Reply;
+use crate::reply::DeskReply;
 use rd_bytes::no_memory::NoMemory;
 use std::alloc::Global;
 use std::marker::Model;
@@ -81,12 +81,12 @@ impl Model for Rows {
 }
 
 /// The bytes of a reply: the line of a view, and else none.
-pub fn reply_bytes(reply: &Reply) -> &[u8]
+pub fn reply_bytes(reply: &DeskReply) -> &[u8]
     ensures { result.now ≡ reply_bytes reply.now }
 {
     match reply {
-        Reply::Done | Reply::Told { .. } => &[],
-        Reply::Shown { text } => text.as_slice(),
+        DeskReply::Done | DeskReply::Told { .. } => &[],
+        DeskReply::Shown { text } => text.as_slice(),
     }
 }
 
@@ -369,7 +369,7 @@ impl Rows {
 
     /// Appends one, which there is room for. The line is that of the command, if one was asked for.
     #[inline(always)]
-    pub fn push(&mut self, number: u32, deed: Deed, line: &[u8], reply: &Reply)
+    pub fn push(&mut self, number: u32, deed: Deed, line: &[u8], reply: &DeskReply)
         requires line { IsLineOf deed line.now }
         requires narrow { IsNarrow reply.now }
         requires row { 0 < self.old.row_room }

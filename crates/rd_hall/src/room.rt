@@ -27,7 +27,7 @@ use rd_command::order::Order;
 use rd_desk::desk::{Desk, EnterError, NotServed};
 use rd_desk::entry::Receipt;
 use rd_desk::limits::Limits;
-use rd_desk::reply::Reply;
+use rd_desk::reply::DeskReply;
 use rd_desk::rows::{Deed, Rows};
 use rd_desk::sessions::MAX_JOINS;
 use rd_names::app::App;
@@ -173,7 +173,7 @@ impl<L: Setup> Room<L> {
                 let Pass { mut share } = pass;
                 self.book.add(&mut share, 1);
                 let next = self.desk.entries();
-                receipts.push(entered.place as u32, Deed::Enter, &[], &Reply::Done);
+                receipts.push(entered.place as u32, Deed::Enter, &[], &DeskReply::Done);
                 Ok(Seat {
                     who: entered.entry.who,
                     receipts,

@@ -6,7 +6,7 @@ ghost use Rattle.std.specs.Prelude.{IfOk, IsSomeAnd, IsTrue, OnErr, OnOk, Some};
 ghost use Rattle.rd_desk.specs.HistoryView.{reply_bytes, IsEntered};
 ghost use Rattle.rd_desk.specs.Kept.{IsNarrow, IsShort};
 ghost use Rattle.rd_desk.specs.declared.entry.Event.TheVariants.{Ask, Leave};
-ghost use Rattle.rd_desk.specs.declared.reply.Reply.TheVariants.{Done};
+ghost use Rattle.rd_desk.specs.declared.reply.DeskReply.TheVariants.{Done};
 ghost use Rattle.rd_hall.specs.Account.{ends_in_leave, first_place};
 ghost use Rattle.rd_hall.specs.SeatView.{IsSeries, next_place, with_receipt};
 
@@ -15,7 +15,7 @@ use rd_bytes::no_memory::NoMemory;
 use rd_command::order::Order;
 use rd_desk::entry::{HistoryEntry, Receipt};
 use rd_desk::history::History;
-use rd_desk::reply::Reply;
+use rd_desk::reply::DeskReply;
 use rd_desk::rows::{Deed, Rows};
 use std::alloc::Global;
 use std::marker::Model;
@@ -217,7 +217,7 @@ impl<L: Setup> Seat<L> {
             mut share,
         } = self;
         book.add(&mut share, 1);
-        receipts.push(receipt.place as u32, Deed::Leave, &[], &Reply::Done);
+        receipts.push(receipt.place as u32, Deed::Leave, &[], &DeskReply::Done);
         Gone {
             who,
             receipts,

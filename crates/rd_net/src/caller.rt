@@ -7,7 +7,7 @@ ghost use Rattle.rd_session.specs.Replies.{refusal_line};
 ghost use Rattle.rd_net.specs.Refused.{refusal_of};
 
 use rd_desk::desk::EnterError;
-use rd_desk::reply::Reply;
+use rd_desk::reply::DeskReply;
 use rd_ends::ends::{Sink, WriteFault};
 use rd_ends::over::Over;
 use rd_refusal::refusal::Refusal;
@@ -123,5 +123,5 @@ fn tell<W: Sink>(sink: &mut W, error: &EnterError) -> Result<(), WriteFault>
 {
     let refusal = refusal_of(error);
     let told = Short::Refused { refusal };
-    render(&Reply::Told { told }, sink)
+    render(&DeskReply::Told { told }, sink)
 }

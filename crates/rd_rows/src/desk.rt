@@ -13,7 +13,7 @@ use rd_command::word::Behind;
 use rd_desk::desk::{Desk, EnterError, NotServed};
 use rd_desk::entry::Receipt;
 use rd_desk::limits::Limits;
-use rd_desk::reply::Reply;
+use rd_desk::reply::DeskReply;
 use rd_desk::rows::Rows;
 use rd_desk::tally::Tally;
 use rd_names::app::App;
@@ -72,12 +72,12 @@ pub fn assert_departs(rt: &impl Abort, desk: &mut Desk, who: u32) {
 }
 
 /// The line of a reply.
-pub fn line_of<H: AllocGlobal>(rt: &H, reply: &Reply) -> Result<Vec<u8>, AllocError> {
+pub fn line_of<H: AllocGlobal>(rt: &H, reply: &DeskReply) -> Result<Vec<u8>, AllocError> {
     let mut line = Vec::with_capacity(rt.alloc(), MAX_REPLY)?;
     match reply {
-        Reply::Done => {}
-        Reply::Told { told } => append_reply(&mut line, told),
-        Reply::Shown { text } => line.extend_from_slice(text.as_slice())?,
+        DeskReply::Done => {}
+        DeskReply::Told { told } => append_reply(&mut line, told),
+        DeskReply::Shown { text } => line.extend_from_slice(text.as_slice())?,
     }
     Ok(line)
 }

@@ -4,7 +4,7 @@ use crate::asserts::assert_same;
 use crate::desk::{assert_enters, open, serve};
 use crate::memory::Narrow;
 use rd_desk::desk::Desk;
-use rd_desk::reply::Reply;
+use rd_desk::reply::DeskReply;
 use rd_ends::over::Over;
 use rd_refusal::refusal::Refusal;
 use rd_reply::reply::Reply as Short;
@@ -24,7 +24,7 @@ struct Rendered {
 }
 
 // The reply is written so.
-fn assert_rendered<H: AllocGlobal + Abort>(rt: &H, reply: &Reply, wanted: Rendered) {
+fn assert_rendered<H: AllocGlobal + Abort>(rt: &H, reply: &DeskReply, wanted: Rendered) {
     let mut sink = Over::new(Narrow::new(Vec::new(rt.alloc()), wanted.room));
     let written = render(reply, &mut sink);
     assert_same(rt, written.is_err(), wanted.fails);
@@ -36,7 +36,7 @@ fn assert_rendered<H: AllocGlobal + Abort>(rt: &H, reply: &Reply, wanted: Render
 // The reply has this line. It is written at once, and a front of it where there is no room.
 fn assert_line<H: AllocGlobal + Abort>(
     rt: &H,
-    reply: &Reply,
+    reply: &DeskReply,
     line: &'static str,
     front: &'static str,
 ) {
@@ -77,7 +77,7 @@ fn assert_line<H: AllocGlobal + Abort>(
 fn nothing(rt: HostRuntime) {
     assert_rendered(
         &rt,
-        &Reply::Done,
+        &DeskReply::Done,
         Rendered {
             room: 0,
             text: "",
@@ -92,12 +92,12 @@ fn nothing(rt: HostRuntime) {
 #[test]
 fn few_words(rt: HostRuntime) {
     let told = Short::Done { at: 3 };
-    assert_line(&rt, &Reply::Told { told }, "ok at 3\n", "o");
+    assert_line(&rt, &DeskReply::Told { told }, "ok at 3\n", "o");
     let told = Short::Answered { at: 3, answer: 0 };
-    assert_line(&rt, &Reply::Told { told }, "ok at 3 isr 0\n", "o");
+    assert_line(&rt, &DeskReply::Told { told }, "ok at 3 isr 0\n", "o");
     let refusal = Refusal::TooFar { kept: 0 };
     let told = Short::Refused { refusal };
-    assert_line(&rt, &Reply::Told { told }, "no TooFar 0\n", "n");
+    assert_line(&rt, &DeskReply::Told { told }, "no TooFar 0\n", "n");
 }
 
 // A session enters, and looks at the cores.

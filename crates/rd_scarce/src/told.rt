@@ -1,6 +1,6 @@
 //! Replies against their texts.
 
-use rd_desk::reply::Reply;
+use rd_desk::reply::DeskReply;
 use rd_ends::over::Over;
 use rd_session::render::render;
 use std::io;
@@ -29,7 +29,7 @@ impl Write for Expected<'_> {
 }
 
 /// Whether the line of the reply is this text. It takes no memory.
-pub fn is_told(reply: &Reply, text: &str) -> bool {
+pub fn is_told(reply: &DeskReply, text: &str) -> bool {
     let mut sink = Over::new(Expected {
         rest: text.as_bytes(),
     });

@@ -7,11 +7,11 @@ use Rattle.rd_reply.specs.declared.reply.Reply.TheVariants.{Refused}
 use Rattle.rd_desk.specs.declared.desk.NotServed.{NotServed}
 use Rattle.rd_desk.specs.declared.desk.NotServed.TheVariants as not_served
 use Rattle.rd_desk.specs.declared.entry.Receipt.{Receipt}
-use Rattle.rd_desk.specs.declared.reply.Reply.{Reply}
-use Rattle.rd_desk.specs.declared.reply.Reply.TheVariants.{Done, Told, Shown}
+use Rattle.rd_desk.specs.declared.reply.DeskReply.{DeskReply}
+use Rattle.rd_desk.specs.declared.reply.DeskReply.TheVariants.{Done, Told, Shown}
 
 -- the line of a reply; none is written to who enters or leaves
-abbrev pub reply_line : Reply → List ℕ
+abbrev pub reply_line : DeskReply → List ℕ
 reply_line Done = []
 reply_line (Told told) = line_of (reply_text told)
 reply_line (Shown line) = line

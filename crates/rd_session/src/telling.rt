@@ -8,7 +8,7 @@ ghost use Rattle.rd_reply.specs.declared.reply.TheConstants.{MAX_REPLY};
 
 use crate::gate::Gate;
 use crate::pending::Pending;
-use rd_desk::reply::Reply;
+use rd_desk::reply::DeskReply;
 use rd_ends::ends::{Sink, WriteFault};
 
 // Tells the gate of each line up to that number whose answer is out by now.
@@ -78,7 +78,7 @@ pub(crate) fn tell<G: Gate, W: Sink>(
     who: u32,
     pending: &mut Pending,
     sink: &mut W,
-    reply: &Reply,
+    reply: &DeskReply,
 ) -> Result<(), WriteFault>
     requires room { length pending.old.bytes + MAX_REPLY ≤ pending.old.capacity }
     requires begun { pending.old.out < pending.old.begun }
@@ -92,12 +92,12 @@ pub(crate) fn tell<G: Gate, W: Sink>(
     ensures faults { (W.seen sink.new).faults ≡ faults_after (W.seen sink.old).faults result }
 {
     match reply {
-        Reply::Done => Ok(()),
-        Reply::Told { told } => {
+        DeskReply::Done => Ok(()),
+        DeskReply::Told { told } => {
             pending.put_short(told);
             Ok(())
         }
-        Reply::Shown { text } => {
+        DeskReply::Shown { text } => {
             let line = text.as_slice();
             if pending.fits(line.len()) {
                 pending.put(line);
