@@ -20,13 +20,13 @@ pub(crate) enum Visit<L: Setup> {
 // What has come of the connections, how many are being served, and which threads have ended and
 // weren't joined yet.
 #[derive(Drop)]
-struct Tally<L: Setup> {
+struct VisitTally<L: Setup> {
     served: Served<L>,
     running: u32,
     ended: Vec<usize>,
 }
 
-impl<L: Setup> Tally<L> {
+impl<L: Setup> VisitTally<L> {
     // The thread of that number has ended. (There is room for the numbers of all.)
     fn end(&mut self, number: usize, visit: Visit<L>) {
         self.running = self.running.saturating_sub(1);
@@ -45,7 +45,7 @@ impl<L: Setup> Tally<L> {
 /// What has come of the connections so far, shared by the threads that serve them.
 #[derive(Drop)]
 pub(crate) struct Table<L: Setup> {
-    tally: Mutex<Tally<L>>,
+    tally: Mutex<VisitTally<L>>,
     ended: Condvar,
 }
 
@@ -55,7 +55,7 @@ impl<L: Setup> Table<L> {
     pub(crate) fn new(alloc: Global, count: usize) -> Result<Table<L>, AllocError> {
         let gone = Vec::with_capacity(alloc, count)?;
         let ended = Vec::with_capacity(alloc, count)?;
-        let tally = Tally {
+        let tally = VisitTally {
             served: Served { gone, faults: 0 },
             running: 0,
             ended,
@@ -108,7 +108,7 @@ impl<L: Setup> Table<L> {
     /// What came of all.
     pub(crate) fn into_served(self) -> Served<L> {
         let Table { tally, ended: _ } = self;
-        let Tally {
+        let VisitTally {
             served,
             running: _,
             ended: _,
