@@ -18,7 +18,7 @@ use crate::serve::listen;
 use rd_desk::limits::Limits;
 use rd_start::fault::Fault;
 use rd_start::file::load;
-use rd_start::options::{Request, Settings, options};
+use rd_start::options::{StartRequest, Settings, options};
 use std::alloc::AllocGlobal;
 use std::io;
 use std::io::{ErrorKind, Read, Write};
@@ -96,7 +96,7 @@ where
         → AreRefused (words_read (map string_bytes words.now))) }
 {
     match options(handle.alloc(), words)? {
-        Request::Run { settings } => {
+        StartRequest::Run { settings } => {
             let app = load(handle, settings.app)?;
             debug(
                 handle,
@@ -107,7 +107,7 @@ where
                 writer,
             )
         }
-        Request::Serve {
+        StartRequest::Serve {
             settings,
             port,
             sessions,
@@ -124,7 +124,7 @@ where
                 errors,
             )
         }
-        Request::Help { text } => {
+        StartRequest::Help { text } => {
             let _ = writer.write_all(text.as_bytes());
             Ok(())
         }

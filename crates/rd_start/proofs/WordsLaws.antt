@@ -21,8 +21,8 @@ use Rattle.rd_start.specs.Requests.{IsHelp, IsNamed, IsNamedBy, IsNumberOf, comm
 use Rattle.rd_start.specs.Requests.{subcommand_in, words_read}
 use Rattle.rd_start.specs.declared.fault.Fault.{Fault}
 use Rattle.rd_start.specs.declared.fault.Fault.TheVariants.{BadCommandLine, CannotRead, App, NoMemory}
-use Rattle.rd_start.specs.declared.options.Request.{Request}
-use Rattle.rd_start.specs.declared.options.Request.TheVariants.{Run, Serve, Help}
+use Rattle.rd_start.specs.declared.options.StartRequest.{StartRequest}
+use Rattle.rd_start.specs.declared.options.StartRequest.TheVariants.{Run, Serve, Help}
 
 -- ---- no words
 
@@ -42,7 +42,7 @@ no_words : {X : Type 0} (f : X → Text) (words : List X) → length words ≡ 0
 no_words f [] e = refl
 no_words f (word ∷ words) e = absurd (omega arith)
 
-abbrev pub default_request : Request
+abbrev pub default_request : StartRequest
 default_request = Run (record { app = None; moves = 100000; history = 100000 })
 
 pub no_words_settings : {X : Type 0} (f : X → Text) (words : List X) → length words ≡ 0
@@ -113,12 +113,12 @@ name_is m = go (out-ArgMatches m).subcommand
 
 -- ---- words that pass
 
-pub request_of_words : (words read : List Text) (sub : Option (Text × List Row)) (request : Request) → read ≡ words → sub ≡ subcommand_in words
+pub request_of_words : (words read : List Text) (sub : Option (Text × List Row)) (request : StartRequest) → read ≡ words → sub ≡ subcommand_in words
     → HasSettingsIn (options_of sub) request → HasSettingsOf read request
 request_of_words words read sub request same found h =
     subst (λ (s : Option (Text × List Row)). HasSettingsIn (options_of s) request) (found ∙ ap subcommand_in (sym same)) h
 
-pub asked_by_words : (words read : List Text) (sub : Option (Text × List Row)) (request : Request) → read ≡ words → sub ≡ subcommand_in words
+pub asked_by_words : (words read : List Text) (sub : Option (Text × List Row)) (request : StartRequest) → read ≡ words → sub ≡ subcommand_in words
     → faults_of read ≡ [] → IsNamedBy sub request → IsAskedBy read request
 asked_by_words words read sub (Run settings) same found none h =
     record { faults = none; subcommand = subst (IsNamed (codes "run")) (found ∙ ap subcommand_in (sym same)) h }
@@ -127,19 +127,19 @@ asked_by_words words read sub (Serve settings port sessions) same found none h =
 asked_by_words words read sub (Help text) same found none h = absurd h
 
 -- what is told of a request, and that one is told where there is one
-pub told : (asked : Option Request) (result : Result Request Fault) (Holds : Request → Type 0) → result ≡ ok_or asked BadCommandLine
+pub told : (asked : Option StartRequest) (result : Result StartRequest Fault) (Holds : StartRequest → Type 0) → result ≡ ok_or asked BadCommandLine
     → IfSome asked Holds → IfOk result Holds
 told None result Holds is h = rw is tt
 told (Some request) result Holds is h = rw is h
 
-pub none_untold : (asked : Option Request) (result : Result Request Fault) (Why : Fault → Type 0) → result ≡ ok_or asked BadCommandLine
+pub none_untold : (asked : Option StartRequest) (result : Result StartRequest Fault) (Why : Fault → Type 0) → result ≡ ok_or asked BadCommandLine
     → is_some asked ≡ true → IfErr result Why
 none_untold None result Why is some = absurd (true≢false (sym some))
 none_untold (Some request) result Why is some = rw is tt
 
 -- ---- words that give no settings
 
-pub asked_for_help : (words : List Text) (error : Refusal) (result : Result Request Fault)
+pub asked_for_help : (words : List Text) (error : Refusal) (result : Result StartRequest Fault)
     → (error ≡ kind.OutOfMemory) ⊎ IsAmong error (faults_of words)
     → IfOk result (λ _. error ≡ kind.DisplayHelp) → (error ≡ kind.DisplayHelp → IfOk result IsHelp) → IfOk result (IsAskedBy words)
 asked_for_help words error (Err fault) h asked help = tt
@@ -149,7 +149,7 @@ asked_for_help words error (Ok (Help text)) (inl memory) asked help = let bad : 
 asked_for_help words error (Ok (Help text)) (inr among) asked help =
     subst (λ (k : Refusal). IsAmong k (faults_of words)) asked among
 
-pub fault_of_words : (words : List Text) (error : Refusal) (result : Result Request Fault)
+pub fault_of_words : (words : List Text) (error : Refusal) (result : Result StartRequest Fault)
     → (error ≡ kind.OutOfMemory) ⊎ IsAmong error (faults_of words) → IfErr result (IsFaultOfError error) → IfErr result (IsFaultOfWords words)
 fault_of_words words error (Ok request) h fault = tt
 fault_of_words words error (Err BadCommandLine) (inl memory) fault = absurd (fault.0 memory)

@@ -19,8 +19,8 @@ use Rattle.rd_start.specs.declared.fault.Fault.{Fault}
 use Rattle.rd_start.specs.declared.fault.Fault.TheVariants.{BadCommandLine, CannotRead, App}
 use Rattle.rd_start.specs.declared.fault.Fault.TheVariants.{NoMemory}
 use Rattle.rd_start.specs.declared.options.Settings.{Settings}
-use Rattle.rd_start.specs.declared.options.Request.{Request}
-use Rattle.rd_start.specs.declared.options.Request.TheVariants.{Run, Serve, Help}
+use Rattle.rd_start.specs.declared.options.StartRequest.{StartRequest}
+use Rattle.rd_start.specs.declared.options.StartRequest.TheVariants.{Run, Serve, Help}
 
 -- 1 to 1,000,000 moves, and a history of 2 to 1,000,000 entries
 pub record IsWithinLimits (settings : Settings) : Type 0 where
@@ -38,19 +38,19 @@ pub record IsServable (settings : Settings) (port sessions : ℕ) : Type 0 where
   pub one : 1 ≤ sessions
   pub most : sessions ≤ 64
 
-abbrev pub IsRequestWithinLimits : Request → Type 0
+abbrev pub IsRequestWithinLimits : StartRequest → Type 0
 IsRequestWithinLimits (Run settings) = IsWithinLimits settings
 IsRequestWithinLimits (Serve settings port sessions) = IsServable settings port sessions
 IsRequestWithinLimits (Help text) = ⊤
 
 -- Help, and no session.
-abbrev pub IsHelp : Request → Type 0
+abbrev pub IsHelp : StartRequest → Type 0
 IsHelp (Run settings) = ⊥
 IsHelp (Serve settings port sessions) = ⊥
 IsHelp (Help text) = ⊤
 
 -- Sessions over a port.
-abbrev pub IsServer : Request → Type 0
+abbrev pub IsServer : StartRequest → Type 0
 IsServer (Run settings) = ⊥
 IsServer (Serve settings port sessions) = ⊤
 IsServer (Help text) = ⊥
@@ -162,7 +162,7 @@ pub record IsServerIn (options : List Row) (each : Settings) (at many : ℕ) : T
   pub sessions : IsNumberOf (codes "sessions") options many
 
 -- What a request carries are the values of these options.
-abbrev pub HasSettingsIn : List Row → Request → Type 0
+abbrev pub HasSettingsIn : List Row → StartRequest → Type 0
 HasSettingsIn options (Run settings) = AreSettingsIn options settings
 HasSettingsIn options (Serve settings port sessions) = IsServerIn options settings port sessions
 HasSettingsIn options (Help text) = ⊤
@@ -194,13 +194,13 @@ IsWhole found = (IsNamed (codes "run") found × HasLimits (options_of found))
     ⊎ (IsNamed (codes "serve") found × HasServerLimits (options_of found))
 
 -- A session is asked for by `run`, and a server by `serve`.
-abbrev pub IsNamedBy : Option (Text × List Row) → Request → Type 0
+abbrev pub IsNamedBy : Option (Text × List Row) → StartRequest → Type 0
 IsNamedBy found (Run settings) = IsNamed (codes "run") found
 IsNamedBy found (Serve settings port sessions) = IsNamed (codes "serve") found
 IsNamedBy found (Help text) = ⊥
 
 -- A request carries what the words say.
-abbrev pub HasSettingsOf : List Text → Request → Type 0
+abbrev pub HasSettingsOf : List Text → StartRequest → Type 0
 HasSettingsOf words request = HasSettingsIn (options_of (subcommand_in words)) request
 
 -- Nothing is wrong with the words, and they name that subcommand.
@@ -209,7 +209,7 @@ pub record AskFor (name : Text) (words : List Text) : Type 0 where
   pub subcommand : IsNamed name (subcommand_in words)
 
 -- A session or a server is what the words ask for, and words that get help ask for that.
-abbrev pub IsAskedBy : List Text → Request → Type 0
+abbrev pub IsAskedBy : List Text → StartRequest → Type 0
 IsAskedBy words (Run settings) = AskFor (codes "run") words
 IsAskedBy words (Serve settings port sessions) = AskFor (codes "serve") words
 IsAskedBy words (Help text) = IsAmong kind.DisplayHelp (faults_of words)

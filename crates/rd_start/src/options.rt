@@ -14,7 +14,7 @@ ghost use Rattle.rd_start.specs.Requests.{history_option, moves_option, options_
 ghost use Rattle.rd_start.specs.Requests.{run_line, serve_line, served_app_option};
 ghost use Rattle.rd_start.specs.Requests.{sessions_option, words_read};
 ghost use Rattle.rd_start.specs.declared.fault.Fault.TheVariants.{BadCommandLine, NoMemory};
-ghost use Rattle.rd_start.specs.declared.options.Request.TheVariants.{Run};
+ghost use Rattle.rd_start.specs.declared.options.StartRequest.TheVariants.{Run};
 
 use crate::fault::Fault;
 use clap::error::ErrorKind;
@@ -75,7 +75,7 @@ impl<'a> Settings<'a> {
 
 /// What a command line asks for.
 #[derive(Drop)]
-pub enum Request<'a> {
+pub enum StartRequest<'a> {
     /// A session over standard input and output.
     Run {
         settings: Settings<'a>,
@@ -241,7 +241,7 @@ fn can_serve<'a>(settings: &Settings<'a>, port: usize, sessions: usize) -> bool
 }
 
 // The server that was found among the options, whose sessions have these settings.
-fn server_of<'a>(options: &ArgMatches<'a>, settings: Settings<'a>) -> Option<Request<'a>>
+fn server_of<'a>(options: &ArgMatches<'a>, settings: Settings<'a>) -> Option<StartRequest<'a>>
     requires limits { IsWithinLimits settings }
     requires settings { AreSettingsIn (rows_of (found_of options.now)) settings }
     ensures limits { IfSome result IsRequestWithinLimits }
@@ -252,7 +252,7 @@ fn server_of<'a>(options: &ArgMatches<'a>, settings: Settings<'a>) -> Option<Req
     let port = options.get_one("port")?;
     let sessions = options.get_one("sessions")?;
     if can_serve(&settings, port, sessions) {
-        Some(Request::Serve {
+        Some(StartRequest::Serve {
             settings,
             port: port as u16,
             sessions,
@@ -263,7 +263,7 @@ fn server_of<'a>(options: &ArgMatches<'a>, settings: Settings<'a>) -> Option<Req
 }
 
 // What was asked for by the subcommand that was found, with its options.
-fn request_of<'a>(matches: &ArgMatches<'a>) -> Option<Request<'a>>
+fn request_of<'a>(matches: &ArgMatches<'a>) -> Option<StartRequest<'a>>
     ensures limits { IfSome result IsRequestWithinLimits }
     ensures name { IfSome result (IsNamedBy (subcommand_rows_of matches.now)) }
     ensures settings { IfSome result (HasSettingsIn (options_of (subcommand_rows_of
@@ -273,14 +273,14 @@ fn request_of<'a>(matches: &ArgMatches<'a>) -> Option<Request<'a>>
     let (name, options) = matches.subcommand()?;
     let settings = settings_of(options)?;
     match name {
-        "run" => Some(Request::Run { settings }),
+        "run" => Some(StartRequest::Run { settings }),
         "serve" => server_of(options, settings),
         _ => None,
     }
 }
 
 // What becomes of words that gave no settings: help is one of clap's errors.
-fn without_settings<'a>(alloc: Global, error: &clap::Error) -> Result<Request<'a>, Fault>
+fn without_settings<'a>(alloc: Global, error: &clap::Error) -> Result<StartRequest<'a>, Fault>
     ensures help { kind_of error.now ≡ ErrorKind.DisplayHelp → IfOk result IsHelp }
     ensures untold { kind_of error.now ≡ ErrorKind.DisplayHelp
         → IfErr result (λ fault. fault ≡ NoMemory) }
@@ -292,7 +292,7 @@ fn without_settings<'a>(alloc: Global, error: &clap::Error) -> Result<Request<'a
     ensures limits { IfOk result IsRequestWithinLimits }
 {
     match error.kind() {
-        ErrorKind::DisplayHelp => Ok(Request::Help {
+        ErrorKind::DisplayHelp => Ok(StartRequest::Help {
             text: format!(in alloc; "{error}")?,
         }),
         ErrorKind::OutOfMemory => Err(Fault::NoMemory),
@@ -306,7 +306,7 @@ fn without_settings<'a>(alloc: Global, error: &clap::Error) -> Result<Request<'a
 /// `serve --app FILE --port PORT --sessions COUNT [--moves COUNT] [--history COUNT]`; or help.
 /// `BadCommandLine` where the words are no such line, `NoMemory` where there is no memory to read
 /// them or for the text of help.
-pub fn options<'a>(alloc: Global, words: &'a [String]) -> Result<Request<'a>, Fault>
+pub fn options<'a>(alloc: Global, words: &'a [String]) -> Result<StartRequest<'a>, Fault>
     ensures limits { IfOk result IsRequestWithinLimits }
     ensures no_words { length words.entry.now ≡ 0
         → result ≡ Ok (Run (record { app = None; moves = 100000; history = 100000 })) }
@@ -323,7 +323,7 @@ pub fn options<'a>(alloc: Global, words: &'a [String]) -> Result<Request<'a>, Fa
             moves: DEFAULT_MOVES,
             history: DEFAULT_HISTORY,
         };
-        return Ok(Request::Run { settings });
+        return Ok(StartRequest::Run { settings });
     }
     match command(alloc)?.try_get_matches_from(words) {
         Ok(matches) => request_of(&matches).ok_or(Fault::BadCommandLine),
