@@ -29,7 +29,7 @@ mod wanted;
 use crate::asking::ask;
 use crate::dialogue::answer_lines;
 use crate::fault::Fault;
-use crate::options::{Request, options};
+use crate::options::{ReachRequest, options};
 use std::alloc::AllocGlobal;
 use std::io;
 use std::io::{ErrorKind, Read, Write};
@@ -89,12 +89,12 @@ fn run<H: Files + AllocGlobal, R: Read, W: Write, E: Write>(
     ensures { IfOk result (λ status. status ≤ 2) }
 {
     match options(handle.alloc(), words)? {
-        Request::Ask { question } => ask(handle, &question, writer, errors),
-        Request::Engine { question } => {
+        ReachRequest::Ask { question } => ask(handle, &question, writer, errors),
+        ReachRequest::Engine { question } => {
             answer_lines(handle, question, reader, writer, errors)?;
             Ok(NONE)
         }
-        Request::Help { text } => {
+        ReachRequest::Help { text } => {
             let _ = writer.write_all(text.as_bytes());
             Ok(NONE)
         }

@@ -81,7 +81,7 @@ impl<'a> Question<'a> {
 
 /// What a command line asks for.
 #[derive(Drop)]
-pub enum Request<'a> {
+pub enum ReachRequest<'a> {
     /// An answer.
     Ask { question: Question<'a> },
     /// Answers to the lines of an input, with these settings at first.
@@ -300,23 +300,23 @@ fn question_of<'a>(alloc: Global, matches: &ArgMatches<'a>) -> Result<Question<'
 }
 
 // A question with a goal asks for its answer, and one without a goal for an engine.
-fn request_of<'a>(matches: &ArgMatches<'a>, question: Question<'a>) -> Request<'a>
+fn request_of<'a>(matches: &ArgMatches<'a>, question: Question<'a>) -> ReachRequest<'a>
     requires { IsQuestion question }
     ensures { IsRequest result }
 {
     match matches.get_strs("GOAL") {
-        Some(_) => Request::Ask { question },
-        None => Request::Engine { question },
+        Some(_) => ReachRequest::Ask { question },
+        None => ReachRequest::Engine { question },
     }
 }
 
 // What becomes of words that are no question: help is one of clap's errors.
-fn without_question<'a>(alloc: Global, error: &clap::Error) -> Result<Request<'a>, Fault>
+fn without_question<'a>(alloc: Global, error: &clap::Error) -> Result<ReachRequest<'a>, Fault>
     ensures { IfOk result IsRequest }
 {
     let text = format!(in alloc; "{error}")?;
     match error.kind() {
-        ErrorKind::DisplayHelp => Ok(Request::Help { text }),
+        ErrorKind::DisplayHelp => Ok(ReachRequest::Help { text }),
         ErrorKind::OutOfMemory => Err(Fault::NoMemory),
         _ => Err(Fault::Words { text }),
     }
@@ -328,7 +328,7 @@ fn without_question<'a>(alloc: Global, error: &clap::Error) -> Result<Request<'a
 /// [--part K/N] [--exact] [--progress]`, an engine where no goal is said; or help. `Words` where
 /// they are no such line, `Pace` where the pace is none, `Isr` where an interrupt is none, `Part`
 /// where the part is none, `NoMemory` where there is no memory to read them or for the text of help.
-pub fn options<'a>(alloc: Global, words: &'a [String]) -> Result<Request<'a>, Fault>
+pub fn options<'a>(alloc: Global, words: &'a [String]) -> Result<ReachRequest<'a>, Fault>
     ensures { IfOk result IsRequest }
 {
     match command(alloc)?.try_get_matches_from(words) {
