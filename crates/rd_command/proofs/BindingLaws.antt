@@ -23,9 +23,9 @@ use Rattle.rd_command.specs.declared.keyword.EditKeyword.{EditKeyword}
 use Rattle.rd_command.specs.declared.keyword.EditKeyword.TheVariants as poked
 use Rattle.rd_command.specs.declared.keyword.InterruptKeyword.{InterruptKeyword}
 use Rattle.rd_command.specs.declared.keyword.InterruptKeyword.TheVariants as raised
-use Rattle.rd_command.specs.declared.keyword.Keyword.{Keyword}
-use Rattle.rd_command.specs.declared.keyword.Keyword.TheVariants.{Ask, AskByWatch, TakeWheel, GiveWheel, Watch, Unwatch, Show, Look}
-use Rattle.rd_command.specs.declared.keyword.Keyword.TheVariants as keyword
+use Rattle.rd_command.specs.declared.keyword.CommandKeyword.{CommandKeyword}
+use Rattle.rd_command.specs.declared.keyword.CommandKeyword.TheVariants.{Ask, AskByWatch, TakeWheel, GiveWheel, Watch, Unwatch, Show, Look}
+use Rattle.rd_command.specs.declared.keyword.CommandKeyword.TheVariants as keyword
 use Rattle.rd_command.specs.declared.keyword.RequestKeyword.{RequestKeyword}
 use Rattle.rd_command.specs.declared.keyword.RequestKeyword.TheVariants as asked
 use Rattle.rd_command.specs.declared.keyword.SearchKeyword.{SearchKeyword}
@@ -231,7 +231,7 @@ effect_good app Good does of reading made there same good follows e =
     let found = mapped does (made_by of reading) made e in
     subst (IsBoundOf app) found.2 (follows found.0 (row_made app Good of reading found.0 there same good found.1))
 
-keyword_good : (app : AppView) (k : Keyword) (reading : Reading) (made : Bound) → AreThere app → known_of app ≡ reading.known → bound_by k reading ≡ Some made
+keyword_good : (app : AppView) (k : CommandKeyword) (reading : Reading) (made : Bound) → AreThere app → known_of app ≡ reading.known → bound_by k reading ≡ Some made
     → IsBoundOf app made
 keyword_good app (Ask k) reading made there same e =
     effect_good app (IsRequestOf app.runs) (λ request. bound.Asks request) (request_row k) reading made there same (request_good app there k) (λ request good. good) e

@@ -17,9 +17,9 @@ use Rattle.rd_command.specs.declared.keyword.EditKeyword.{EditKeyword}
 use Rattle.rd_command.specs.declared.keyword.EditKeyword.TheVariants as poked
 use Rattle.rd_command.specs.declared.keyword.InterruptKeyword.{InterruptKeyword}
 use Rattle.rd_command.specs.declared.keyword.InterruptKeyword.TheVariants as raised
-use Rattle.rd_command.specs.declared.keyword.Keyword.{Keyword}
-use Rattle.rd_command.specs.declared.keyword.Keyword.TheVariants.{Ask, AskByWatch, TakeWheel, GiveWheel, Watch, Unwatch, Show, Look}
-use Rattle.rd_command.specs.declared.keyword.Keyword.TheVariants as keyword
+use Rattle.rd_command.specs.declared.keyword.CommandKeyword.{CommandKeyword}
+use Rattle.rd_command.specs.declared.keyword.CommandKeyword.TheVariants.{Ask, AskByWatch, TakeWheel, GiveWheel, Watch, Unwatch, Show, Look}
+use Rattle.rd_command.specs.declared.keyword.CommandKeyword.TheVariants as keyword
 use Rattle.rd_command.specs.declared.keyword.RequestKeyword.{RequestKeyword}
 use Rattle.rd_command.specs.declared.keyword.RequestKeyword.TheVariants as asked
 use Rattle.rd_command.specs.declared.keyword.SearchKeyword.{SearchKeyword}
@@ -99,7 +99,7 @@ operands_take (Plain parameters) words e = formed_takes parameters words e
 operands_take (WithCondition parameters) [] e = absurd cc
 operands_take (WithCondition parameters) (word ∷ words) e = condition_takes parameters word words (condition_keyword_of word) refl e
 
-found_takes : (verb : List ℕ) (more : List (List ℕ)) (operands : Operands) (k : Keyword) (words : List (List ℕ)) (command : CommandView)
+found_takes : (verb : List ℕ) (more : List (List ℕ)) (operands : Operands) (k : CommandKeyword) (words : List (List ℕ)) (command : CommandView)
     → option_and_then (λ left. cond (are_operands operands left) (Some (record { keyword = k; operands = left })) None) (after_texts more words) ≡ Some command
     → (command.keyword ≡ k) × (words ≡ more ++ command.operands) × AreOperands operands command.operands
 found_takes verb more operands k words command e =
@@ -109,7 +109,7 @@ found_takes verb more operands k words command e =
     subst (λ (command : CommandView). (command.keyword ≡ k) × (words ≡ more ++ command.operands) × AreOperands operands command.operands) formed.1
     (refl, texts_taken more words left.0 left.1, operands_take operands left.0 formed.0)
 
-pub spelling_takes : (of : Spelling) (k : Keyword) (first : List ℕ) (words : List (List ℕ)) (command : CommandView) → command_spelled of k first words ≡ Some command
+pub spelling_takes : (of : Spelling) (k : CommandKeyword) (first : List ℕ) (words : List (List ℕ)) (command : CommandView) → command_spelled of k first words ≡ Some command
     → (command.keyword ≡ k) × (first ∷ words ≡ of.verb ∷ (of.more ++ command.operands)) × AreOperands of.operands command.operands
 spelling_takes of k first words command e =
     let found =
@@ -121,14 +121,14 @@ spelling_takes of k first words command e =
       taken.2,
     )
 
-spelled_takes : (k : Keyword) (first : List ℕ) (words : List (List ℕ)) (command : CommandView) → command_spelled (spelling_of k) k first words ≡ Some command
+spelled_takes : (k : CommandKeyword) (first : List ℕ) (words : List (List ℕ)) (command : CommandView) → command_spelled (spelling_of k) k first words ≡ Some command
     → Spells (first ∷ words) command
 spelled_takes k first words command e =
     let taken = spelling_takes (spelling_of k) k first words command e in
     let same : k ≡ command.keyword = sym taken.0 in
     record {
-      written = subst (λ (k : Keyword). first ∷ words ≡ (spelling_of k).verb ∷ ((spelling_of k).more ++ command.operands)) same taken.1;
-      formed = subst (λ (k : Keyword). AreOperands (spelling_of k).operands command.operands) same taken.2;
+      written = subst (λ (k : CommandKeyword). first ∷ words ≡ (spelling_of k).verb ∷ ((spelling_of k).more ++ command.operands)) same taken.1;
+      formed = subst (λ (k : CommandKeyword). AreOperands (spelling_of k).operands command.operands) same taken.2;
     }
 
 pub either_takes : (spelled others : Option CommandView) (command : CommandView) (Good : CommandView → Type 0)
@@ -137,7 +137,7 @@ pub either_takes : (spelled others : Option CommandView) (command : CommandView)
 either_takes (Some found) others command Good now later e = let is : found ≡ command = cc in subst Good is (now found refl)
 either_takes None others command Good now later e = later e
 
-among_takes : (others : List Keyword) (first : List ℕ) (words : List (List ℕ)) (command : CommandView) → command_among others first words ≡ Some command
+among_takes : (others : List CommandKeyword) (first : List ℕ) (words : List (List ℕ)) (command : CommandView) → command_among others first words ≡ Some command
     → Spells (first ∷ words) command
 among_takes [] first words command e = absurd cc
 among_takes (k ∷ others) first words command e =
@@ -183,17 +183,17 @@ operands_again (WithCondition parameters) words h =
     ∙ ap is_all (sym (words_then own parameters h.1) ∙ formed_again (own ++ parameters) h.1 h.3)
 
 -- the command of a keyword with these operands
-abbrev spoken : Keyword → List (List ℕ) → CommandView
+abbrev spoken : CommandKeyword → List (List ℕ) → CommandView
 spoken k left = record { keyword = k; operands = left }
 
 -- no keyword of a command is written as another
-abbrev IsFound : Keyword → Type 0
+abbrev IsFound : CommandKeyword → Type 0
 IsFound k =
     (left : List (List ℕ)) → are_operands (spelling_of k).operands left ≡ true
     → command_among keywords (spelling_of k).verb ((spelling_of k).more ++ left) ≡ Some (spoken k left)
 
 -- its keyword is the first with these words
-found_first : (k : Keyword) (left : List (List ℕ)) (other : Option CommandView) → are_operands (spelling_of k).operands left ≡ true
+found_first : (k : CommandKeyword) (left : List (List ℕ)) (other : Option CommandView) → are_operands (spelling_of k).operands left ≡ true
     → option_or (cond (are_operands (spelling_of k).operands left) (Some (spoken k left)) None) other ≡ Some (spoken k left)
 found_first k left other formed = first_is (are_operands (spelling_of k).operands left) (spoken k left) other formed
 
@@ -261,7 +261,7 @@ second_is false true x y other e f = refl
 second_is false false x y other e f = absurd cc
 
 -- one that is sought by a watch is the second, behind that which is sought by a condition
-found_second : (k other : Keyword) (left : List (List ℕ)) (others : Option CommandView) → are_operands (spelling_of other).operands left ≡ false
+found_second : (k other : CommandKeyword) (left : List (List ℕ)) (others : Option CommandView) → are_operands (spelling_of other).operands left ≡ false
     → are_operands (spelling_of k).operands left ≡ true
     → option_or (cond (are_operands (spelling_of other).operands left) (Some (spoken other left)) None)
     (option_or (cond (are_operands (spelling_of k).operands left) (Some (spoken k left)) None) others)
@@ -285,7 +285,7 @@ search_again : (k : SearchKeyword) → IsFound (AskByWatch k)
 search_again sought.Until = λ left formed. found_second (AskByWatch sought.Until) (Ask asked.Until) left _ (watch_left (Count ∷ []) (Count ∷ []) left formed) formed
 search_again sought.BackUntil = λ left formed. found_second (AskByWatch sought.BackUntil) (Ask asked.BackUntil) left _ (watch_left [] [] left formed) formed
 
-keyword_again : (k : Keyword) → IsFound k
+keyword_again : (k : CommandKeyword) → IsFound k
 keyword_again (Ask k) = request_again k
 keyword_again (AskByWatch k) = search_again k
 keyword_again TakeWheel = λ left formed. found_first TakeWheel left _ formed

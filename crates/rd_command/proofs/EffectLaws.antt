@@ -3,9 +3,9 @@ use Rattle.std.proofs.Common.{◌≡◌, ◌∙◌, Option, Some, option_map, ap
 use Rattle.rd_names.specs.Apps.{AppView}
 use Rattle.rd_command.specs.declared.binding.Bound.{Bound}
 use Rattle.rd_command.specs.declared.binding.Bound.TheVariants as bound
-use Rattle.rd_command.specs.declared.keyword.Keyword.{Keyword}
-use Rattle.rd_command.specs.declared.keyword.Keyword.TheVariants.{Ask, AskByWatch, TakeWheel, GiveWheel, Watch, Unwatch, Show, Look}
-use Rattle.rd_command.specs.declared.keyword.Keyword.TheVariants as keyword
+use Rattle.rd_command.specs.declared.keyword.CommandKeyword.{CommandKeyword}
+use Rattle.rd_command.specs.declared.keyword.CommandKeyword.TheVariants.{Ask, AskByWatch, TakeWheel, GiveWheel, Watch, Unwatch, Show, Look}
+use Rattle.rd_command.specs.declared.keyword.CommandKeyword.TheVariants as keyword
 use Rattle.rd_command.specs.declared.view.View.TheVariants.{Thing, Cores, Overview}
 use Rattle.rd_command.specs.Bindings.{Reading, bound_by, bound_of, by_watch, wheel_for, known_of, made_by}
 use Rattle.rd_command.specs.Commands.{CommandView}
@@ -19,7 +19,7 @@ always_so does found made wheel always e =
     let one = mapped does found made e in
     sym (ap wheel_for one.2) ∙ always one.0
 
-keyword_wheel : (k : Keyword) (reading : Reading) (made : Bound) → bound_by k reading ≡ Some made → wheel_for made ≡ wheel_of k
+keyword_wheel : (k : CommandKeyword) (reading : Reading) (made : Bound) → bound_by k reading ≡ Some made → wheel_for made ≡ wheel_of k
 keyword_wheel (Ask k) reading made e = always_so (λ request. bound.Asks request) (made_by (request_row k) reading) made _ (λ request. refl) e
 keyword_wheel (AskByWatch k) reading made e = always_so by_watch (made_by (search_row k) reading) made _ (λ found. refl) e
 keyword_wheel TakeWheel reading made e = let is : bound.TakesWheel ≡ made = cc in sym (ap wheel_for is)

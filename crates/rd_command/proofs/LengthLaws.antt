@@ -4,7 +4,7 @@ use Rattle.std.specs.List.{find, list_all}
 use Rattle.std.specs.Str.{bytes_eq}
 use Rattle.std.proofs.lemmas.Bool.{le-leb, leb-true}
 use Rattle.rd_command.specs.declared.keyword.ConditionKeyword.{ConditionKeyword}
-use Rattle.rd_command.specs.declared.keyword.Keyword.{Keyword}
+use Rattle.rd_command.specs.declared.keyword.CommandKeyword.{CommandKeyword}
 use Rattle.rd_command.specs.declared.keyword.Parameter.{Parameter}
 use Rattle.rd_command.specs.declared.word.TheConstants.{MAX_WORDS}
 use Rattle.rd_command.specs.Commands.{AreFormed, AreOperands, CommandView, command_among, command_from, command_of, command_spelled}
@@ -54,10 +54,10 @@ operands_few (WithCondition parameters) words h =
 -- ---- commands
 
 -- has the keyword at most six words behind its first one, with its operands?
-abbrev is_few : Keyword → Bool
+abbrev is_few : CommandKeyword → Bool
 is_few k = nat_le (length (spelling_of k).more + most_words (spelling_of k).operands) 6
 
-spelled_few : (k : Keyword) (first : List ℕ) (words : List (List ℕ)) (command : CommandView) → is_few k ≡ true
+spelled_few : (k : CommandKeyword) (first : List ℕ) (words : List (List ℕ)) (command : CommandView) → is_few k ≡ true
     → command_spelled (spelling_of k) k first words ≡ Some command → length words ≤ 6
 spelled_few k first words command few e =
     let of = spelling_of k in
@@ -70,7 +70,7 @@ spelled_few k first words command few e =
       leb-true (length of.more + most_words of.operands) 6 few,
     )
 
-among_few : (others : List Keyword) (first : List ℕ) (words : List (List ℕ)) (command : CommandView) → list_all is_few others ≡ true
+among_few : (others : List CommandKeyword) (first : List ℕ) (words : List (List ℕ)) (command : CommandView) → list_all is_few others ≡ true
     → command_among others first words ≡ Some command → length words ≤ 6
 among_few [] first words command all e = absurd cc
 among_few (k ∷ others) first words command all e =

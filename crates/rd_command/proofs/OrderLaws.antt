@@ -4,7 +4,7 @@ use Rattle.std.specs.Result.{result_ok}
 use Rattle.rd_text.specs.Words.{words_of}
 use Rattle.rd_command.specs.declared.binding.Bound.{Bound}
 use Rattle.rd_command.specs.declared.binding.Unknown.{Unknown}
-use Rattle.rd_command.specs.declared.keyword.Keyword.TheVariants.{TakeWheel}
+use Rattle.rd_command.specs.declared.keyword.CommandKeyword.TheVariants.{TakeWheel}
 use Rattle.rd_command.specs.Bindings.{IsOrder, Known, bound_in}
 use Rattle.rd_command.specs.Commands.{CommandView, command_in, command_of}
 use Rattle.rd_command.specs.Keywords.{needs_wheel}

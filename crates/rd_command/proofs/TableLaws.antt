@@ -7,7 +7,7 @@ use Rattle.std.specs.Option.{option_or}
 use Rattle.std.specs.Str.{bytes_eq}
 use Rattle.std.proofs.lemmas.Slice.Eq.{bytes_eq-Decides}
 use Rattle.rd_command.specs.declared.keyword.ConditionKeyword.{ConditionKeyword}
-use Rattle.rd_command.specs.declared.keyword.Keyword.{Keyword}
+use Rattle.rd_command.specs.declared.keyword.CommandKeyword.{CommandKeyword}
 use Rattle.rd_command.specs.declared.keyword.Parameter.{Parameter}
 use Rattle.rd_command.specs.Commands.{CommandView, command_among, command_spelled}
 use Rattle.rd_command.specs.Forms.{are_operands}
@@ -51,7 +51,7 @@ parameters_shown None found e h = tt
 -- ---- the table of commands, as one row for each keyword
 
 abbrev Flat : Type 0
-Flat = List ℕ × List (List ℕ) × Operands × Keyword
+Flat = List ℕ × List (List ℕ) × Operands × CommandKeyword
 
 abbrev command_in : Flat → List ℕ → List (List ℕ) → Option CommandView
 command_in row first words = command_spelled (record { verb = row.0; more = row.1; operands = row.2 }) row.3 first words
@@ -70,23 +70,23 @@ abbrev flat : List Verb → List Flat
 flat [] = []
 flat (verb ∷ others) = flat_alone verb.0 verb.1 ++ (flat_longer verb.0 verb.2 ++ flat others)
 
-abbrev rows_of : List Keyword → List Flat
+abbrev rows_of : List CommandKeyword → List Flat
 rows_of keywords = map (λ k. ((spelling_of k).verb, (spelling_of k).more, (spelling_of k).operands, k)) keywords
 
 -- ---- and with those of one first word together
 
-abbrev with_words : List (List ℕ) → Operands → Keyword → Verb → Verb
+abbrev with_words : List (List ℕ) → Operands → CommandKeyword → Verb → Verb
 with_words [] operands k verb = (verb.0, (operands, k) ∷ verb.1, verb.2)
 with_words (second ∷ more) operands k verb = (verb.0, verb.1, (second, operands, k) ∷ verb.2)
 
 -- the keyword before those that have its first word, if these come next
-abbrev joined : Spelling → Keyword → List Verb → List Verb
+abbrev joined : Spelling → CommandKeyword → List Verb → List Verb
 joined of k [] = with_words of.more of.operands k (of.verb, [], []) ∷ []
 joined of k (verb ∷ others) =
     if bytes_eq of.verb verb.0 then with_words of.more of.operands k verb ∷ others
     else with_words of.more of.operands k (of.verb, [], []) ∷ verb ∷ others
 
-abbrev pub verbs_of : List Keyword → List Verb
+abbrev pub verbs_of : List CommandKeyword → List Verb
 verbs_of [] = []
 verbs_of (k ∷ others) = joined (spelling_of k) k (verbs_of others)
 
@@ -100,7 +100,7 @@ are_distinct [] = true
 are_distinct (verb ∷ others) = if is_new verb.0 others then are_distinct others else false
 
 -- a row for each keyword is found as its definition has it
-keyword_found : (first : List ℕ) (words : List (List ℕ)) (others : List Keyword)
+keyword_found : (first : List ℕ) (words : List (List ℕ)) (others : List CommandKeyword)
     → first_command (rows_of others) first words ≡ command_among others first words
 keyword_found first words [] = refl
 keyword_found first words (k ∷ others) =

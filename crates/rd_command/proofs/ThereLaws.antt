@@ -10,9 +10,9 @@ use Rattle.rd_condition.specs.declared.condition.Condition.{Condition}
 use Rattle.rd_command.specs.declared.binding.Bound.{Bound}
 use Rattle.rd_command.specs.declared.binding.Bound.TheVariants as bound
 use Rattle.rd_command.specs.declared.keyword.ConditionKeyword.{ConditionKeyword}
-use Rattle.rd_command.specs.declared.keyword.Keyword.{Keyword}
-use Rattle.rd_command.specs.declared.keyword.Keyword.TheVariants.{Ask, AskByWatch, TakeWheel, GiveWheel, Unwatch, Show, Look}
-use Rattle.rd_command.specs.declared.keyword.Keyword.TheVariants as keyword
+use Rattle.rd_command.specs.declared.keyword.CommandKeyword.{CommandKeyword}
+use Rattle.rd_command.specs.declared.keyword.CommandKeyword.TheVariants.{Ask, AskByWatch, TakeWheel, GiveWheel, Unwatch, Show, Look}
+use Rattle.rd_command.specs.declared.keyword.CommandKeyword.TheVariants as keyword
 use Rattle.rd_command.specs.declared.view.View.TheVariants.{Thing}
 use Rattle.rd_command.specs.declared.keyword.Parameter.{Parameter}
 use Rattle.rd_command.specs.declared.keyword.Parameter.TheVariants.{Core, Count, Register, Index, Number, Data, Operator, Phase, Action, Watch, Name}
@@ -138,7 +138,7 @@ effect_there : {Made : Type 0} (known : Known) (does : Made → Bound) (of : Row
     → is_some (option_map does (made_by of (reading known words))) ≡ has_operands known (spelling_in of).operands words
 effect_there known does of words h = is_some_mapped does (made_by of (reading known words)) ∙ row_made known of words h
 
-keyword_there : (known : Known) (k : Keyword) (words : List (List ℕ)) → AreOperands (spelling_of k).operands words
+keyword_there : (known : Known) (k : CommandKeyword) (words : List (List ℕ)) → AreOperands (spelling_of k).operands words
     → is_some (bound_by k (reading known words)) ≡ has_operands known (spelling_of k).operands words
 keyword_there known (Ask k) words h = effect_there known (λ request. bound.Asks request) (request_row k) words h
 keyword_there known (AskByWatch k) words h = effect_there known by_watch (search_row k) words h

@@ -21,10 +21,10 @@ use Rattle.rd_command.specs.declared.binding.Bound.TheVariants as bound
 use Rattle.rd_command.specs.declared.binding.TheConstants.{MAX_WATCHES}
 use Rattle.rd_command.specs.declared.binding.Unknown.{Unknown}
 use Rattle.rd_command.specs.declared.keyword.ConditionKeyword.{ConditionKeyword}
-use Rattle.rd_command.specs.declared.keyword.Keyword.{Keyword}
-use Rattle.rd_command.specs.declared.keyword.Keyword.TheVariants.{Ask, AskByWatch, TakeWheel}
-use Rattle.rd_command.specs.declared.keyword.Keyword.TheVariants.{GiveWheel, Unwatch, Show, Look}
-use Rattle.rd_command.specs.declared.keyword.Keyword.TheVariants as keyword
+use Rattle.rd_command.specs.declared.keyword.CommandKeyword.{CommandKeyword}
+use Rattle.rd_command.specs.declared.keyword.CommandKeyword.TheVariants.{Ask, AskByWatch, TakeWheel}
+use Rattle.rd_command.specs.declared.keyword.CommandKeyword.TheVariants.{GiveWheel, Unwatch, Show, Look}
+use Rattle.rd_command.specs.declared.keyword.CommandKeyword.TheVariants as keyword
 use Rattle.rd_command.specs.declared.keyword.Parameter.{Parameter}
 use Rattle.rd_command.specs.declared.keyword.Parameter.TheVariants.{Core, Count, Register, Index}
 use Rattle.rd_command.specs.declared.keyword.Parameter.TheVariants.{Number, Data, Operator}
@@ -179,7 +179,7 @@ abbrev pub by_watch : ℕ × Search → Bound
 by_watch found = bound.AsksByWatch found.0 found.1
 
 -- what a command of this keyword does, with these operands
-abbrev pub bound_by : Keyword → Reading → Option Bound
+abbrev pub bound_by : CommandKeyword → Reading → Option Bound
 bound_by (Ask of) reading =
     option_map (λ request. bound.Asks request) (made_by (request_row of) reading)
 bound_by (AskByWatch of) reading = option_map by_watch (made_by (search_row of) reading)

@@ -5,8 +5,8 @@ use Rattle.std.specs.Option.{option_or}
 use Rattle.std.specs.Str.{bytes_eq}
 use Rattle.rd_text.specs.Words.{words_of}
 use Rattle.rd_command.specs.declared.keyword.ConditionKeyword.{ConditionKeyword}
-use Rattle.rd_command.specs.declared.keyword.Keyword.{Keyword}
-use Rattle.rd_command.specs.declared.keyword.Keyword.TheVariants.{TakeWheel}
+use Rattle.rd_command.specs.declared.keyword.CommandKeyword.{CommandKeyword}
+use Rattle.rd_command.specs.declared.keyword.CommandKeyword.TheVariants.{TakeWheel}
 use Rattle.rd_command.specs.declared.keyword.Parameter.{Parameter}
 use Rattle.rd_command.specs.Forms.{after_texts, are_operands, is_formed}
 use Rattle.rd_command.specs.Keywords.{Operands, Plain, WithCondition, Spelling, condition_row}
@@ -14,7 +14,7 @@ use Rattle.rd_command.specs.Keywords.{keywords, parameters_of, spelling_of, text
 
 -- a command: its keyword, and the words of its operands
 pub record CommandView : Type 0 where
-  pub keyword : Keyword
+  pub keyword : CommandKeyword
   pub operands : List (List ℕ)
 
 -- ---- what words spell
@@ -56,7 +56,7 @@ NoLineIsTwoCommands =
 
 -- the command with a keyword that is written so, if the words, of which the first stands apart, are
 -- the keyword's and then its operands
-abbrev pub command_spelled : Spelling → Keyword → List ℕ → List (List ℕ) → Option CommandView
+abbrev pub command_spelled : Spelling → CommandKeyword → List ℕ → List (List ℕ) → Option CommandView
 command_spelled spelling keyword first words =
     if bytes_eq first spelling.verb
     then option_and_then
@@ -68,7 +68,7 @@ command_spelled spelling keyword first words =
     else None
 
 -- the command with the first of these keywords that the words are spelled with
-abbrev pub command_among : List Keyword → List ℕ → List (List ℕ) → Option CommandView
+abbrev pub command_among : List CommandKeyword → List ℕ → List (List ℕ) → Option CommandView
 command_among [] first words = None
 command_among (keyword ∷ others) first words =
     option_or (command_spelled (spelling_of keyword) keyword first words)

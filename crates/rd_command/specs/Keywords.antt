@@ -35,11 +35,11 @@ use Rattle.rd_command.specs.declared.keyword.EditKeyword.{EditKeyword}
 use Rattle.rd_command.specs.declared.keyword.EditKeyword.TheVariants as poked
 use Rattle.rd_command.specs.declared.keyword.InterruptKeyword.{InterruptKeyword}
 use Rattle.rd_command.specs.declared.keyword.InterruptKeyword.TheVariants as raised
-use Rattle.rd_command.specs.declared.keyword.Keyword.{Keyword}
-use Rattle.rd_command.specs.declared.keyword.Keyword.TheVariants.{Ask, AskByWatch, TakeWheel}
-use Rattle.rd_command.specs.declared.keyword.Keyword.TheVariants.{GiveWheel, Watch, Unwatch, Show}
-use Rattle.rd_command.specs.declared.keyword.Keyword.TheVariants.{Look}
-use Rattle.rd_command.specs.declared.keyword.Keyword.TheVariants as keyword
+use Rattle.rd_command.specs.declared.keyword.CommandKeyword.{CommandKeyword}
+use Rattle.rd_command.specs.declared.keyword.CommandKeyword.TheVariants.{Ask, AskByWatch, TakeWheel}
+use Rattle.rd_command.specs.declared.keyword.CommandKeyword.TheVariants.{GiveWheel, Watch, Unwatch, Show}
+use Rattle.rd_command.specs.declared.keyword.CommandKeyword.TheVariants.{Look}
+use Rattle.rd_command.specs.declared.keyword.CommandKeyword.TheVariants as keyword
 use Rattle.rd_command.specs.declared.keyword.RequestKeyword.{RequestKeyword}
 use Rattle.rd_command.specs.declared.keyword.RequestKeyword.TheVariants as asked
 use Rattle.rd_command.specs.declared.keyword.SearchKeyword.{SearchKeyword}
@@ -282,7 +282,7 @@ word_of_overview overview.Watches = codes "watches"
 abbrev two_words : List ℕ → List ℕ → Spelling
 two_words verb second = spelled verb (second ∷ []) (Plain [])
 
-abbrev pub spelling_of : Keyword → Spelling
+abbrev pub spelling_of : CommandKeyword → Spelling
 spelling_of (Ask of) = spelling_in (request_row of)
 spelling_of (AskByWatch of) = spelling_in (search_row of)
 spelling_of TakeWheel = two_words (codes "wheel") (codes "take")
@@ -302,7 +302,7 @@ pub data Wheel : Type 0 where
   Free : Wheel
 
 -- What asks the timeline needs the wheel.
-abbrev pub wheel_of : Keyword → Wheel
+abbrev pub wheel_of : CommandKeyword → Wheel
 wheel_of (Ask of) = Needed
 wheel_of (AskByWatch of) = Needed
 wheel_of TakeWheel = Taken
@@ -320,12 +320,12 @@ is_needed Given = false
 is_needed Needed = true
 is_needed Free = false
 
-abbrev pub needs_wheel : Keyword → Bool
+abbrev pub needs_wheel : CommandKeyword → Bool
 needs_wheel keyword = is_needed (wheel_of keyword)
 
 -- The keywords, those of one first word behind each other. What a word alone is comes first, and a
 -- condition before a watch.
-abbrev pub keywords : List Keyword
+abbrev pub keywords : List CommandKeyword
 keywords =
     Ask asked.Step ∷ Ask asked.Tick ∷ Ask asked.Back
     ∷ Ask asked.BackUntil ∷ AskByWatch sought.BackUntil ∷ Ask asked.Forward

@@ -8,7 +8,7 @@ use Rattle.rd_command.specs.declared.command.Found.{Found}
 use Rattle.rd_command.specs.declared.keyword.Operands as code
 use Rattle.rd_command.specs.declared.keyword.Operands.TheVariants as kept
 use Rattle.rd_command.specs.declared.keyword.ConditionKeyword.{ConditionKeyword}
-use Rattle.rd_command.specs.declared.keyword.Keyword.{Keyword}
+use Rattle.rd_command.specs.declared.keyword.CommandKeyword.{CommandKeyword}
 use Rattle.rd_command.specs.declared.keyword.Parameter.{Parameter}
 use Rattle.rd_command.specs.Commands.{CommandView}
 use Rattle.rd_command.specs.Forms.{are_operands}
@@ -43,16 +43,16 @@ operands_view (kept.WithCondition parameters) = WithCondition parameters.now
 
 -- the operands of a keyword that is its first word alone, and the keyword
 abbrev pub Alone : Type 0
-Alone = Operands × Keyword
+Alone = Operands × CommandKeyword
 
-abbrev pub alone_view : List (code.Operands × Keyword) → List Alone
+abbrev pub alone_view : List (code.Operands × CommandKeyword) → List Alone
 alone_view rows = map (λ row. (operands_view row.0, row.1)) rows
 
 -- the second word of a keyword that has one, its operands, and the keyword
 abbrev pub Longer : Type 0
-Longer = List ℕ × Operands × Keyword
+Longer = List ℕ × Operands × CommandKeyword
 
-abbrev pub longer_view : List (Bor (List ℕ) × code.Operands × Keyword) → List Longer
+abbrev pub longer_view : List (Bor (List ℕ) × code.Operands × CommandKeyword) → List Longer
 longer_view rows = map (λ row. (row.0.now, operands_view row.1, row.2)) rows
 
 -- a first word, with its keywords of both kinds
@@ -63,8 +63,8 @@ Verb = List ℕ × List Alone × List Longer
 abbrev pub VerbKept : Type 0
 VerbKept =
     Bor (List ℕ)
-    × Bor (List (code.Operands × Keyword))
-    × Bor (List (Bor (List ℕ) × code.Operands × Keyword))
+    × Bor (List (code.Operands × CommandKeyword))
+    × Bor (List (Bor (List ℕ) × code.Operands × CommandKeyword))
 
 abbrev pub verb_view : VerbKept → Verb
 verb_view verb = (verb.0.now, alone_view verb.1.now, longer_view verb.2.now)
@@ -73,7 +73,7 @@ abbrev pub verbs_view : List VerbKept → List Verb
 verbs_view verbs = map verb_view verbs
 
 -- the command with these words as its operands
-abbrev pub with_operands : List (List ℕ) → Keyword → CommandView
+abbrev pub with_operands : List (List ℕ) → CommandKeyword → CommandView
 with_operands words keyword = record { keyword = keyword; operands = words }
 
 -- the command that was found: the first of these words are the keyword's, the others its operands

@@ -18,7 +18,7 @@ use crate::command::Command;
 use crate::demand::Demand;
 use crate::digits::Digits;
 use crate::keyword::{
-    AmountKeyword, ConditionKeyword, EditKeyword, InterruptKeyword, Keyword, RequestKeyword,
+    AmountKeyword, ConditionKeyword, EditKeyword, InterruptKeyword, CommandKeyword, RequestKeyword,
     SearchKeyword,
 };
 use crate::known::Known;
@@ -271,33 +271,33 @@ fn read_watch(reader: &mut Reader<'_, '_>) -> Result<Condition, Unknown>
 }
 
 // What a command of this keyword does, of its operands.
-fn read_bound<'a>(keyword: Keyword, reader: &mut Reader<'_, 'a>) -> Result<Bound<'a>, Unknown>
+fn read_bound<'a>(keyword: CommandKeyword, reader: &mut Reader<'_, 'a>) -> Result<Bound<'a>, Unknown>
     ensures { result_ok result ≡ bound_by keyword reader.old }
 {
     match keyword {
-        Keyword::Ask(keyword) => Ok(Bound::Asks {
+        CommandKeyword::Ask(keyword) => Ok(Bound::Asks {
             request: read_request(keyword, reader)?,
         }),
-        Keyword::AskByWatch(keyword) => {
+        CommandKeyword::AskByWatch(keyword) => {
             let (watch, search) = read_search(keyword, reader)?;
             Ok(Bound::AsksByWatch { watch, search })
         }
-        Keyword::TakeWheel => Ok(Bound::TakesWheel),
-        Keyword::GiveWheel => Ok(Bound::GivesWheel),
-        Keyword::Watch => Ok(Bound::Keeps {
+        CommandKeyword::TakeWheel => Ok(Bound::TakesWheel),
+        CommandKeyword::GiveWheel => Ok(Bound::GivesWheel),
+        CommandKeyword::Watch => Ok(Bound::Keeps {
             condition: read_watch(reader)?,
         }),
-        Keyword::Unwatch => Ok(Bound::Drops {
+        CommandKeyword::Unwatch => Ok(Bound::Drops {
             number: reader.number()? as usize,
         }),
-        Keyword::Show(kind) => {
+        CommandKeyword::Show(kind) => {
             let number = reader.named(kind)?;
             Ok(Bound::Looks {
                 view: View::Thing { kind, number },
             })
         }
-        Keyword::Cores => Ok(Bound::Looks { view: View::Cores }),
-        Keyword::Look(of) => Ok(Bound::Looks {
+        CommandKeyword::Cores => Ok(Bound::Looks { view: View::Cores }),
+        CommandKeyword::Look(of) => Ok(Bound::Looks {
             view: View::Overview { of },
         }),
     }

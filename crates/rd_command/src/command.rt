@@ -12,7 +12,7 @@ ghost use Rattle.rd_command.specs.Tables.{command_longer, command_with_second};
 ghost use Rattle.rd_command.specs.Tables.{found_in, with_operands};
 
 use crate::form::are_operands;
-use crate::keyword::{Alone, KEYWORDS, Keyword, Longer, Verb};
+use crate::keyword::{Alone, KEYWORDS, CommandKeyword, Longer, Verb};
 use crate::word::{Behind, Word};
 use rd_text::words::Words;
 use std::marker::Model;
@@ -25,7 +25,7 @@ use thiserror::Error;
 #[derive(Drop)]
 pub struct Command<'w, 'l> {
     line: &'l [u8],
-    keyword: Keyword,
+    keyword: CommandKeyword,
     operands: &'w [Word<'l>],
 }
 
@@ -46,7 +46,7 @@ impl<'w, 'l> Model for Command<'w, 'l> {
 /// one are its own.
 #[derive(Clone, Copy)]
 struct Found {
-    keyword: Keyword,
+    keyword: CommandKeyword,
     own: usize,
 }
 
@@ -97,7 +97,7 @@ impl<'w, 'l> Command<'w, 'l> {
     }
 
     /// The keyword.
-    pub(crate) fn keyword(&self) -> Keyword
+    pub(crate) fn keyword(&self) -> CommandKeyword
         ensures { result ≡ self.now.keyword }
     {
         self.keyword
@@ -212,7 +212,7 @@ fn command_longer(words: &[Word<'_>], rows: &[Longer<'_>]) -> Option<Found>
 }
 
 // The first of these keywords that has this second word, and the words as operands.
-fn keyword_with_second(second: &[u8], words: &[Word<'_>], rows: &[Longer<'_>]) -> Option<Keyword>
+fn keyword_with_second(second: &[u8], words: &[Word<'_>], rows: &[Longer<'_>]) -> Option<CommandKeyword>
     ensures { option_map (with_operands words.now) result
         ≡ command_with_second (longer_view rows.now) second.now words.now }
 {

@@ -7,7 +7,7 @@ ghost use Rattle.rd_command.specs.Tables.{first_condition, conditions_view};
 
 use crate::view::Overview;
 use ConditionKeyword::Compares;
-use Keyword::{Ask, AskByWatch, Look, Show};
+use CommandKeyword::{Ask, AskByWatch, Look, Show};
 use Operands::{Plain, WithCondition};
 use rd_text::kind::Kind;
 
@@ -90,7 +90,7 @@ pub enum SearchKeyword {
 
 /// What a command does, as its first words say.
 #[derive(Clone, Copy)]
-pub enum Keyword {
+pub enum CommandKeyword {
     /// It asks the timeline.
     Ask(RequestKeyword),
     /// It asks the timeline by a watch of the session.
@@ -111,20 +111,20 @@ pub enum Keyword {
     Look(Overview),
 }
 
-impl Keyword {
+impl CommandKeyword {
     /// Whether a command is refused while another session has the wheel: one that asks the
     /// timeline, and one that takes the wheel.
     pub(crate) fn needs_wheel(self) -> bool
         ensures { result ≡ needs_wheel self }
     {
         match self {
-            Keyword::Ask(_) | Keyword::AskByWatch(_) | Keyword::TakeWheel => true,
-            Keyword::GiveWheel
-            | Keyword::Watch
-            | Keyword::Unwatch
-            | Keyword::Show(_)
-            | Keyword::Cores
-            | Keyword::Look(_) => false,
+            CommandKeyword::Ask(_) | CommandKeyword::AskByWatch(_) | CommandKeyword::TakeWheel => true,
+            CommandKeyword::GiveWheel
+            | CommandKeyword::Watch
+            | CommandKeyword::Unwatch
+            | CommandKeyword::Show(_)
+            | CommandKeyword::Cores
+            | CommandKeyword::Look(_) => false,
         }
     }
 }
@@ -182,10 +182,10 @@ const GROUP: Parameter = Parameter::Name(Kind::Group);
 const TASK: Parameter = Parameter::Name(Kind::Task);
 
 /// The operands of a keyword that is its first word alone, and the keyword.
-pub(crate) type Alone<'a> = (Operands<'a>, Keyword);
+pub(crate) type Alone<'a> = (Operands<'a>, CommandKeyword);
 
 /// The second word of a keyword that has one, its operands, and the keyword.
-pub(crate) type Longer<'a> = (&'a str, Operands<'a>, Keyword);
+pub(crate) type Longer<'a> = (&'a str, Operands<'a>, CommandKeyword);
 
 /// A first word, the keywords that are this word alone, and those that have a second one.
 pub(crate) type Verb<'a> = (&'a str, &'a [Alone<'a>], &'a [Longer<'a>]);
@@ -221,7 +221,7 @@ pub(crate) static KEYWORDS: [Verb<'static>; 13] = [
             ("stream", Plain(&[STREAM]), Show(Kind::Stream)),
             ("message", Plain(&[MESSAGE]), Show(Kind::Message)),
             ("group", Plain(&[GROUP]), Show(Kind::Group)),
-            ("cores", Plain(&[]), Keyword::Cores),
+            ("cores", Plain(&[]), CommandKeyword::Cores),
             ("moves", Plain(&[]), Look(Overview::Moves)),
             ("wheel", Plain(&[]), Look(Overview::Wheel)),
             ("watches", Plain(&[]), Look(Overview::Watches)),
@@ -297,8 +297,8 @@ pub(crate) static KEYWORDS: [Verb<'static>; 13] = [
         "wheel",
         &[],
         &[
-            ("take", Plain(&[]), Keyword::TakeWheel),
-            ("give", Plain(&[]), Keyword::GiveWheel),
+            ("take", Plain(&[]), CommandKeyword::TakeWheel),
+            ("give", Plain(&[]), CommandKeyword::GiveWheel),
         ],
     ),
     (
@@ -306,8 +306,8 @@ pub(crate) static KEYWORDS: [Verb<'static>; 13] = [
         &[(Plain(&[NUMBER]), Ask(RequestKeyword::Trim))],
         &[],
     ),
-    ("watch", &[(WithCondition(&[]), Keyword::Watch)], &[]),
-    ("unwatch", &[(Plain(&[NUMBER]), Keyword::Unwatch)], &[]),
+    ("watch", &[(WithCondition(&[]), CommandKeyword::Watch)], &[]),
+    ("unwatch", &[(Plain(&[NUMBER]), CommandKeyword::Unwatch)], &[]),
 ];
 
 // Each keyword of a condition: as it is written, and its operands.

@@ -1,7 +1,7 @@
 -- A command that is kept by its line.
 use Rattle.std.specs.Prelude.{ℕ, List, [], unwrap_or}
 use Rattle.rd_text.specs.Words.{words_of}
-use Rattle.rd_command.specs.declared.keyword.Keyword.TheVariants.{GiveWheel}
+use Rattle.rd_command.specs.declared.keyword.CommandKeyword.TheVariants.{GiveWheel}
 use Rattle.rd_command.specs.Commands.{CommandView, command_of}
 
 -- what a line that is no command stands for; none is kept
