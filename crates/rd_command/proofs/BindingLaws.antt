@@ -31,9 +31,9 @@ use Rattle.rd_command.specs.declared.keyword.RequestKeyword.TheVariants as asked
 use Rattle.rd_command.specs.declared.keyword.SearchKeyword.{SearchKeyword}
 use Rattle.rd_command.specs.declared.keyword.SearchKeyword.TheVariants as sought
 use Rattle.rd_command.specs.declared.view.View.TheVariants.{Thing, Cores, Overview}
-use Rattle.rd_command.specs.declared.keyword.Parameter.{Parameter}
-use Rattle.rd_command.specs.declared.keyword.Parameter.TheVariants.{Core, Count, Register, Index, Number, Data, Operator, Phase, Action, Name}
-use Rattle.rd_command.specs.declared.keyword.Parameter.TheVariants as parameter
+use Rattle.rd_command.specs.declared.keyword.CommandParameter.{CommandParameter}
+use Rattle.rd_command.specs.declared.keyword.CommandParameter.TheVariants.{Core, Count, Register, Index, Number, Data, Operator, Phase, Action, Name}
+use Rattle.rd_command.specs.declared.keyword.CommandParameter.TheVariants as parameter
 use Rattle.rd_command.specs.Bindings.{IsBoundOf, IsWatch, Known, Reading, after_word, bound_by, bound_of, by_watch, condition_made, known_of, made_by, made_from, made_of, next_condition, next_keyword, next_value, number_below, number_named, value_of}
 use Rattle.rd_command.specs.Commands.{CommandView}
 use Rattle.rd_command.specs.Forms.{watch_number, watch_of}
@@ -41,7 +41,7 @@ use Rattle.rd_command.specs.Keywords.{ConditionRow, Makes, MakesFrom, Operands, 
 use Rattle.rd_command.proofs.Steps.{mapped, option_if, some_if, then_some}
 
 -- what an operand of that kind may stand for
-abbrev IsValue : Known → (parameter : Parameter) → Value parameter → Type 0
+abbrev IsValue : Known → (parameter : CommandParameter) → Value parameter → Type 0
 IsValue known Core core = core < known.cores
 IsValue known Count count = Unit {0}
 IsValue known Register register = register < 8
@@ -73,7 +73,7 @@ named_there known kind word number e =
     let name = then_some (λ name. position (bytes_eq name) (names_of kind known.names)) (name_of word) number e in
     (position-Some (bytes_eq name.0) (names_of kind known.names) number [] name.2).0
 
-value_there : (known : Known) (parameter : Parameter) (word : List ℕ) (value : Value parameter) → value_of known parameter word ≡ Some value
+value_there : (known : Known) (parameter : CommandParameter) (word : List ℕ) (value : Value parameter) → value_of known parameter word ≡ Some value
     → IsValue known parameter value
 value_there known Core word value e = below_small known.cores word value e
 value_there known Count word value e = tt
@@ -88,7 +88,7 @@ value_there known parameter.Watch word value e = watch_small word value e
 value_there known (Name kind) word value e = named_there known kind word value e
 
 -- what the next word stands for is there, and the words are read in the same application
-next_there : (parameter : Parameter) (reading : Reading) (next : Value parameter × Reading) → next_value parameter reading ≡ Some next
+next_there : (parameter : CommandParameter) (reading : Reading) (next : Value parameter × Reading) → next_value parameter reading ≡ Some next
     → IsValue reading.known parameter next.0 × (reading.known ≡ next.1.known)
 unfolding next_value
 next_there parameter reading next e =
@@ -98,12 +98,12 @@ next_there parameter reading next e =
     (value_there reading.known parameter word.0 value.0 value.1, refl)
 
 -- Whatever the operands stand for, what they make is good.
-abbrev MakesGood : Known → (Made : Type 0) → (Made → Type 0) → (parameters : List Parameter) → Makes Made parameters → Type 0
+abbrev MakesGood : Known → (Made : Type 0) → (Made → Type 0) → (parameters : List CommandParameter) → Makes Made parameters → Type 0
 MakesGood known Made Good [] made = Good made
 MakesGood known Made Good (parameter ∷ others) make =
     (value : Value parameter) → IsValue known parameter value → MakesGood known Made Good others (make value)
 
-made_good : (known : Known) (Made : Type 0) (Good : Made → Type 0) (parameters : List Parameter) (make : Makes Made parameters) (reading : Reading)
+made_good : (known : Known) (Made : Type 0) (Good : Made → Type 0) (parameters : List CommandParameter) (make : Makes Made parameters) (reading : Reading)
     (made : Made × Reading) → known ≡ reading.known → MakesGood known Made Good parameters make → made_of Made parameters make reading ≡ Some made
     → Good made.0 × (known ≡ made.1.known)
 made_good known Made Good [] make reading made same good e =

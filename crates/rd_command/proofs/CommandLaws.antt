@@ -26,9 +26,9 @@ use Rattle.rd_command.specs.declared.keyword.SearchKeyword.{SearchKeyword}
 use Rattle.rd_command.specs.declared.keyword.SearchKeyword.TheVariants as sought
 use Rattle.rd_command.specs.declared.view.Overview.{Overview}
 use Rattle.rd_command.specs.declared.view.Overview.TheVariants as overview
-use Rattle.rd_command.specs.declared.keyword.Parameter.{Parameter}
-use Rattle.rd_command.specs.declared.keyword.Parameter.TheVariants.{Count}
-use Rattle.rd_command.specs.declared.keyword.Parameter.TheVariants as parameter
+use Rattle.rd_command.specs.declared.keyword.CommandParameter.{CommandParameter}
+use Rattle.rd_command.specs.declared.keyword.CommandParameter.TheVariants.{Count}
+use Rattle.rd_command.specs.declared.keyword.CommandParameter.TheVariants as parameter
 use Rattle.rd_command.specs.Commands.{AreFormed, AreOperands, CommandView, FindsWhatIsSpelled, NoLineIsTwoCommands, Spells, command_among, command_from, command_of, command_spelled}
 use Rattle.rd_command.specs.Forms.{after_condition, after_texts, after_words, are_operands, is_all, is_formed, watch_number, watch_of}
 use Rattle.rd_command.specs.Keywords.{Operands, Plain, WithCondition, Spelling, condition_keyword_of, condition_keywords, condition_row, keywords, parameters_of, spelling_of, text_of}
@@ -49,7 +49,7 @@ texts_taken (text ∷ texts) (word ∷ words) left e =
       | false ↦ λ same. λ e. absurd cc
     ] refl e
 
-formed_takes : (parameters : List Parameter) (words : List (List ℕ)) → is_all (after_words parameters words) ≡ true → AreFormed parameters words
+formed_takes : (parameters : List CommandParameter) (words : List (List ℕ)) → is_all (after_words parameters words) ≡ true → AreFormed parameters words
 formed_takes [] [] e = refl
 formed_takes [] (word ∷ words) e = absurd cc
 formed_takes (parameter ∷ others) [] e = absurd cc
@@ -61,7 +61,7 @@ formed_takes (parameter ∷ others) (word ∷ words) e =
     ] refl e
 
 -- words for operands, and then for others
-words_then : (parameters others : List Parameter) (words : List (List ℕ))
+words_then : (parameters others : List CommandParameter) (words : List (List ℕ))
     → after_words (parameters ++ others) words ≡ option_and_then (after_words others) (after_words parameters words)
 words_then [] others words = refl
 words_then (parameter ∷ parameters) others [] = refl
@@ -83,7 +83,7 @@ text_found word (first ∷ others) k e =
       | false ↦ λ same. text_found word others k
     ] refl e
 
-condition_takes : (parameters : List Parameter) (word : List ℕ) (words : List (List ℕ)) (found : Option ConditionKeyword) → condition_keyword_of word ≡ found
+condition_takes : (parameters : List CommandParameter) (word : List ℕ) (words : List (List ℕ)) (found : Option ConditionKeyword) → condition_keyword_of word ≡ found
     → is_all (option_and_then (after_words parameters) (option_and_then (λ keyword. after_words (parameters_of (condition_row keyword)) words) found)) ≡ true
     → AreOperands (WithCondition parameters) (word ∷ words)
 condition_takes parameters word words None is e = absurd cc
@@ -151,7 +151,7 @@ command_takes (first ∷ words) command e = among_takes keywords first words com
 
 -- ---- what spells a command is read
 
-formed_again : (parameters : List Parameter) (words : List (List ℕ)) → AreFormed parameters words → after_words parameters words ≡ Some []
+formed_again : (parameters : List CommandParameter) (words : List (List ℕ)) → AreFormed parameters words → after_words parameters words ≡ Some []
 formed_again [] words h = ap Some h
 formed_again (parameter ∷ others) words h =
     ap (after_words (parameter ∷ others)) h.2 ∙ ap (λ b. cond b (after_words others h.1) None) h.3 ∙ formed_again others h.1 h.4
@@ -233,7 +233,7 @@ watch_is_no_condition (first ∷ digits) e =
       | false ↦ λ is. λ e. absurd cc
     ] refl e
 
-no_condition_left : (parameters : List Parameter) (word : List ℕ) (words : List (List ℕ)) → is_some (watch_of word) ≡ true
+no_condition_left : (parameters : List CommandParameter) (word : List ℕ) (words : List (List ℕ)) → is_some (watch_of word) ≡ true
     → are_operands (WithCondition parameters) (word ∷ words) ≡ false
 no_condition_left parameters word words e =
     ap
@@ -242,7 +242,7 @@ no_condition_left parameters word words e =
     (watch_is_no_condition word e)
 
 -- words for a watch and others are not for a condition and others
-watch_left : (parameters others : List Parameter) (words : List (List ℕ)) → are_operands (Plain (parameter.Watch ∷ parameters)) words ≡ true
+watch_left : (parameters others : List CommandParameter) (words : List (List ℕ)) → are_operands (Plain (parameter.Watch ∷ parameters)) words ≡ true
     → are_operands (WithCondition others) words ≡ false
 watch_left parameters others [] e = absurd cc
 watch_left parameters others (word ∷ words) e =

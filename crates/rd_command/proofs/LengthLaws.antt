@@ -5,7 +5,7 @@ use Rattle.std.specs.Str.{bytes_eq}
 use Rattle.std.proofs.lemmas.Bool.{le-leb, leb-true}
 use Rattle.rd_command.specs.declared.keyword.ConditionKeyword.{ConditionKeyword}
 use Rattle.rd_command.specs.declared.keyword.CommandKeyword.{CommandKeyword}
-use Rattle.rd_command.specs.declared.keyword.Parameter.{Parameter}
+use Rattle.rd_command.specs.declared.keyword.CommandParameter.{CommandParameter}
 use Rattle.rd_command.specs.declared.word.TheConstants.{MAX_WORDS}
 use Rattle.rd_command.specs.Commands.{AreFormed, AreOperands, CommandView, command_among, command_from, command_of, command_spelled}
 use Rattle.rd_command.specs.Keywords.{Operands, Plain, WithCondition, condition_keywords, condition_row, keywords, parameters_of, spelling_of, text_of}
@@ -36,7 +36,7 @@ condition_short : (k : ConditionKeyword) → length (parameters_of (condition_ro
 condition_short k =
     leb-true (length (parameters_of (condition_row k))) 4 (found_short (text_of (condition_row k)) condition_keywords k refl (condition_again k))
 
-formed_length : (parameters : List Parameter) (words : List (List ℕ)) → AreFormed parameters words → length words ≡ length parameters
+formed_length : (parameters : List CommandParameter) (words : List (List ℕ)) → AreFormed parameters words → length words ≡ length parameters
 formed_length [] words h = ap length h
 formed_length (parameter ∷ others) words h = ap length h.2 ∙ ap suc (formed_length others h.1 h.4)
 

@@ -8,7 +8,7 @@ use Rattle.std.specs.Str.{bytes_eq}
 use Rattle.std.proofs.lemmas.Slice.Eq.{bytes_eq-Decides}
 use Rattle.rd_command.specs.declared.keyword.ConditionKeyword.{ConditionKeyword}
 use Rattle.rd_command.specs.declared.keyword.CommandKeyword.{CommandKeyword}
-use Rattle.rd_command.specs.declared.keyword.Parameter.{Parameter}
+use Rattle.rd_command.specs.declared.keyword.CommandParameter.{CommandParameter}
 use Rattle.rd_command.specs.Commands.{CommandView, command_among, command_spelled}
 use Rattle.rd_command.specs.Forms.{are_operands}
 use Rattle.rd_command.specs.Keywords.{Operands, Spelling, condition_row, keywords, parameters_of, spelling_of, text_of}
@@ -37,12 +37,12 @@ parameters_found word (first ∷ others) =
     ]
 
 -- the same of a row as a contract sees it
-pub condition_shown : (row : Option (Bor (List Parameter) × ConditionKeyword))
-    → option_map (λ found. found.1) row ≡ option_map (λ found. found.1) (option_map {U = List Parameter × ConditionKeyword} (λ found. (found.0.now, found.1)) row)
+pub condition_shown : (row : Option (Bor (List CommandParameter) × ConditionKeyword))
+    → option_map (λ found. found.1) row ≡ option_map (λ found. found.1) (option_map {U = List CommandParameter × ConditionKeyword} (λ found. (found.0.now, found.1)) row)
 condition_shown (Some found) = refl
 condition_shown None = refl
 
-pub parameters_shown : (row : Option (Bor (List Parameter) × ConditionKeyword)) (found : Option (List Parameter × ConditionKeyword))
+pub parameters_shown : (row : Option (Bor (List CommandParameter) × ConditionKeyword)) (found : Option (List CommandParameter × ConditionKeyword))
     → option_map (λ found. (found.0.now, found.1)) row ≡ found → IfSome found (λ found. found.0 ≡ parameters_of (condition_row found.1))
     → IfSome row (λ found. found.0.now ≡ parameters_of (condition_row found.1))
 parameters_shown (Some row) found e h = subst (λ found. IfSome found (λ found. found.0 ≡ parameters_of (condition_row found.1))) (sym e) h

@@ -14,8 +14,8 @@ use Rattle.rd_command.specs.declared.keyword.CommandKeyword.{CommandKeyword}
 use Rattle.rd_command.specs.declared.keyword.CommandKeyword.TheVariants.{Ask, AskByWatch, TakeWheel, GiveWheel, Unwatch, Show, Look}
 use Rattle.rd_command.specs.declared.keyword.CommandKeyword.TheVariants as keyword
 use Rattle.rd_command.specs.declared.view.View.TheVariants.{Thing}
-use Rattle.rd_command.specs.declared.keyword.Parameter.{Parameter}
-use Rattle.rd_command.specs.declared.keyword.Parameter.TheVariants.{Core, Count, Register, Index, Number, Data, Operator, Phase, Action, Watch, Name}
+use Rattle.rd_command.specs.declared.keyword.CommandParameter.{CommandParameter}
+use Rattle.rd_command.specs.declared.keyword.CommandParameter.TheVariants.{Core, Count, Register, Index, Number, Data, Operator, Phase, Action, Watch, Name}
 use Rattle.rd_command.specs.Bindings.{Known, Reading, are_there, are_there_with, bound_by, bound_in, by_watch, condition_made, has_all, has_operands, is_there, made_by, made_from, made_of, next_condition, next_keyword, next_value, number_named, value_of}
 use Rattle.rd_command.specs.Commands.{AreFormed, AreOperands, CommandView, Spells}
 use Rattle.rd_command.specs.Forms.{is_formed}
@@ -30,7 +30,7 @@ named_there : (known : Known) (kind : Kind) (word : List ℕ) → is_name word �
 named_there known kind word e =
     ap (λ b. is_some (option_and_then (λ name. position (bytes_eq name) (names_of kind known.names)) (cond b (Some word) None))) e
 
-value_there : (known : Known) (parameter : Parameter) (word : List ℕ) → is_formed parameter word ≡ true
+value_there : (known : Known) (parameter : CommandParameter) (word : List ℕ) → is_formed parameter word ≡ true
     → is_some (value_of known parameter word) ≡ is_there known parameter word
 value_there known Core word e = refl
 value_there known Count word e = e
@@ -45,11 +45,11 @@ value_there known Watch word e = e
 value_there known (Name kind) word e = named_there known kind word e
 
 -- What is made, and goes on so, is something exactly where all that is named is there.
-abbrev GoesOn : Known → (Made Last : Type 0) → (Made × Reading → Option Last) → List Parameter → Type 0
+abbrev GoesOn : Known → (Made Last : Type 0) → (Made × Reading → Option Last) → List CommandParameter → Type 0
 GoesOn known Made Last next others =
     (made : Made) (words : List (List ℕ)) → AreFormed others words → is_some (next (made, reading known words)) ≡ are_there known others words
 
-step_there : (known : Known) (Made Last : Type 0) (next : Made × Reading → Option Last) (parameter : Parameter) (parameters others : List Parameter)
+step_there : (known : Known) (Made Last : Type 0) (next : Made × Reading → Option Last) (parameter : CommandParameter) (parameters others : List CommandParameter)
     (make : Value parameter → Makes Made parameters) (words : List (List ℕ)) (found : Option (Value parameter)) (there : Bool) → is_some found ≡ there
     → ((value : Value parameter) → is_some (option_and_then next (made_of Made parameters (make value) (reading known words))) ≡ are_there known (parameters ++ others) words)
     → is_some
@@ -60,7 +60,7 @@ step_there known Made Last next parameter parameters others make words (Some val
     h value ∙ ap (λ there. there && are_there known (parameters ++ others) words) is
 step_there known Made Last next parameter parameters others make words None there is h = ap (λ there. there && are_there known (parameters ++ others) words) is
 
-made_there : (known : Known) (Made Last : Type 0) (next : Made × Reading → Option Last) (parameters others : List Parameter) (make : Makes Made parameters)
+made_there : (known : Known) (Made Last : Type 0) (next : Made × Reading → Option Last) (parameters others : List CommandParameter) (make : Makes Made parameters)
     (words : List (List ℕ)) → GoesOn known Made Last next others → AreFormed (parameters ++ others) words
     → is_some (option_and_then next (made_of Made parameters make (reading known words))) ≡ are_there known (parameters ++ others) words
 unfolding next_value reading
@@ -81,30 +81,30 @@ mapped_then : {X Y : Type 0} (f : X → Y) (o : Option X) → option_map f o ≡
 mapped_then f (Some x) = refl
 mapped_then f None = refl
 
-no_others : (parameters : List Parameter) → parameters ++ [] ≡ parameters
+no_others : (parameters : List CommandParameter) → parameters ++ [] ≡ parameters
 no_others [] = refl
-no_others (parameter ∷ parameters) = ap (λ (others : List Parameter). parameter ∷ others) (no_others parameters)
+no_others (parameter ∷ parameters) = ap (λ (others : List CommandParameter). parameter ∷ others) (no_others parameters)
 
-last_there : (known : Known) (Made : Type 0) (parameters : List Parameter) (make : Makes Made parameters) (words : List (List ℕ)) → AreFormed parameters words
+last_there : (known : Known) (Made : Type 0) (parameters : List CommandParameter) (make : Makes Made parameters) (words : List (List ℕ)) → AreFormed parameters words
     → is_some (option_map (λ (made : Made × Reading). made.0) (made_of Made parameters make (reading known words))) ≡ are_there known parameters words
 last_there known Made parameters make words h =
     ap is_some (mapped_then (λ (made : Made × Reading). made.0) (made_of Made parameters make (reading known words)))
     ∙ made_there known Made Made (λ (made : Made × Reading). Some made.0) parameters [] make words (nothing_more known Made)
-    (subst (λ (parameters : List Parameter). AreFormed parameters words) (sym (no_others parameters)) h)
-    ∙ ap (λ (parameters : List Parameter). are_there known parameters words) (no_others parameters)
+    (subst (λ (parameters : List CommandParameter). AreFormed parameters words) (sym (no_others parameters)) h)
+    ∙ ap (λ (parameters : List CommandParameter). are_there known parameters words) (no_others parameters)
 
 -- what is made behind a condition
-abbrev behind : (Made : Type 0) (parameters : List Parameter) → (Condition → Makes Made parameters) → Condition × Reading → Option Made
+abbrev behind : (Made : Type 0) (parameters : List CommandParameter) → (Condition → Makes Made parameters) → Condition × Reading → Option Made
 behind Made parameters make found = option_map (λ (made : Made × Reading). made.0) (made_of Made parameters (make found.0) found.1)
 
-row_there : (known : Known) (Made : Type 0) (parameters : List Parameter) (make : Condition → Makes Made parameters) (of : ConditionRow) (words : List (List ℕ))
+row_there : (known : Known) (Made : Type 0) (parameters : List CommandParameter) (make : Condition → Makes Made parameters) (of : ConditionRow) (words : List (List ℕ))
     → AreFormed (parameters_of of ++ parameters) words
     → is_some (option_and_then (behind Made parameters make) (condition_made of (reading known words))) ≡ are_there known (parameters_of of ++ parameters) words
 row_there known Made parameters make (Written text own condition) words h =
     made_there known Condition Made (behind Made parameters make) own parameters condition words
     (λ found left formed. last_there known Made parameters (make found) left formed) h
 
-condition_there : (known : Known) (Made : Type 0) (parameters : List Parameter) (make : Condition → Makes Made parameters) (k : ConditionKeyword) (words : List (List ℕ))
+condition_there : (known : Known) (Made : Type 0) (parameters : List CommandParameter) (make : Condition → Makes Made parameters) (k : ConditionKeyword) (words : List (List ℕ))
     → AreFormed (parameters_of (condition_row k) ++ parameters) words
     → is_some (option_and_then (behind Made parameters make) (next_condition (reading known (text_of (condition_row k) ∷ words))))
     ≡ are_there_with known parameters (text_of (condition_row k) ∷ words)

@@ -25,10 +25,10 @@ use Rattle.rd_command.specs.declared.keyword.CommandKeyword.{CommandKeyword}
 use Rattle.rd_command.specs.declared.keyword.CommandKeyword.TheVariants.{Ask, AskByWatch, TakeWheel}
 use Rattle.rd_command.specs.declared.keyword.CommandKeyword.TheVariants.{GiveWheel, Unwatch, Show, Look}
 use Rattle.rd_command.specs.declared.keyword.CommandKeyword.TheVariants as keyword
-use Rattle.rd_command.specs.declared.keyword.Parameter.{Parameter}
-use Rattle.rd_command.specs.declared.keyword.Parameter.TheVariants.{Core, Count, Register, Index}
-use Rattle.rd_command.specs.declared.keyword.Parameter.TheVariants.{Number, Data, Operator}
-use Rattle.rd_command.specs.declared.keyword.Parameter.TheVariants.{Phase, Action, Watch, Name}
+use Rattle.rd_command.specs.declared.keyword.CommandParameter.{CommandParameter}
+use Rattle.rd_command.specs.declared.keyword.CommandParameter.TheVariants.{Core, Count, Register, Index}
+use Rattle.rd_command.specs.declared.keyword.CommandParameter.TheVariants.{Number, Data, Operator}
+use Rattle.rd_command.specs.declared.keyword.CommandParameter.TheVariants.{Phase, Action, Watch, Name}
 use Rattle.rd_command.specs.declared.view.View.{View}
 use Rattle.rd_command.specs.declared.view.View.TheVariants.{Thing, Cores, Overview}
 use Rattle.rd_command.specs.Commands.{CommandView, command_in, command_of}
@@ -99,7 +99,7 @@ number_named names kind word =
     option_and_then (λ name. position (bytes_eq name) (names_of kind names)) (name_of word)
 
 -- in that application
-abbrev pub value_of : Known → (parameter : Parameter) → List ℕ → Option (Value parameter)
+abbrev pub value_of : Known → (parameter : CommandParameter) → List ℕ → Option (Value parameter)
 value_of known Core word = number_below known.cores word
 value_of known Count word = count_of word
 value_of known Register word = number_below REGISTERS word
@@ -124,7 +124,7 @@ abbrev pub after_word : Reading → Reading
 after_word reading = record reading { words = drop 1 reading.words }
 
 -- what the next word stands for, and what is left
-unfoldable pub next_value : (parameter : Parameter) → Reading → Option (Value parameter × Reading)
+unfoldable pub next_value : (parameter : CommandParameter) → Reading → Option (Value parameter × Reading)
 next_value parameter reading =
     option_and_then (λ word.
     option_map (λ value. (value, after_word reading)) (value_of reading.known parameter word))
@@ -137,7 +137,7 @@ Takes gives (Ok value) new = gives ≡ Some (value, new)
 Takes gives (Err e) new = gives ≡ None
 
 -- what the words make, if each stands for something, and what is left
-abbrev pub made_of : (Made : Type 0) → (parameters : List Parameter) → Makes Made parameters
+abbrev pub made_of : (Made : Type 0) → (parameters : List CommandParameter) → Makes Made parameters
     → Reading
     → Option (Made × Reading)
 made_of Made [] made reading = Some (made, reading)
@@ -204,7 +204,7 @@ bound_of app command = bound_in (known_of app) command
 -- ---- what an application has
 
 -- Has the application what the word names? A word that names nothing is no matter.
-abbrev pub is_there : Known → Parameter → List ℕ → Bool
+abbrev pub is_there : Known → CommandParameter → List ℕ → Bool
 is_there known Core word = is_some (number_below known.cores word)
 is_there known Count word = true
 is_there known Register word = is_some (number_below REGISTERS word)
@@ -217,14 +217,14 @@ is_there known Action word = true
 is_there known Watch word = true
 is_there known (Name kind) word = is_some (position (bytes_eq word) (names_of kind known.names))
 
-abbrev pub are_there : Known → List Parameter → List (List ℕ) → Bool
+abbrev pub are_there : Known → List CommandParameter → List (List ℕ) → Bool
 are_there known [] words = true
 are_there known (parameter ∷ others) [] = true
 are_there known (parameter ∷ others) (word ∷ words) =
     is_there known parameter word && are_there known others words
 
 -- the same of a condition, after its keyword, and of what stands behind it
-abbrev pub are_there_with : Known → List Parameter → List (List ℕ) → Bool
+abbrev pub are_there_with : Known → List CommandParameter → List (List ℕ) → Bool
 are_there_with known parameters [] = true
 are_there_with known parameters (word ∷ words) =
     option_map_or

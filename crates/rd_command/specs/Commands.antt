@@ -7,7 +7,7 @@ use Rattle.rd_text.specs.Words.{words_of}
 use Rattle.rd_command.specs.declared.keyword.ConditionKeyword.{ConditionKeyword}
 use Rattle.rd_command.specs.declared.keyword.CommandKeyword.{CommandKeyword}
 use Rattle.rd_command.specs.declared.keyword.CommandKeyword.TheVariants.{TakeWheel}
-use Rattle.rd_command.specs.declared.keyword.Parameter.{Parameter}
+use Rattle.rd_command.specs.declared.keyword.CommandParameter.{CommandParameter}
 use Rattle.rd_command.specs.Forms.{after_texts, are_operands, is_formed}
 use Rattle.rd_command.specs.Keywords.{Operands, Plain, WithCondition, Spelling, condition_row}
 use Rattle.rd_command.specs.Keywords.{keywords, parameters_of, spelling_of, text_of}
@@ -20,7 +20,7 @@ pub record CommandView : Type 0 where
 -- ---- what words spell
 
 -- The words are one of the form of each of these operands, and no more.
-abbrev pub AreFormed : List Parameter → List (List ℕ) → Type 0
+abbrev pub AreFormed : List CommandParameter → List (List ℕ) → Type 0
 AreFormed [] words = words ≡ []
 AreFormed (parameter ∷ others) words =
     (word : List ℕ)

@@ -8,10 +8,10 @@ use Rattle.rd_condition.specs.declared.condition.Comparison.{Comparison}
 use Rattle.rd_condition.specs.declared.condition.Comparison.TheVariants.{Equal, Less, Greater}
 use Rattle.rd_condition.specs.declared.condition.PhaseName.{PhaseName}
 use Rattle.rd_condition.specs.declared.condition.PhaseName.TheVariants as name
-use Rattle.rd_command.specs.declared.keyword.Parameter.{Parameter}
-use Rattle.rd_command.specs.declared.keyword.Parameter.TheVariants.{Core, Count, Register, Index}
-use Rattle.rd_command.specs.declared.keyword.Parameter.TheVariants.{Number, Data, Operator}
-use Rattle.rd_command.specs.declared.keyword.Parameter.TheVariants.{Phase, Action, Watch, Name}
+use Rattle.rd_command.specs.declared.keyword.CommandParameter.{CommandParameter}
+use Rattle.rd_command.specs.declared.keyword.CommandParameter.TheVariants.{Core, Count, Register, Index}
+use Rattle.rd_command.specs.declared.keyword.CommandParameter.TheVariants.{Number, Data, Operator}
+use Rattle.rd_command.specs.declared.keyword.CommandParameter.TheVariants.{Phase, Action, Watch, Name}
 use Rattle.rd_moves.specs.Counts.{count_in}
 use Rattle.rd_notify.specs.Words.{action_of}
 use Rattle.rd_command.specs.Keywords.{Operands, Plain, WithCondition}
@@ -51,7 +51,7 @@ watch_of [] = None
 watch_of (first ∷ digits) = if nat_eq first 119 then watch_number digits else None
 
 -- has the word the form of such an operand?
-abbrev pub is_formed : Parameter → List ℕ → Bool
+abbrev pub is_formed : CommandParameter → List ℕ → Bool
 is_formed Core word = is_some (number_of word)
 is_formed Count word = is_some (count_of word)
 is_formed Register word = is_some (number_of word)
@@ -72,7 +72,7 @@ after_texts (text ∷ texts) (word ∷ words) =
     if bytes_eq word text then after_texts texts words else None
 
 -- what is left of the words behind one for each of these operands, if they have the forms
-abbrev pub after_words : List Parameter → List (List ℕ) → Option (List (List ℕ))
+abbrev pub after_words : List CommandParameter → List (List ℕ) → Option (List (List ℕ))
 after_words [] words = Some words
 after_words (parameter ∷ others) [] = None
 after_words (parameter ∷ others) (word ∷ words) =

@@ -22,11 +22,11 @@ use Rattle.rd_moves.specs.Carried.{PlainCarried}
 use Rattle.rd_moves.specs.Edits.{PlainEdit}
 use Rattle.rd_moves.specs.Interrupts.{PlainInterrupt}
 use Rattle.rd_moves.specs.Requests.{PlainRequest}
-use Rattle.rd_command.specs.declared.keyword.Parameter.{Parameter}
-use Rattle.rd_command.specs.declared.keyword.Parameter.TheVariants.{Core, Count, Register, Index}
-use Rattle.rd_command.specs.declared.keyword.Parameter.TheVariants.{Number, Data, Operator}
-use Rattle.rd_command.specs.declared.keyword.Parameter.TheVariants.{Phase, Action, Name}
-use Rattle.rd_command.specs.declared.keyword.Parameter.TheVariants as parameter
+use Rattle.rd_command.specs.declared.keyword.CommandParameter.{CommandParameter}
+use Rattle.rd_command.specs.declared.keyword.CommandParameter.TheVariants.{Core, Count, Register, Index}
+use Rattle.rd_command.specs.declared.keyword.CommandParameter.TheVariants.{Number, Data, Operator}
+use Rattle.rd_command.specs.declared.keyword.CommandParameter.TheVariants.{Phase, Action, Name}
+use Rattle.rd_command.specs.declared.keyword.CommandParameter.TheVariants as parameter
 use Rattle.rd_command.specs.declared.keyword.AmountKeyword.{AmountKeyword}
 use Rattle.rd_command.specs.declared.keyword.AmountKeyword.TheVariants as compared
 use Rattle.rd_command.specs.declared.keyword.ConditionKeyword.{ConditionKeyword}
@@ -48,7 +48,7 @@ use Rattle.rd_command.specs.declared.view.Overview.{Overview}
 use Rattle.rd_command.specs.declared.view.Overview.TheVariants as overview
 
 -- what a word stands for; a name is that of the thing with this number
-abbrev pub Value : Parameter → Type 0
+abbrev pub Value : CommandParameter → Type 0
 Value Core = ℕ
 Value Count = ℕ
 Value Register = ℕ
@@ -62,36 +62,36 @@ Value parameter.Watch = ℕ
 Value (Name kind) = ℕ
 
 -- one of these for each choice of values
-abbrev pub Makes : Type 0 → List Parameter → Type 0
+abbrev pub Makes : Type 0 → List CommandParameter → Type 0
 Makes Made [] = Made
 Makes Made (parameter ∷ others) = Value parameter → Makes Made others
 
-abbrev queue_name : Parameter
+abbrev queue_name : CommandParameter
 queue_name = Name kind.Queue
 
-abbrev stream_name : Parameter
+abbrev stream_name : CommandParameter
 stream_name = Name kind.Stream
 
-abbrev message_name : Parameter
+abbrev message_name : CommandParameter
 message_name = Name kind.Message
 
-abbrev group_name : Parameter
+abbrev group_name : CommandParameter
 group_name = Name kind.Group
 
-abbrev task_name : Parameter
+abbrev task_name : CommandParameter
 task_name = Name kind.Task
 
 -- ---- conditions
 
 -- how a condition is written: its keyword, its operands, and the condition that they make
 pub data ConditionRow : Type 0 where
-  Written : List ℕ → (parameters : List Parameter) → Makes conditions.Condition parameters
+  Written : List ℕ → (parameters : List CommandParameter) → Makes conditions.Condition parameters
       → ConditionRow
 
 abbrev pub text_of : ConditionRow → List ℕ
 text_of (Written text parameters make) = text
 
-abbrev pub parameters_of : ConditionRow → List Parameter
+abbrev pub parameters_of : ConditionRow → List CommandParameter
 parameters_of (Written text parameters make) = parameters
 
 abbrev pub amount_row : AmountKeyword → ConditionRow
@@ -147,8 +147,8 @@ condition_keyword_of word = find (λ k. bytes_eq word (text_of (condition_row k)
 
 -- what stands behind the words of a keyword: a word for each of these, maybe after a condition
 pub data Operands : Type 0 where
-  Plain : List Parameter → Operands
-  WithCondition : List Parameter → Operands
+  Plain : List CommandParameter → Operands
+  WithCondition : List CommandParameter → Operands
 
 -- one of these for each choice of values, maybe after a condition
 abbrev pub MakesFrom : Type 0 → Operands → Type 0
@@ -172,11 +172,11 @@ abbrev spelled : List ℕ → List (List ℕ) → Operands → Spelling
 spelled verb more operands = record { verb = verb; more = more; operands = operands }
 
 -- an edit is asked for by `poke` and a second word
-abbrev poked_by : List ℕ → List Parameter → Spelling
+abbrev poked_by : List ℕ → List CommandParameter → Spelling
 poked_by word parameters = spelled (codes "poke") (word ∷ []) (Plain parameters)
 
 -- an interrupt is asked for by `isr` and a second word
-abbrev raised_by : List ℕ → List Parameter → Spelling
+abbrev raised_by : List ℕ → List CommandParameter → Spelling
 raised_by word parameters = spelled (codes "isr") (word ∷ []) (Plain parameters)
 
 -- what a move carries, as a request, and an edit and an interrupt

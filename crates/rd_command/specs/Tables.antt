@@ -9,7 +9,7 @@ use Rattle.rd_command.specs.declared.keyword.Operands as code
 use Rattle.rd_command.specs.declared.keyword.Operands.TheVariants as kept
 use Rattle.rd_command.specs.declared.keyword.ConditionKeyword.{ConditionKeyword}
 use Rattle.rd_command.specs.declared.keyword.CommandKeyword.{CommandKeyword}
-use Rattle.rd_command.specs.declared.keyword.Parameter.{Parameter}
+use Rattle.rd_command.specs.declared.keyword.CommandParameter.{CommandParameter}
 use Rattle.rd_command.specs.Commands.{CommandView}
 use Rattle.rd_command.specs.Forms.{are_operands}
 use Rattle.rd_command.specs.Keywords.{Operands, Plain, WithCondition, condition_row}
@@ -18,18 +18,18 @@ use Rattle.rd_command.specs.Keywords.{parameters_of, text_of}
 -- ---- conditions: the text of each, its operands, and the keyword
 
 abbrev pub Conditions : Type 0
-Conditions = List (List ℕ × List Parameter × ConditionKeyword)
+Conditions = List (List ℕ × List CommandParameter × ConditionKeyword)
 
 abbrev pub conditions_of : List ConditionKeyword → Conditions
 conditions_of keywords =
     map (λ k. (text_of (condition_row k), parameters_of (condition_row k), k)) keywords
 
-abbrev pub conditions_view : List (Bor (List ℕ) × Bor (List Parameter) × ConditionKeyword)
+abbrev pub conditions_view : List (Bor (List ℕ) × Bor (List CommandParameter) × ConditionKeyword)
     → Conditions
 conditions_view rows = map (λ row. (row.0.now, row.1.now, row.2)) rows
 
 -- the first of these that is written so, with its operands
-abbrev pub first_condition : List ℕ → Conditions → Option (List Parameter × ConditionKeyword)
+abbrev pub first_condition : List ℕ → Conditions → Option (List CommandParameter × ConditionKeyword)
 first_condition word [] = None
 first_condition word (row ∷ others) =
     if bytes_eq word row.0 then Some (row.1, row.2) else first_condition word others

@@ -4,7 +4,7 @@ ghost use Rattle.std.specs.Prelude.{◌≡◌, ℕ, List, [], ◌∷◌, IfOk, i
 ghost use Rattle.std.specs.Result.{result_ok};
 ghost use Rattle.rd_condition.specs.declared.condition.Condition as conditions;
 ghost use Rattle.rd_condition.specs.declared.condition.Condition.TheVariants as condition;
-ghost use Rattle.rd_command.specs.declared.keyword.Parameter.TheVariants as parameter;
+ghost use Rattle.rd_command.specs.declared.keyword.CommandParameter.TheVariants as parameter;
 ghost use Rattle.rd_command.specs.declared.keyword.RequestKeyword.TheVariants as asked;
 ghost use Rattle.rd_names.specs.Apps.{AppView, AreAsMany};
 ghost use Rattle.rd_command.specs.Bindings.{IsBoundOf, Takes, bound_by, bound_in, condition_made};

@@ -10,7 +10,7 @@ ghost use Rattle.rd_command.specs.Tables.{operands_view};
 
 use crate::binding::MAX_WATCHES;
 use crate::digits::is_data;
-use crate::keyword::{Operands, Parameter, condition_keyword_of};
+use crate::keyword::{Operands, CommandParameter, condition_keyword_of};
 use crate::word::Word;
 use rd_condition::condition::{Comparison, PhaseName};
 use rd_moves::count::Count;
@@ -74,25 +74,25 @@ pub(crate) fn phase_of(word: &[u8]) -> Option<PhaseName>
 // Whether a word has the form of such an operand. (Inlined, as `are_operands`: most lines are moves
 // of two words, for which two calls more are a tenth of what it takes to read them.)
 #[inline(always)]
-fn is_formed(parameter: Parameter, word: &Word<'_>) -> bool
+fn is_formed(parameter: CommandParameter, word: &Word<'_>) -> bool
     ensures { result ≡ is_formed parameter word.now }
 {
     match parameter {
-        Parameter::Core | Parameter::Register | Parameter::Index | Parameter::Number => {
+        CommandParameter::Core | CommandParameter::Register | CommandParameter::Index | CommandParameter::Number => {
             word.number().is_some()
         }
-        Parameter::Count => count_of(word).is_some(),
-        Parameter::Data => is_data(word.text()),
-        Parameter::Operator => operator_of(word.text()).is_some(),
-        Parameter::Phase => phase_of(word.text()).is_some(),
-        Parameter::Action => action_of(word.text()).is_some(),
-        Parameter::Watch => watch_of(word.text()).is_some(),
-        Parameter::Name(_) => is_name(word.text()),
+        CommandParameter::Count => count_of(word).is_some(),
+        CommandParameter::Data => is_data(word.text()),
+        CommandParameter::Operator => operator_of(word.text()).is_some(),
+        CommandParameter::Phase => phase_of(word.text()).is_some(),
+        CommandParameter::Action => action_of(word.text()).is_some(),
+        CommandParameter::Watch => watch_of(word.text()).is_some(),
+        CommandParameter::Name(_) => is_name(word.text()),
     }
 }
 
 // What is left of the words behind one for each of these operands, if they have the forms.
-fn after_words<'w, 'a>(words: &'w [Word<'a>], parameters: &[Parameter]) -> Option<&'w [Word<'a>]>
+fn after_words<'w, 'a>(words: &'w [Word<'a>], parameters: &[CommandParameter]) -> Option<&'w [Word<'a>]>
     ensures { option_copied result ≡ after_words parameters.now words.now }
 {
     let mut left = words;
@@ -118,7 +118,7 @@ fn after_condition<'w, 'a>(words: &'w [Word<'a>]) -> Option<&'w [Word<'a>]>
 }
 
 // Whether the words are one for each of these operands, with the forms, and no more.
-fn are_formed(words: &[Word<'_>], parameters: &[Parameter]) -> bool
+fn are_formed(words: &[Word<'_>], parameters: &[CommandParameter]) -> bool
     ensures { result ≡ is_all (after_words parameters.now words.now) }
 {
     match after_words(words, parameters) {

@@ -13,7 +13,7 @@ use rd_text::kind::Kind;
 
 /// What a word of a command or of a condition stands for.
 #[derive(Clone, Copy)]
-pub(crate) enum Parameter {
+pub(crate) enum CommandParameter {
     /// A core, by its number.
     Core,
     /// A number of moves, 1 to 1,000,000.
@@ -42,9 +42,9 @@ pub(crate) enum Parameter {
 #[derive(Clone, Copy)]
 pub(crate) enum Operands<'a> {
     /// A word for each of these.
-    Plain(&'a [Parameter]),
+    Plain(&'a [CommandParameter]),
     /// A condition, and then a word for each of these.
-    WithCondition(&'a [Parameter]),
+    WithCondition(&'a [CommandParameter]),
 }
 
 /// What an edit changes.
@@ -149,37 +149,37 @@ pub(crate) enum ConditionKeyword {
     InPhase,
 }
 
-const CORE: Parameter = Parameter::Core;
+const CORE: CommandParameter = CommandParameter::Core;
 
-const COUNT: Parameter = Parameter::Count;
+const COUNT: CommandParameter = CommandParameter::Count;
 
-const REGISTER: Parameter = Parameter::Register;
+const REGISTER: CommandParameter = CommandParameter::Register;
 
-const INDEX: Parameter = Parameter::Index;
+const INDEX: CommandParameter = CommandParameter::Index;
 
-const NUMBER: Parameter = Parameter::Number;
+const NUMBER: CommandParameter = CommandParameter::Number;
 
-const DATA: Parameter = Parameter::Data;
+const DATA: CommandParameter = CommandParameter::Data;
 
-const OPERATOR: Parameter = Parameter::Operator;
+const OPERATOR: CommandParameter = CommandParameter::Operator;
 
-const PHASE: Parameter = Parameter::Phase;
+const PHASE: CommandParameter = CommandParameter::Phase;
 
-const ACTION: Parameter = Parameter::Action;
+const ACTION: CommandParameter = CommandParameter::Action;
 
-const WATCH: Parameter = Parameter::Watch;
+const WATCH: CommandParameter = CommandParameter::Watch;
 
-const QUEUE: Parameter = Parameter::Name(Kind::Queue);
+const QUEUE: CommandParameter = CommandParameter::Name(Kind::Queue);
 
-const QUEUE_SET: Parameter = Parameter::Name(Kind::QueueSet);
+const QUEUE_SET: CommandParameter = CommandParameter::Name(Kind::QueueSet);
 
-const STREAM: Parameter = Parameter::Name(Kind::Stream);
+const STREAM: CommandParameter = CommandParameter::Name(Kind::Stream);
 
-const MESSAGE: Parameter = Parameter::Name(Kind::Message);
+const MESSAGE: CommandParameter = CommandParameter::Name(Kind::Message);
 
-const GROUP: Parameter = Parameter::Name(Kind::Group);
+const GROUP: CommandParameter = CommandParameter::Name(Kind::Group);
 
-const TASK: Parameter = Parameter::Name(Kind::Task);
+const TASK: CommandParameter = CommandParameter::Name(Kind::Task);
 
 /// The operands of a keyword that is its first word alone, and the keyword.
 pub(crate) type Alone<'a> = (Operands<'a>, CommandKeyword);
@@ -311,7 +311,7 @@ pub(crate) static KEYWORDS: [Verb<'static>; 13] = [
 ];
 
 // Each keyword of a condition: as it is written, and its operands.
-static CONDITIONS: [(&str, &[Parameter], ConditionKeyword); 9] = [
+static CONDITIONS: [(&str, &[CommandParameter], ConditionKeyword); 9] = [
     (
         "count",
         &[QUEUE, OPERATOR, NUMBER],
@@ -348,7 +348,7 @@ static CONDITIONS: [(&str, &[Parameter], ConditionKeyword); 9] = [
 ];
 
 /// The keyword of a condition that is written so, with its operands.
-pub(crate) fn condition_keyword_of(word: &[u8]) -> Option<(&'static [Parameter], ConditionKeyword)>
+pub(crate) fn condition_keyword_of(word: &[u8]) -> Option<(&'static [CommandParameter], ConditionKeyword)>
     ensures keyword { option_map (λ found. found.1) result ≡ condition_keyword_of word.now }
     ensures operands { IfSome result
         (λ found. found.0.now ≡ parameters_of (condition_row found.1)) }
@@ -359,8 +359,8 @@ pub(crate) fn condition_keyword_of(word: &[u8]) -> Option<(&'static [Parameter],
 // The first of these keywords that is written so.
 fn first_condition<'a>(
     word: &[u8],
-    keywords: &[(&str, &'a [Parameter], ConditionKeyword)],
-) -> Option<(&'a [Parameter], ConditionKeyword)>
+    keywords: &[(&str, &'a [CommandParameter], ConditionKeyword)],
+) -> Option<(&'a [CommandParameter], ConditionKeyword)>
     ensures { option_map (λ row. (row.0.now, row.1)) result
         ≡ first_condition word.now (conditions_view keywords.now) }
 {

@@ -3,7 +3,7 @@
 ghost use Rattle.std.specs.Prelude.{◌≡◌, IfSome, slice_get};
 ghost use Rattle.std.specs.Option.{option_copied};
 ghost use Rattle.std.specs.Result.{result_ok};
-ghost use Rattle.rd_command.specs.declared.keyword.Parameter.TheVariants as parameter;
+ghost use Rattle.rd_command.specs.declared.keyword.CommandParameter.TheVariants as parameter;
 ghost use Rattle.rd_command.specs.Bindings.{Takes, after_word, next_keyword, next_value};
 ghost use Rattle.rd_command.specs.Bindings.{number_below, number_named};
 
