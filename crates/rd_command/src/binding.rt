@@ -22,7 +22,7 @@ use crate::keyword::{
     SearchKeyword,
 };
 use crate::known::Known;
-use crate::reader::Reader;
+use crate::reader::CommandReader;
 use crate::view::View;
 use rd_condition::condition::{Amount, Condition};
 use rd_moves::carried::Carried;
@@ -63,7 +63,7 @@ pub enum Bound<'a> {
 pub struct Unknown;
 
 // The condition that compares this amount, of the words after it.
-fn read_compared(amount: Amount, reader: &mut Reader<'_, '_>) -> Result<Condition, Unknown>
+fn read_compared(amount: Amount, reader: &mut CommandReader<'_, '_>) -> Result<Condition, Unknown>
     ensures { Takes (made_of conditions.Condition (parameter.Operator ∷ parameter.Number ∷ [])
         (λ operator bound. condition.Compares amount operator bound) reader.old) result reader.new }
 {
@@ -79,7 +79,7 @@ fn read_compared(amount: Amount, reader: &mut Reader<'_, '_>) -> Result<Conditio
 // The condition of such a keyword, of the words after it.
 fn read_comparison(
     keyword: AmountKeyword,
-    reader: &mut Reader<'_, '_>,
+    reader: &mut CommandReader<'_, '_>,
 ) -> Result<Condition, Unknown>
     ensures { Takes (condition_made (amount_row keyword) reader.old) result reader.new }
 {
@@ -119,7 +119,7 @@ fn read_comparison(
 }
 
 // The condition that the words begin with.
-fn read_condition(reader: &mut Reader<'_, '_>) -> Result<Condition, Unknown>
+fn read_condition(reader: &mut CommandReader<'_, '_>) -> Result<Condition, Unknown>
     ensures { Takes (next_condition reader.old) result reader.new }
 {
     match reader.condition_keyword()? {
@@ -134,7 +134,7 @@ fn read_condition(reader: &mut Reader<'_, '_>) -> Result<Condition, Unknown>
 // The edit of such a keyword, of the words after it.
 fn read_edit<'a>(
     keyword: EditKeyword,
-    reader: &mut Reader<'_, 'a>,
+    reader: &mut CommandReader<'_, 'a>,
 ) -> Result<Edit<Digits<'a>>, Unknown>
     ensures { option_map poke (result_ok result) ≡ made_by (edit_row keyword) reader.old }
 {
@@ -177,7 +177,7 @@ fn read_edit<'a>(
 // The interrupt of such a keyword, of the words after it.
 fn read_interrupt<'a>(
     keyword: InterruptKeyword,
-    reader: &mut Reader<'_, 'a>,
+    reader: &mut CommandReader<'_, 'a>,
 ) -> Result<Interrupt<Digits<'a>>, Unknown>
     ensures { option_map raise (result_ok result) ≡ made_by (interrupt_row keyword) reader.old }
 {
@@ -196,7 +196,7 @@ fn read_interrupt<'a>(
 }
 
 // The request `until`, of the words after that.
-fn read_until<'a>(reader: &mut Reader<'_, 'a>) -> Result<Demand<'a>, Unknown>
+fn read_until<'a>(reader: &mut CommandReader<'_, 'a>) -> Result<Demand<'a>, Unknown>
     ensures { result_ok result ≡ made_by (request_row asked.Until) reader.old }
 {
     let condition = read_condition(reader)?;
@@ -207,7 +207,7 @@ fn read_until<'a>(reader: &mut Reader<'_, 'a>) -> Result<Demand<'a>, Unknown>
 // The request of such a keyword, of the words after it.
 fn read_request<'a>(
     keyword: RequestKeyword,
-    reader: &mut Reader<'_, 'a>,
+    reader: &mut CommandReader<'_, 'a>,
 ) -> Result<Demand<'a>, Unknown>
     ensures { result_ok result ≡ made_by (request_row keyword) reader.old }
 {
@@ -249,7 +249,7 @@ fn read_request<'a>(
 // The watch of such a keyword, and what is looked for by it, of the words after it.
 fn read_search(
     keyword: SearchKeyword,
-    reader: &mut Reader<'_, '_>,
+    reader: &mut CommandReader<'_, '_>,
 ) -> Result<(usize, Search), Unknown>
     ensures { result_ok result ≡ made_by (search_row keyword) reader.old }
 {
@@ -264,14 +264,14 @@ fn read_search(
 }
 
 // The condition that the session is to keep.
-fn read_watch(reader: &mut Reader<'_, '_>) -> Result<Condition, Unknown>
+fn read_watch(reader: &mut CommandReader<'_, '_>) -> Result<Condition, Unknown>
     ensures { result_ok result ≡ made_by watch_row reader.old }
 {
     read_condition(reader)
 }
 
 // What a command of this keyword does, of its operands.
-fn read_bound<'a>(keyword: CommandKeyword, reader: &mut Reader<'_, 'a>) -> Result<Bound<'a>, Unknown>
+fn read_bound<'a>(keyword: CommandKeyword, reader: &mut CommandReader<'_, 'a>) -> Result<Bound<'a>, Unknown>
     ensures { result_ok result ≡ bound_by keyword reader.old }
 {
     match keyword {
@@ -315,6 +315,6 @@ pub fn bind<'a>(command: &Command<'_, 'a>, known: &Known) -> Result<Bound<'a>, U
     ensures exact { (words : List (List ℕ)) → Spells words command.now
         → is_some (result_ok result) ≡ has_all known.now command.now }
 {
-    let mut reader = Reader::new(known, command.operands());
+    let mut reader = CommandReader::new(known, command.operands());
     read_bound(command.keyword(), &mut reader)
 }

@@ -43,14 +43,14 @@ fn number_named(word: &[u8], kind: Kind, names: &Names) -> Result<usize, Unknown
 /// Reads the operands of a command, which have their forms, and answers `Unknown` to one that the
 /// application doesn't have.
 #[derive(Drop)]
-pub(crate) struct Reader<'r, 'a> {
+pub(crate) struct CommandReader<'r, 'a> {
     known: &'r Known,
     words: &'r [Word<'a>],
     // how many of the words are read
     read: usize,
 }
 
-impl<'r, 'a> Model for Reader<'r, 'a> {
+impl<'r, 'a> Model for CommandReader<'r, 'a> {
     ghost use Rattle.std.specs.Prelude.{◌≤◌, drop, length};
     ghost use Rattle.rd_command.specs.Bindings.{Reading};
 
@@ -64,12 +64,12 @@ impl<'r, 'a> Model for Reader<'r, 'a> {
     ghost invariant = { λ r. r.read ≤ length r.words.now };
 }
 
-impl<'r, 'a> Reader<'r, 'a> {
+impl<'r, 'a> CommandReader<'r, 'a> {
     /// Reads these words in this application.
-    pub(crate) fn new(known: &'r Known, words: &'r [Word<'a>]) -> Reader<'r, 'a>
+    pub(crate) fn new(known: &'r Known, words: &'r [Word<'a>]) -> CommandReader<'r, 'a>
         ensures { result ≡ record { known = known.now; words = words.now } }
     {
-        Reader {
+        CommandReader {
             known,
             words,
             read: 0,
