@@ -8,14 +8,14 @@ ghost use Rattle.rd_goal.specs.Claims.{IsClaimOf};
 
 use crate::claim::Claim;
 use crate::reading::{NoGoal, Wanted};
-use crate::words::Reader;
+use crate::words::GoalReader;
 use rd_condition::condition::{Amount, Condition, PhaseName};
 use rd_queue::waiting_list::WaitingList;
 use rd_state::phase::{Held, Listed, Place};
 use rd_stream::side::Side;
 
 // The claim that compares this amount, of the words behind it.
-fn compared(amount: Amount, reader: &mut Reader<'_, '_>) -> Result<Claim, NoGoal>
+fn compared(amount: Amount, reader: &mut GoalReader<'_, '_>) -> Result<Claim, NoGoal>
     requires { IsAmountOf reader.old.runs amount }
     ensures claim { IfOk result (IsClaimOf reader.old.runs) }
     ensures app { reader.new ≡ reader.old }
@@ -32,7 +32,7 @@ fn compared(amount: Amount, reader: &mut Reader<'_, '_>) -> Result<Claim, NoGoal
 }
 
 // The claim that compares this amount, or some of its bits.
-fn masked(amount: Amount, reader: &mut Reader<'_, '_>) -> Result<Claim, NoGoal>
+fn masked(amount: Amount, reader: &mut GoalReader<'_, '_>) -> Result<Claim, NoGoal>
     requires { IsAmountOf reader.old.runs amount }
     ensures claim { IfOk result (IsClaimOf reader.old.runs) }
     ensures app { reader.new ≡ reader.old }
@@ -52,7 +52,7 @@ fn masked(amount: Amount, reader: &mut Reader<'_, '_>) -> Result<Claim, NoGoal>
 }
 
 // A register, behind `reg`.
-fn register(reader: &mut Reader<'_, '_>) -> Result<Amount, NoGoal>
+fn register(reader: &mut GoalReader<'_, '_>) -> Result<Amount, NoGoal>
     ensures amount { IfOk result (IsAmountOf reader.old.runs) }
     ensures app { reader.new ≡ reader.old }
 {
@@ -62,7 +62,7 @@ fn register(reader: &mut Reader<'_, '_>) -> Result<Amount, NoGoal>
 }
 
 // The claim that compares a register with a number or another register, or some of its bits.
-fn register_claim(reader: &mut Reader<'_, '_>) -> Result<Claim, NoGoal>
+fn register_claim(reader: &mut GoalReader<'_, '_>) -> Result<Claim, NoGoal>
     ensures claim { IfOk result (IsClaimOf reader.old.runs) }
     ensures app { reader.new ≡ reader.old }
 {
@@ -90,7 +90,7 @@ fn register_claim(reader: &mut Reader<'_, '_>) -> Result<Claim, NoGoal>
 }
 
 // The value of a notification entry, behind `note`.
-fn value(reader: &mut Reader<'_, '_>) -> Result<Amount, NoGoal>
+fn value(reader: &mut GoalReader<'_, '_>) -> Result<Amount, NoGoal>
     ensures amount { IfOk result (IsAmountOf reader.old.runs) }
     ensures app { reader.new ≡ reader.old }
 {
@@ -100,7 +100,7 @@ fn value(reader: &mut Reader<'_, '_>) -> Result<Amount, NoGoal>
 }
 
 // A side of a stream buffer.
-fn of_stream(side: Side, reader: &mut Reader<'_, '_>) -> Result<Place, NoGoal>
+fn of_stream(side: Side, reader: &mut GoalReader<'_, '_>) -> Result<Place, NoGoal>
     ensures { reader.new ≡ reader.old }
 {
     let stream = reader.stream()?;
@@ -110,7 +110,7 @@ fn of_stream(side: Side, reader: &mut Reader<'_, '_>) -> Result<Place, NoGoal>
 }
 
 // A side of a message buffer.
-fn of_message(side: Side, reader: &mut Reader<'_, '_>) -> Result<Place, NoGoal>
+fn of_message(side: Side, reader: &mut GoalReader<'_, '_>) -> Result<Place, NoGoal>
     ensures { reader.new ≡ reader.old }
 {
     let message = reader.message()?;
@@ -120,7 +120,7 @@ fn of_message(side: Side, reader: &mut Reader<'_, '_>) -> Result<Place, NoGoal>
 }
 
 // A side of the buffer of whichever kind has that name.
-fn of_buffer(side: Side, reader: &mut Reader<'_, '_>) -> Result<Place, NoGoal>
+fn of_buffer(side: Side, reader: &mut GoalReader<'_, '_>) -> Result<Place, NoGoal>
     ensures { reader.new ≡ reader.old }
 {
     if reader.names_stream()? {
@@ -131,7 +131,7 @@ fn of_buffer(side: Side, reader: &mut Reader<'_, '_>) -> Result<Place, NoGoal>
 }
 
 // One of a queue's lists.
-fn of_queue(list: WaitingList, reader: &mut Reader<'_, '_>) -> Result<Place, NoGoal>
+fn of_queue(list: WaitingList, reader: &mut GoalReader<'_, '_>) -> Result<Place, NoGoal>
     ensures { reader.new ≡ reader.old }
 {
     let queue = reader.queue()?;
@@ -141,7 +141,7 @@ fn of_queue(list: WaitingList, reader: &mut Reader<'_, '_>) -> Result<Place, NoG
 }
 
 // A queue set.
-fn of_queue_set(reader: &mut Reader<'_, '_>) -> Result<Place, NoGoal>
+fn of_queue_set(reader: &mut GoalReader<'_, '_>) -> Result<Place, NoGoal>
     ensures { reader.new ≡ reader.old }
 {
     let queue_set = reader.queue_set()?;
@@ -151,7 +151,7 @@ fn of_queue_set(reader: &mut Reader<'_, '_>) -> Result<Place, NoGoal>
 }
 
 // An event group.
-fn of_group(reader: &mut Reader<'_, '_>) -> Result<Place, NoGoal>
+fn of_group(reader: &mut GoalReader<'_, '_>) -> Result<Place, NoGoal>
     ensures { reader.new ≡ reader.old }
 {
     let group = reader.group()?;
@@ -161,7 +161,7 @@ fn of_group(reader: &mut Reader<'_, '_>) -> Result<Place, NoGoal>
 }
 
 // A notification entry.
-fn of_entry(reader: &mut Reader<'_, '_>) -> Result<Place, NoGoal>
+fn of_entry(reader: &mut GoalReader<'_, '_>) -> Result<Place, NoGoal>
     ensures { reader.new ≡ reader.old }
 {
     let index = reader.index()?;
@@ -169,7 +169,7 @@ fn of_entry(reader: &mut Reader<'_, '_>) -> Result<Place, NoGoal>
 }
 
 // The place that begins with this word, if one does.
-fn place(word: &[u8], reader: &mut Reader<'_, '_>) -> Result<Place, NoGoal>
+fn place(word: &[u8], reader: &mut GoalReader<'_, '_>) -> Result<Place, NoGoal>
     ensures { reader.new ≡ reader.old }
 {
     match word {
@@ -189,7 +189,7 @@ fn place(word: &[u8], reader: &mut Reader<'_, '_>) -> Result<Place, NoGoal>
 }
 
 // The claim that a task waits, wherever or there.
-fn waits(reader: &mut Reader<'_, '_>) -> Result<Claim, NoGoal>
+fn waits(reader: &mut GoalReader<'_, '_>) -> Result<Claim, NoGoal>
     ensures claim { IfOk result (IsClaimOf reader.old.runs) }
     ensures app { reader.new ≡ reader.old }
 {
@@ -204,7 +204,7 @@ fn waits(reader: &mut Reader<'_, '_>) -> Result<Claim, NoGoal>
 }
 
 // The claim that some task's call has failed, or this one's.
-fn failed(reader: &mut Reader<'_, '_>) -> Result<Claim, NoGoal>
+fn failed(reader: &mut GoalReader<'_, '_>) -> Result<Claim, NoGoal>
     ensures claim { IfOk result (IsClaimOf reader.old.runs) }
     ensures app { reader.new ≡ reader.old }
 {
@@ -226,7 +226,7 @@ fn in_phase(task: usize, name: PhaseName) -> Claim
 }
 
 // The claim that a task stands at an instruction.
-fn at(reader: &mut Reader<'_, '_>) -> Result<Claim, NoGoal>
+fn at(reader: &mut GoalReader<'_, '_>) -> Result<Claim, NoGoal>
     ensures claim { IfOk result (IsClaimOf reader.old.runs) }
     ensures app { reader.new ≡ reader.old }
 {
@@ -236,7 +236,7 @@ fn at(reader: &mut Reader<'_, '_>) -> Result<Claim, NoGoal>
 }
 
 // The claim that begins with this word and compares an amount of an object, or the tick.
-fn of_amount(word: &[u8], reader: &mut Reader<'_, '_>) -> Result<Claim, NoGoal>
+fn of_amount(word: &[u8], reader: &mut GoalReader<'_, '_>) -> Result<Claim, NoGoal>
     ensures claim { IfOk result (IsClaimOf reader.old.runs) }
     ensures app { reader.new ≡ reader.old }
 {
@@ -263,7 +263,7 @@ fn of_amount(word: &[u8], reader: &mut Reader<'_, '_>) -> Result<Claim, NoGoal>
 }
 
 /// The claim that the next words are.
-pub(crate) fn claim(reader: &mut Reader<'_, '_>) -> Result<Claim, NoGoal>
+pub(crate) fn claim(reader: &mut GoalReader<'_, '_>) -> Result<Claim, NoGoal>
     ensures claim { IfOk result (IsClaimOf reader.old.runs) }
     ensures app { reader.new ≡ reader.old }
 {

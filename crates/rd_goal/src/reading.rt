@@ -5,7 +5,7 @@ ghost use Rattle.rd_goal.specs.Goals.{IsGoalOf, IsRowOf};
 
 use crate::claim_words::claim;
 use crate::goal::{Goal, MAX_ROWS, Row};
-use crate::words::Reader;
+use crate::words::GoalReader;
 use arrayvec::ArrayVec;
 use rd_bytes::no_memory::NoMemory;
 use rd_names::app::App;
@@ -100,7 +100,7 @@ enum Pending {
 // that wait. (An operator that binds less than one before it waits for that one.)
 #[derive(Drop)]
 struct Draft<'r, 'a> {
-    reader: Reader<'r, 'a>,
+    reader: GoalReader<'r, 'a>,
     goal: Goal,
     rows: ArrayVec<usize, MAX_ROWS>,
     pending: ArrayVec<Pending, MAX_ROWS>,
@@ -130,7 +130,7 @@ impl Pending {
 }
 
 impl<'r, 'a> Draft<'r, 'a> {
-    fn new(alloc: Global, reader: Reader<'r, 'a>) -> Draft<'r, 'a>
+    fn new(alloc: Global, reader: GoalReader<'r, 'a>) -> Draft<'r, 'a>
         ensures { result ≡ reader.entry }
     {
         Draft {
@@ -281,7 +281,7 @@ impl<'r, 'a> Draft<'r, 'a> {
 pub fn read_goal(alloc: Global, app: &App, words: &[&[u8]]) -> Result<Goal, NoGoal>
     ensures { IfOk result (IsGoalOf app.now.runs) }
 {
-    let mut draft = Draft::new(alloc, Reader::new(app, words));
+    let mut draft = Draft::new(alloc, GoalReader::new(app, words));
     let mut is_wanted = true;
     for _ in 0..words.len() {
         if draft.reader.is_over() {

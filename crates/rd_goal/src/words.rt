@@ -14,14 +14,14 @@ use std::marker::Model;
 
 /// Reads the words of a goal, which stands in this application.
 #[derive(Drop)]
-pub(crate) struct Reader<'r, 'a> {
+pub(crate) struct GoalReader<'r, 'a> {
     app: &'r App,
     words: &'r [&'a [u8]],
     // how many of the words are read
     read: usize,
 }
 
-impl<'r, 'a> Model for Reader<'r, 'a> {
+impl<'r, 'a> Model for GoalReader<'r, 'a> {
     ghost use Rattle.std.specs.Prelude.{◌≤◌, length};
     ghost use Rattle.rd_names.specs.Apps.{AppView};
 
@@ -32,12 +32,12 @@ impl<'r, 'a> Model for Reader<'r, 'a> {
     ghost invariant = { λ r. r.read ≤ length r.words.now };
 }
 
-impl<'r, 'a> Reader<'r, 'a> {
+impl<'r, 'a> GoalReader<'r, 'a> {
     /// Reads these words in this application.
-    pub(crate) fn new(app: &'r App, words: &'r [&'a [u8]]) -> Reader<'r, 'a>
+    pub(crate) fn new(app: &'r App, words: &'r [&'a [u8]]) -> GoalReader<'r, 'a>
         ensures { result ≡ app.now }
     {
-        Reader {
+        GoalReader {
             app,
             words,
             read: 0,
