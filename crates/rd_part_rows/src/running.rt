@@ -9,7 +9,7 @@ use crate::asserts::assert_same;
 use crate::files::read;
 use rd_condition::condition::{Amount, Comparison, Condition};
 use rd_refusal::refusal::Refusal;
-use rd_timeline::running::Found;
+use rd_timeline::running::FoundPlace;
 use rd_timeline::timeline::Timeline;
 use std::process::Abort;
 use std::test::Fail;
@@ -45,12 +45,12 @@ fn is_after(tick: u32) -> Condition
     }
 }
 
-fn met(at: usize) -> Found {
-    Found { at, met: true }
+fn met(at: usize) -> FoundPlace {
+    FoundPlace { at, met: true }
 }
 
 // On to where r1 has the value, so many moves at the most.
-fn assert_until(rt: &impl Abort, timeline: &mut Timeline, value: u32, count: usize, found: Found)
+fn assert_until(rt: &impl Abort, timeline: &mut Timeline, value: u32, count: usize, found: FoundPlace)
     requires { 0 < count }
 {
     timeline.app().limits();
@@ -58,7 +58,7 @@ fn assert_until(rt: &impl Abort, timeline: &mut Timeline, value: u32, count: usi
 }
 
 // Back to where r1 had the value.
-fn assert_back_until(rt: &impl Abort, timeline: &mut Timeline, value: u32, found: Found) {
+fn assert_back_until(rt: &impl Abort, timeline: &mut Timeline, value: u32, found: FoundPlace) {
     timeline.app().limits();
     assert_same(rt, timeline.back_until(r1_is(value)), found);
 }
@@ -66,14 +66,14 @@ fn assert_back_until(rt: &impl Abort, timeline: &mut Timeline, value: u32, found
 fn searches_forwards(rt: &impl Abort, timeline: &mut Timeline) {
     assert_until(rt, timeline, 2, 9, met(3));
     assert_until(rt, timeline, 1, 9, met(7));
-    assert_until(rt, timeline, 9, 2, Found { at: 9, met: false });
+    assert_until(rt, timeline, 9, 2, FoundPlace { at: 9, met: false });
 }
 
 fn searches_backwards(rt: &impl Abort, timeline: &mut Timeline) {
     assert_back_until(rt, timeline, 1, met(8));
     assert_back_until(rt, timeline, 1, met(7));
     assert_back_until(rt, timeline, 2, met(6));
-    let start = Found { at: 0, met: false };
+    let start = FoundPlace { at: 0, met: false };
     assert_same(rt, timeline.back_until(is_after(5)), start);
 }
 

@@ -15,7 +15,7 @@ use rd_moves::interrupt::Interrupt;
 use rd_moves::moves::Move;
 use rd_notify::action::Action;
 use rd_refusal::refusal::Refusal;
-use rd_timeline::running::Found;
+use rd_timeline::running::FoundPlace;
 use rd_timeline::timeline::Timeline;
 
 /// A call of a timeline, and where it must lead.
@@ -114,7 +114,7 @@ fn has_items(items: u32) -> Condition
     }
 }
 
-fn ended(found: Found) -> End {
+fn ended(found: FoundPlace) -> End {
     let at = found.at;
     if found.met {
         End::Met { at }

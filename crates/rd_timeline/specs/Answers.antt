@@ -7,7 +7,7 @@ use Rattle.rd_moves.specs.Requests.{PlainRequest}
 use Rattle.rd_moves.specs.declared.answer.Answer.{Answer}
 use Rattle.rd_moves.specs.declared.answer.Answer.TheVariants.{Answered, Done, Ended, Refused}
 use Rattle.rd_moves.specs.declared.answer.SearchEnd.TheVariants.{Met, Limit}
-use Rattle.rd_timeline.specs.declared.running.Found.{Found}
+use Rattle.rd_timeline.specs.declared.running.FoundPlace.{FoundPlace}
 use Rattle.rd_timeline.specs.Course.{Course}
 use Rattle.rd_timeline.specs.History.{state_after}
 use Rattle.rd_timeline.specs.Runs.{Ending, Plain, Searched, Answers, Moves, Response, Leaves}
@@ -20,7 +20,7 @@ answer_at at (Searched end) = Ended at end
 answer_at at (Answers answer) = Answered at answer
 
 -- where a run to a condition ended
-abbrev pub ended_answer : Found → Answer
+abbrev pub ended_answer : FoundPlace → Answer
 ended_answer found = Ended found.at (if found.met then Met else Limit)
 
 -- what is answered where this comes of a request

@@ -9,7 +9,7 @@ use Rattle.rd_state.specs.Snapshot.{Snapshot}
 use Rattle.rd_moves.specs.Moves.{PlainMove}
 use Rattle.rd_condition.specs.declared.condition.Condition.{Condition}
 use Rattle.rd_condition.specs.Conditions.{holds}
-use Rattle.rd_timeline.specs.declared.running.Found.{Found}
+use Rattle.rd_timeline.specs.declared.running.FoundPlace.{FoundPlace}
 use Rattle.rd_refusal.specs.declared.refusal.Refusal.TheVariants.{NoMemory, NothingUndone}
 use Rattle.rd_timeline.specs.Course.{Course, base_of}
 use Rattle.rd_timeline.specs.History.{state_after}
@@ -77,12 +77,12 @@ last_met app condition base moves (suc count) =
     else last_met app condition base moves count
 
 -- the place where the search found what it looked for
-abbrev pub place_met : Found → Option ℕ
+abbrev pub place_met : FoundPlace → Option ℕ
 place_met found = if found.met then Some found.at else None
 
 -- It went back to the last earlier place where the condition holds, of those that records lead back
 -- to, or else to the first of these.
-pub record GoesBackTo (old : Course) (condition : Condition) (found : Found) (new : Course)
+pub record GoesBackTo (old : Course) (condition : Condition) (found : FoundPlace) (new : Course)
     : Type 0 where
   pub place : place_met found
       ≡ last_met old.app condition (base_of old) old.done (length old.log)

@@ -11,7 +11,7 @@ use Rattle.rd_moves.specs.declared.request.Request.TheVariants.{BackUntil, Trim}
 use Rattle.rd_moves.specs.Edits.{PlainEdit}
 use Rattle.rd_condition.specs.declared.condition.Condition.{Condition}
 use Rattle.rd_condition.specs.Conditions.{holds}
-use Rattle.rd_timeline.specs.declared.running.Found.{Found}
+use Rattle.rd_timeline.specs.declared.running.FoundPlace.{FoundPlace}
 use Rattle.rd_moves.specs.Requests.{PlainRequest}
 use Rattle.rd_timeline.specs.Backward.{holds_in, GoesBack, GoesBackTo, HasRedone}
 use Rattle.rd_timeline.specs.Backward.{RedoesMoreThanEver}
@@ -51,7 +51,7 @@ RunsAddUp = (old mid new whole : Course) (first then : ℕ)
 -- the search began. Where it doesn't end well, the condition holds at no earlier place that records
 -- lead back to.
 abbrev pub BackFindsTheLast : Type 0
-BackFindsTheLast = (old new : Course) (condition : Condition) (found : Found) → IsMade old
+BackFindsTheLast = (old new : Course) (condition : Condition) (found : FoundPlace) → IsMade old
     → GoesBackTo old condition found new
     → (found.met ≡ true → (holds new.target condition ≡ true) × (found.at < length old.done))
     × ((place : ℕ) → base_of old ≤ place → place < length old.done

@@ -11,7 +11,7 @@ ghost use Rattle.rd_timeline.specs.History.{state_after};
 ghost use Rattle.rd_timeline.specs.Runs.{answered, ending_of, makes_move, may_make_moves};
 ghost use Rattle.rd_timeline.specs.Runs.{moves_of};
 
-use crate::running::Found;
+use crate::running::FoundPlace;
 use crate::timeline::Timeline;
 use rd_bytes::no_memory::NoMemory;
 use rd_calls::play::move_answer;
@@ -94,14 +94,14 @@ fn redo(timeline: &mut Timeline, count: Count) -> Result<Answer, NoMemory>
 }
 
 // What is answered where a run to a condition has ended, or was refused.
-fn ended(made: Result<Found, Refusal>) -> Result<Answer, NoMemory>
+fn ended(made: Result<FoundPlace, Refusal>) -> Result<Answer, NoMemory>
     ensures ok { IfOk made (λ found. result ≡ Ok (ended_answer found)) }
     ensures err { IfErr made (λ refusal. refusal ≢ Refusal.NoMemory
         → result ≡ Ok (Answer.Refused refusal)) }
     ensures no_memory { IsErr result ↔ IsErrOf made Refusal.NoMemory }
 {
     match made {
-        Ok(Found { at, met }) => {
+        Ok(FoundPlace { at, met }) => {
             let end = if met {
                 SearchEnd::Met
             } else {
@@ -129,7 +129,7 @@ fn back_until(timeline: &mut Timeline, condition: Condition) -> Answer
     ensures { Obeys timeline.old (request.BackUntil condition) timeline.new (Ok result) }
 {
     timeline.keeps();
-    let Found { at, met } = timeline.back_until(condition);
+    let FoundPlace { at, met } = timeline.back_until(condition);
     let end = if met {
         SearchEnd::Met
     } else {

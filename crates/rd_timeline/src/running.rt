@@ -20,7 +20,7 @@ use rd_refusal::refusal::Refusal;
 
 /// Where a search for a condition ended.
 #[derive(Clone, Copy, Debug, PartialEq, Eq)]
-pub struct Found {
+pub struct FoundPlace {
     /// How many moves are done there.
     pub at: usize,
     /// Whether the condition holds there. Else the search came to its limit.
@@ -127,7 +127,7 @@ impl Timeline {
     /// Makes moves as `policy` chooses until the condition holds after one of them, so many of them
     /// at the most, all or none. That it holds after none is no refusal. Refusals are those of
     /// `forward`, and leave the timeline as it was.
-    pub fn until(&mut self, condition: Condition, count: usize) -> Result<Found, Refusal>
+    pub fn until(&mut self, condition: Condition, count: usize) -> Result<FoundPlace, Refusal>
         requires some { 0 < count }
         requires named { IsConditionOf self.old.app condition }
         ensures at { IfOk result (λ found. found.at ≡ length self.new.done) }
@@ -145,7 +145,7 @@ impl Timeline {
         self.keeps();
         let met = self.run_by_policy(Some(condition), count)?;
         self.keeps();
-        Ok(Found { at: self.at(), met })
+        Ok(FoundPlace { at: self.at(), met })
     }
 
     // Makes moves that are undone again, so many of them, which are there. An `Err` says that there
@@ -194,7 +194,7 @@ impl Timeline {
     /// Goes back to the last earlier place where the condition holds, of those that the kept moves
     /// lead back to, or else by all kept moves. It takes no memory and is never refused, and reads
     /// as many bytes of records as these moves' records have. The moves taken back can be redone.
-    pub fn back_until(&mut self, condition: Condition) -> Found
+    pub fn back_until(&mut self, condition: Condition) -> FoundPlace
         requires named { IsConditionOf self.old.app condition }
         ensures at { result.at ≡ length self.new.done }
         ensures place { GoesBackTo self.old condition result self.new }
@@ -206,14 +206,14 @@ impl Timeline {
         for _ in 0..self.kept() {
             self.back(1).unwrap();
             if self.meets(Some(condition)) {
-                return Found {
+                return FoundPlace {
                     at: self.at(),
                     met: true,
                 };
             }
         }
         self.keeps();
-        Found {
+        FoundPlace {
             at: self.at(),
             met: false,
         }
