@@ -4,7 +4,7 @@ ghost use Rattle.std.specs.Prelude.{◌≡◌, IfOk};
 ghost use Rattle.rd_goal.specs.Goals.{IsGoalOf, IsRowOf};
 
 use crate::claim_words::claim;
-use crate::goal::{Goal, MAX_ROWS, Row};
+use crate::goal::{Goal, MAX_ROWS, GoalRow};
 use crate::words::GoalReader;
 use arrayvec::ArrayVec;
 use rd_bytes::no_memory::NoMemory;
@@ -142,7 +142,7 @@ impl<'r, 'a> Draft<'r, 'a> {
     }
 
     // Adds a row, which no other joins yet.
-    fn add(&mut self, row: Row) -> Result<(), NoGoal>
+    fn add(&mut self, row: GoalRow) -> Result<(), NoGoal>
         requires { IsRowOf self.old.runs row }
         ensures { self.new ≡ self.old }
     {
@@ -174,14 +174,14 @@ impl<'r, 'a> Draft<'r, 'a> {
     {
         let other = self.operand();
         match operator {
-            Pending::Not => self.add(Row::Not { row: other }),
+            Pending::Not => self.add(GoalRow::Not { row: other }),
             Pending::Both => {
                 let one = self.operand();
-                self.add(Row::Both { one, other })
+                self.add(GoalRow::Both { one, other })
             }
             Pending::Either => {
                 let one = self.operand();
-                self.add(Row::Either { one, other })
+                self.add(GoalRow::Either { one, other })
             }
             Pending::Open => Err(NoGoal::Unclosed),
         }
@@ -227,7 +227,7 @@ impl<'r, 'a> Draft<'r, 'a> {
             return Ok(true);
         }
         let claim = claim(&mut self.reader)?;
-        self.add(Row::Says { claim })?;
+        self.add(GoalRow::Says { claim })?;
         Ok(false)
     }
 

@@ -3,8 +3,8 @@ use Rattle.std.proofs.Common.{◌≡◌, Bool, List, [], ◌∷◌, refl, sym, s
 use Rattle.std.proofs.lemmas.List.Elements.{All-cons, All-nil}
 use Rattle.rd_app.specs.Application.{Application}
 use Rattle.rd_goal.specs.declared.claim.Claim.{Claim}
-use Rattle.rd_goal.specs.declared.goal.Row.{Row}
-use Rattle.rd_goal.specs.declared.goal.Row.TheVariants.{Says}
+use Rattle.rd_goal.specs.declared.goal.GoalRow.{GoalRow}
+use Rattle.rd_goal.specs.declared.goal.GoalRow.TheVariants.{Says}
 use Rattle.rd_goal.specs.Claims.{IsClaimOf}
 use Rattle.rd_goal.specs.Goals.{IsGoalOf, IsRowOf}
 use Rattle.rd_state.specs.Snapshot.{Snapshot}
@@ -13,7 +13,7 @@ use Rattle.rd_reach.specs.Orders.{Suits}
 use Rattle.rd_reach.specs.Plans.{Plan}
 
 -- A goal that says one thing, which names nothing of an application, is one of each.
-pub names_nothing : (claim : Claim) (rows : List Row) → rows ≡ Says claim ∷ [] → ((app : Application) → IsClaimOf app claim) → (app : Application) → IsGoalOf app rows
+pub names_nothing : (claim : Claim) (rows : List GoalRow) → rows ≡ Says claim ∷ [] → ((app : Application) → IsClaimOf app claim) → (app : Application) → IsGoalOf app rows
 names_nothing claim rows is named app =
     subst (IsGoalOf app) (sym is) (All-cons (IsRowOf app) (Says claim) [] (named app) (All-nil (IsRowOf app)))
 

@@ -10,7 +10,7 @@ use crate::wrong::Wrong;
 use rd_app::app::Program;
 use rd_bytes::no_memory::NoMemory;
 use rd_goal::claim::Claim;
-use rd_goal::goal::{Goal, Row};
+use rd_goal::goal::{Goal, GoalRow};
 use rd_reach::orders::Judge;
 use rd_state::state::State;
 use std::alloc::Global;
@@ -37,7 +37,7 @@ fn try_to_make(alloc: Global, claim: Claim) -> Result<Goal, NoMemory>
     ensures { IfOk result (λ goal. (app : Application) → IsGoalOf app goal) }
 {
     let mut goal = Goal::new(alloc);
-    goal.add(Row::Says { claim })?;
+    goal.add(GoalRow::Says { claim })?;
     Ok(goal)
 }
 
