@@ -7,7 +7,7 @@ use crate::handler::Handler;
 use crate::options::Question;
 use rd_dealt::part::Part;
 use rd_names::app::App;
-use rd_reach::answer::{Answer, Cause, Outcome};
+use rd_reach::answer::{Answer, FullCause, Outcome};
 use rd_reach::came::Came;
 use rd_reach::choice::{Choice, choice_of};
 use rd_text::kind::Kind;
@@ -100,13 +100,13 @@ pub(crate) fn tell_missed<W: Write>(writer: &mut W, app: &App, came: &Came) -> i
 }
 
 /// What ended a search.
-pub(crate) fn told(cause: Cause) -> &'static str {
+pub(crate) fn told(cause: FullCause) -> &'static str {
     match cause {
-        Cause::States => "as many states as may be kept (--states)",
-        Cause::Bytes => "as much memory as may be taken (--memory)",
-        Cause::Memory => "there is no more memory",
-        Cause::Stopped => "it was stopped",
-        Cause::Limit => "the tick came to the last there is (--exact)",
+        FullCause::States => "as many states as may be kept (--states)",
+        FullCause::Bytes => "as much memory as may be taken (--memory)",
+        FullCause::Memory => "there is no more memory",
+        FullCause::Stopped => "it was stopped",
+        FullCause::Limit => "the tick came to the last there is (--exact)",
     }
 }
 

@@ -17,7 +17,7 @@ use rd_app::app::Program;
 use rd_goal::claim::Claim;
 use rd_goal::goal::Goal;
 use rd_key::sight::Sight;
-use rd_reach::answer::{Answer, Cause, Counts, Outcome, Room, Watch};
+use rd_reach::answer::{Answer, FullCause, Counts, Outcome, Room, Watch};
 use rd_reach::orders::reach_orders;
 use rd_reach::schedule::Schedule;
 use rd_state::state::State;
@@ -158,7 +158,7 @@ fn come_of(
     let without = sought.without();
     let within = outcome.counts.within;
     match outcome.answer {
-        Answer::Full(depth, Cause::Memory) if depth <= without => {
+        Answer::Full(depth, FullCause::Memory) if depth <= without => {
             refused.note(At::Search);
             Ok(None)
         }

@@ -12,7 +12,7 @@ use rd_answer::manner::Manner;
 use rd_goal::reading::{read_goal, words_of};
 use rd_names::app::App;
 use rd_origin::origin::origin;
-use rd_reach::answer::{Answer, Cause, Outcome, Room};
+use rd_reach::answer::{Answer, FullCause, Outcome, Room};
 use rd_reach::came::Came;
 use rd_reach::schedule::Schedule;
 use rd_script::file::read_app;
@@ -71,7 +71,7 @@ enum Ended {
     Found(usize),
     NotWithin(u32),
     Never,
-    Full(u32, Cause),
+    Full(u32, FullCause),
 }
 
 // What was gone through for an answer.
@@ -152,7 +152,7 @@ const ROWS: [Row; 11] = [
     Row {
         room: 40,
         figures: Figures {
-            ended: Ended::Full(8, Cause::States),
+            ended: Ended::Full(8, FullCause::States),
             states: 40,
             moves: 106,
             deepest: 16,

@@ -10,7 +10,7 @@ use rd_lost::lost::lost;
 use rd_lost::outcome::{Lost, Outcome, Untold};
 use rd_names::app::App;
 use rd_origin::run::Run;
-use rd_reach::answer::{Cause, Counts, Room, Watch};
+use rd_reach::answer::{FullCause, Counts, Room, Watch};
 use rd_reach::schedule::Schedule;
 use rd_script::file::read_app;
 use std::alloc::Global;
@@ -210,7 +210,7 @@ const ROWS: [Row; 19] = [
     // is told of 2, 1 and 0. Asked of 5, 2, 1, 0 and 3.
     Row {
         room: 3,
-        told: Told::Full(Some(3), None, 0, Untold::Full(0, Cause::States)),
+        told: Told::Full(Some(3), None, 0, Untold::Full(0, FullCause::States)),
         asked: 5,
         ..COUNTED
     },
@@ -219,7 +219,7 @@ const ROWS: [Row; 19] = [
     Row {
         goal: "reg a 1 = 1",
         room: 2,
-        told: Told::Full(Some(4), Some((1, 0)), 2, Untold::Full(0, Cause::States)),
+        told: Told::Full(Some(4), Some((1, 0)), 2, Untold::Full(0, FullCause::States)),
         asked: 4,
         ..COUNTED
     },
