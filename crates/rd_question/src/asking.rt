@@ -29,7 +29,7 @@ use rd_goal::goal::Goal;
 use rd_goal::reading::read_goal;
 use rd_lost::lost::lost;
 use rd_names::app::App;
-use rd_reach::answer::{Outcome, Room};
+use rd_reach::answer::{Outcome, SearchRoom};
 use rd_reach::schedule::Schedule;
 use rd_start::file::load;
 use rd_state::state::State;
@@ -62,10 +62,10 @@ fn goal_of(alloc: Global, app: &App, words: &[&[u8]]) -> Result<Goal, Fault>
 }
 
 // How much may be kept.
-fn room_of(question: &Question<'_>) -> Room
+fn room_of(question: &Question<'_>) -> SearchRoom
     requires { IsQuestion question.now }
 {
-    Room {
+    SearchRoom {
         states: question.states,
         bytes: question.memory * MEBIBYTE,
     }

@@ -17,7 +17,7 @@ use rd_app::app::Program;
 use rd_goal::claim::Claim;
 use rd_goal::goal::Goal;
 use rd_key::sight::Sight;
-use rd_reach::answer::{Answer, FullCause, Counts, Outcome, Room, Watch};
+use rd_reach::answer::{Answer, FullCause, Counts, Outcome, SearchRoom, Watch};
 use rd_reach::orders::reach_orders;
 use rd_reach::schedule::Schedule;
 use rd_state::state::State;
@@ -25,7 +25,7 @@ use rd_timeline::logged::Logged;
 use std::alloc::Global;
 
 // What a search may keep, which is more than these need.
-const ROOM: Room = Room {
+const ROOM: SearchRoom = SearchRoom {
     states: 1_000,
     bytes: 1_000_000,
 };

@@ -12,7 +12,7 @@ use rd_answer::manner::Manner;
 use rd_goal::reading::{read_goal, words_of};
 use rd_names::app::App;
 use rd_origin::origin::origin;
-use rd_reach::answer::{Answer, FullCause, Outcome, Room};
+use rd_reach::answer::{Answer, FullCause, Outcome, SearchRoom};
 use rd_reach::came::Came;
 use rd_reach::schedule::Schedule;
 use rd_script::file::read_app;
@@ -293,7 +293,7 @@ fn ask(alloc: Global, app: &App, start: State, row: Row) -> Result<Outcome, Fail
     let goal = read_goal(alloc, app, words.as_slice())?;
     let (at_least, at_most) = row.pace;
     let schedule = Schedule::new(at_least, at_most, Vec::new(alloc), row.surprises).unwrap();
-    let room = Room {
+    let room = SearchRoom {
         states: row.room,
         bytes: 1_000_000,
     };

@@ -10,7 +10,7 @@ use rd_lost::lost::lost;
 use rd_lost::outcome::{Lost, Outcome, Untold};
 use rd_names::app::App;
 use rd_origin::run::Run;
-use rd_reach::answer::{FullCause, Counts, Room, Watch};
+use rd_reach::answer::{FullCause, Counts, SearchRoom, Watch};
 use rd_reach::schedule::Schedule;
 use rd_script::file::read_app;
 use std::alloc::Global;
@@ -260,7 +260,7 @@ fn ask(alloc: Global, app: &App, row: Row, run: &mut Run) -> Result<Outcome, Fai
     let words = words_of(alloc, row.goal.as_bytes())?;
     let goal = read_goal(alloc, app, words.as_slice())?;
     let schedule = Schedule::new(0, None, Vec::new(alloc), None).unwrap();
-    let room = Room {
+    let room = SearchRoom {
         states: row.room,
         bytes: 100_000_000,
     };
