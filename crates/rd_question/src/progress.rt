@@ -1,7 +1,7 @@
 //! What is told while a search goes on.
 
 use rd_answer::onlooker::Onlooker;
-use rd_reach::answer::{Counts, Watch};
+use rd_reach::answer::{SearchCounts, Watch};
 use std::io;
 use std::io::Write;
 
@@ -25,7 +25,7 @@ impl<'a, E: Write> Progress<'a, E> {
 }
 
 impl<'a, E: Write> Watch for Progress<'a, E> {
-    fn goes_on(&mut self, counts: &Counts) -> bool {
+    fn goes_on(&mut self, counts: &SearchCounts) -> bool {
         if self.is_told {
             // (Nobody is left to be told that the telling failed.)
             let _ = tell_progress(self.errors, self.surprises, counts);
@@ -45,7 +45,7 @@ impl<'a, E: Write> Onlooker for Progress<'a, E> {
 fn tell_progress<E: Write>(
     errors: &mut E,
     surprises: Option<u8>,
-    counts: &Counts,
+    counts: &SearchCounts,
 ) -> io::Result<()> {
     write!(errors, "progress within {}", counts.within)?;
     if let Some(surprises) = surprises {

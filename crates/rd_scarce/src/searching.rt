@@ -17,7 +17,7 @@ use rd_app::app::Program;
 use rd_goal::claim::Claim;
 use rd_goal::goal::Goal;
 use rd_key::sight::Sight;
-use rd_reach::answer::{Answer, FullCause, Counts, Outcome, SearchRoom, Watch};
+use rd_reach::answer::{Answer, FullCause, SearchCounts, Outcome, SearchRoom, Watch};
 use rd_reach::orders::reach_orders;
 use rd_reach::schedule::Schedule;
 use rd_state::state::State;
@@ -88,7 +88,7 @@ impl Sought {
 struct NoWatch;
 
 impl Watch for NoWatch {
-    fn goes_on(&mut self, _counts: &Counts) -> bool {
+    fn goes_on(&mut self, _counts: &SearchCounts) -> bool {
         true
     }
 }

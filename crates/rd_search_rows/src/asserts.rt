@@ -1,7 +1,7 @@
 //! What the tests share.
 
 use rd_answer::onlooker::Onlooker;
-use rd_reach::answer::{Counts, Watch};
+use rd_reach::answer::{SearchCounts, Watch};
 use std::fmt::Debug;
 use std::process::Abort;
 
@@ -16,7 +16,7 @@ pub fn assert_same<T: PartialEq + Debug + Copy>(rt: &impl Abort, found: T, wante
 pub struct Quiet;
 
 impl Watch for Quiet {
-    fn goes_on(&mut self, _counts: &Counts) -> bool {
+    fn goes_on(&mut self, _counts: &SearchCounts) -> bool {
         true
     }
 }

@@ -10,7 +10,7 @@ use rd_lost::lost::lost;
 use rd_lost::outcome::{Lost, Outcome, Untold};
 use rd_names::app::App;
 use rd_origin::run::Run;
-use rd_reach::answer::{FullCause, Counts, SearchRoom, Watch};
+use rd_reach::answer::{FullCause, SearchCounts, SearchRoom, Watch};
 use rd_reach::schedule::Schedule;
 use rd_script::file::read_app;
 use std::alloc::Global;
