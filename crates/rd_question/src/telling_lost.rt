@@ -3,7 +3,7 @@
 ghost use Rattle.std.specs.Prelude.{◌≤◌, IfOk};
 
 use crate::telling::{Asked, FOUND, NONE, UNTOLD, tell_counts, tell_lines, tell_order, told};
-use rd_lost::outcome::{Lost, Outcome, Untold, Way};
+use rd_lost::outcome::{Lost, LostOutcome, Untold, Way};
 use std::io;
 use std::io::Write;
 
@@ -106,7 +106,7 @@ pub(crate) fn tell_lost<W: Write>(
     asked: &Asked<'_>,
     first: usize,
     moves: usize,
-    outcome: &Outcome,
+    outcome: &LostOutcome,
 ) -> io::Result<u8>
     ensures { IfOk result (λ status. status ≤ 2) }
 {

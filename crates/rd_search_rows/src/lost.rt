@@ -7,7 +7,7 @@ use rd_answer::manner::Manner;
 use rd_answer::onlooker::Onlooker;
 use rd_goal::reading::{read_goal, words_of};
 use rd_lost::lost::lost;
-use rd_lost::outcome::{Lost, Outcome, Untold};
+use rd_lost::outcome::{Lost, LostOutcome, Untold};
 use rd_names::app::App;
 use rd_origin::run::Run;
 use rd_reach::answer::{FullCause, SearchCounts, SearchRoom, Watch};
@@ -254,7 +254,7 @@ const ROWS: [Row; 19] = [
 ];
 
 // What is told of a run of the application, which is ended.
-fn ask(alloc: Global, app: &App, row: Row, run: &mut Run) -> Result<Outcome, Fail>
+fn ask(alloc: Global, app: &App, row: Row, run: &mut Run) -> Result<LostOutcome, Fail>
     requires { run.old.app ≡ app.now.runs }
 {
     let words = words_of(alloc, row.goal.as_bytes())?;
