@@ -29,7 +29,7 @@ use rd_goal::goal::Goal;
 use rd_goal::reading::read_goal;
 use rd_lost::lost::lost;
 use rd_names::app::App;
-use rd_reach::answer::{Outcome, SearchRoom};
+use rd_reach::answer::{SearchOutcome, SearchRoom};
 use rd_reach::schedule::Schedule;
 use rd_start::file::load;
 use rd_state::state::State;
@@ -88,7 +88,7 @@ fn answered<W: Onlooker>(
     start: State,
     question: &Question<'_>,
     watch: &mut W,
-) -> Result<Outcome, NoMemory>
+) -> Result<SearchOutcome, NoMemory>
     requires question { IsQuestion question.now }
     requires goal { IsGoalOf app.now goal.now }
     requires isrs { AreIsrsOf app.now schedule.now }

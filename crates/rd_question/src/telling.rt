@@ -7,7 +7,7 @@ use crate::handler::Handler;
 use crate::options::Question;
 use rd_dealt::part::Part;
 use rd_names::app::App;
-use rd_reach::answer::{Answer, FullCause, Outcome};
+use rd_reach::answer::{Answer, FullCause, SearchOutcome};
 use rd_reach::came::Came;
 use rd_reach::choice::{Choice, choice_of};
 use rd_text::kind::Kind;
@@ -182,7 +182,7 @@ fn tell_answer<W: Write>(writer: &mut W, asked: &Asked<'_>, answer: &Answer) -> 
 /// began behind, if it is one, what was gone through, and where no order was left out which
 /// instructions none came to. Answers the exit status: 0 where the goal comes behind no order that
 /// was asked for, 1 where it comes behind one, 2 where that can't be told.
-pub(crate) fn tell<W: Write>(writer: &mut W, asked: &Asked<'_>, outcome: &Outcome) -> io::Result<u8>
+pub(crate) fn tell<W: Write>(writer: &mut W, asked: &Asked<'_>, outcome: &SearchOutcome) -> io::Result<u8>
     ensures status { IfOk result (λ status. status ≡ status_of outcome.now.answer) }
     ensures within { IfOk result (λ status. status ≤ 2) }
 {

@@ -17,7 +17,7 @@ use rd_app::app::Program;
 use rd_goal::claim::Claim;
 use rd_goal::goal::Goal;
 use rd_key::sight::Sight;
-use rd_reach::answer::{Answer, FullCause, SearchCounts, Outcome, SearchRoom, Watch};
+use rd_reach::answer::{Answer, FullCause, SearchCounts, SearchOutcome, SearchRoom, Watch};
 use rd_reach::orders::reach_orders;
 use rd_reach::schedule::Schedule;
 use rd_state::state::State;
@@ -111,7 +111,7 @@ fn search_from(
     goal: &Goal,
     sought: Sought,
     refused: &mut Refused,
-) -> Result<Option<Outcome>, Wrong>
+) -> Result<Option<SearchOutcome>, Wrong>
     requires goal { IsGoalOf program.now goal.now }
     requires valid { IsValid program.now start }
     requires settled { IsSettled (priorities_of program.now) start }
@@ -150,7 +150,7 @@ fn come_of(
     program: Program,
     goal: &Goal,
     sought: Sought,
-    outcome: Outcome,
+    outcome: SearchOutcome,
     refused: &mut Refused,
 ) -> Result<Option<usize>, Wrong>
     requires { (app : Application) → IsGoalOf app goal.now }

@@ -12,7 +12,7 @@ use rd_answer::manner::Manner;
 use rd_goal::reading::{read_goal, words_of};
 use rd_names::app::App;
 use rd_origin::origin::origin;
-use rd_reach::answer::{Answer, FullCause, Outcome, SearchRoom};
+use rd_reach::answer::{Answer, FullCause, SearchOutcome, SearchRoom};
 use rd_reach::came::Came;
 use rd_reach::schedule::Schedule;
 use rd_script::file::read_app;
@@ -285,7 +285,7 @@ fn begin(alloc: Global, row: Row) -> Result<(App, State), Fail>
 }
 
 // The answer to what a row asks.
-fn ask(alloc: Global, app: &App, start: State, row: Row) -> Result<Outcome, Fail>
+fn ask(alloc: Global, app: &App, start: State, row: Row) -> Result<SearchOutcome, Fail>
     requires valid { IsValid app.now.runs start }
     requires settled { IsSettled (priorities_of app.now.runs) start }
 {
@@ -314,7 +314,7 @@ fn ask(alloc: Global, app: &App, start: State, row: Row) -> Result<Outcome, Fail
     )?)
 }
 
-fn figures_of(outcome: &Outcome) -> Figures {
+fn figures_of(outcome: &SearchOutcome) -> Figures {
     let ended = match &outcome.answer {
         Answer::Found(order) => Ended::Found(order.len()),
         Answer::NotWithin(most) => Ended::NotWithin(*most),
