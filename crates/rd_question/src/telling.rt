@@ -7,7 +7,7 @@ use crate::handler::Handler;
 use crate::options::Question;
 use rd_dealt::part::Part;
 use rd_names::app::App;
-use rd_reach::answer::{Answer, FullCause, SearchOutcome};
+use rd_reach::answer::{SearchAnswer, FullCause, SearchOutcome};
 use rd_reach::came::Came;
 use rd_reach::choice::{Choice, choice_of};
 use rd_text::kind::Kind;
@@ -145,30 +145,30 @@ fn tell_part<W: Write>(writer: &mut W, part: Option<&Part>) -> io::Result<()> {
 }
 
 // The answer by itself. The exit status it has.
-fn tell_answer<W: Write>(writer: &mut W, asked: &Asked<'_>, answer: &Answer) -> io::Result<u8>
+fn tell_answer<W: Write>(writer: &mut W, asked: &Asked<'_>, answer: &SearchAnswer) -> io::Result<u8>
     ensures { IfOk result (λ status. status ≡ status_of answer.now) }
 {
     let surprises = asked.question.surprises;
     let part = asked.question.part.as_ref();
     match answer {
-        Answer::Found(order) => {
+        SearchAnswer::Found(order) => {
             write!(writer, "found")?;
             tell_part(writer, part)?;
             tell_lines(writer, asked)?;
             tell_order(writer, asked, order.as_slice())?;
             Ok(FOUND)
         }
-        Answer::Never => {
+        SearchAnswer::Never => {
             tell_never(writer, surprises)?;
             tell_part(writer, part)?;
             Ok(NONE)
         }
-        Answer::NotWithin(most) => {
+        SearchAnswer::NotWithin(most) => {
             tell_bounds(writer, *most, surprises)?;
             tell_part(writer, part)?;
             Ok(NONE)
         }
-        Answer::Full(depth, cause) => {
+        SearchAnswer::Full(depth, cause) => {
             write!(writer, "full: ")?;
             tell_bounds(writer, *depth, surprises)?;
             tell_part(writer, part)?;

@@ -17,7 +17,7 @@ use rd_app::app::Program;
 use rd_goal::claim::Claim;
 use rd_goal::goal::Goal;
 use rd_key::sight::Sight;
-use rd_reach::answer::{Answer, FullCause, SearchCounts, SearchOutcome, SearchRoom, Watch};
+use rd_reach::answer::{SearchAnswer, FullCause, SearchCounts, SearchOutcome, SearchRoom, Watch};
 use rd_reach::orders::reach_orders;
 use rd_reach::schedule::Schedule;
 use rd_state::state::State;
@@ -158,12 +158,12 @@ fn come_of(
     let without = sought.without();
     let within = outcome.counts.within;
     match outcome.answer {
-        Answer::Full(depth, FullCause::Memory) if depth <= without => {
+        SearchAnswer::Full(depth, FullCause::Memory) if depth <= without => {
             refused.note(At::Search);
             Ok(None)
         }
-        Answer::NotWithin(most) if most == without => Ok(Some(outcome.counts.states)),
-        Answer::Found(order) if within <= without => {
+        SearchAnswer::NotWithin(most) if most == without => Ok(Some(outcome.counts.states)),
+        SearchAnswer::Found(order) if within <= without => {
             let led = replay(alloc, program, order.as_slice(), goal, refused)?;
             // Whether one with fewer choices leads there, too, couldn't be told.
             if led.is_some() && within < without {
@@ -172,7 +172,7 @@ fn come_of(
             }
             Ok(led)
         }
-        Answer::Full(_, _) | Answer::NotWithin(_) | Answer::Found(_) | Answer::Never => {
+        SearchAnswer::Full(_, _) | SearchAnswer::NotWithin(_) | SearchAnswer::Found(_) | SearchAnswer::Never => {
             Err(Wrong::Answer)
         }
     }

@@ -12,7 +12,7 @@ use rd_answer::manner::Manner;
 use rd_goal::reading::{read_goal, words_of};
 use rd_names::app::App;
 use rd_origin::origin::origin;
-use rd_reach::answer::{Answer, FullCause, SearchOutcome, SearchRoom};
+use rd_reach::answer::{SearchAnswer, FullCause, SearchOutcome, SearchRoom};
 use rd_reach::came::Came;
 use rd_reach::schedule::Schedule;
 use rd_script::file::read_app;
@@ -316,10 +316,10 @@ fn ask(alloc: Global, app: &App, start: State, row: Row) -> Result<SearchOutcome
 
 fn figures_of(outcome: &SearchOutcome) -> Figures {
     let ended = match &outcome.answer {
-        Answer::Found(order) => Ended::Found(order.len()),
-        Answer::NotWithin(most) => Ended::NotWithin(*most),
-        Answer::Never => Ended::Never,
-        Answer::Full(depth, cause) => Ended::Full(*depth, *cause),
+        SearchAnswer::Found(order) => Ended::Found(order.len()),
+        SearchAnswer::NotWithin(most) => Ended::NotWithin(*most),
+        SearchAnswer::Never => Ended::Never,
+        SearchAnswer::Full(depth, cause) => Ended::Full(*depth, *cause),
     };
     Figures {
         ended,
