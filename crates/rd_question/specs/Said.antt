@@ -9,8 +9,8 @@ use Rattle.rd_question.specs.Paces.{IsWritten}
 use Rattle.rd_question.specs.declared.engine_line.TheConstants.{MAX_SURPRISES}
 use Rattle.rd_question.specs.declared.engine_line.Line.{Line}
 use Rattle.rd_question.specs.declared.engine_line.Line.TheVariants as line
-use Rattle.rd_question.specs.declared.engine_line.Setting.{Setting}
-use Rattle.rd_question.specs.declared.engine_line.Setting.TheVariants as setting
+use Rattle.rd_question.specs.declared.engine_line.EngineSetting.{EngineSetting}
+use Rattle.rd_question.specs.declared.engine_line.EngineSetting.TheVariants as setting
 use Rattle.rd_question.specs.declared.handler.Handler.{Handler}
 use Rattle.rd_question.specs.declared.options.TheConstants.{MAX_MEMORY, MAX_MOVES, MAX_STATES}
 use Rattle.rd_question.specs.declared.pace.Pace.{Pace}
@@ -60,7 +60,7 @@ IsSwitchSaid word true = word ≡ codes "on"
 IsSwitchSaid word false = word ≡ codes "off"
 
 -- A line with this keyword, and this behind it, says the setting.
-abbrev pub IsSetting : List ℕ → List ℕ → Setting → Type 0
+abbrev pub IsSetting : List ℕ → List ℕ → EngineSetting → Type 0
 IsSetting keyword operand (setting.Pace pace) = (keyword ≡ codes "pace") × IsPaceSaid operand pace
 IsSetting keyword operand (setting.Surprises most) =
     (keyword ≡ codes "surprises") × IsLimitSaid MAX_SURPRISES operand most
@@ -90,7 +90,7 @@ abbrev pub IsSaid : List ℕ → Line → Type 0
 IsSaid text said = IsLine (keyword_of (trim text)) (operand_of (trim text)) said
 
 -- The setting's number is within its limits.
-abbrev pub IsWithinLimits : Setting → Type 0
+abbrev pub IsWithinLimits : EngineSetting → Type 0
 IsWithinLimits (setting.Pace pace) = ⊤
 IsWithinLimits (setting.Surprises most) = ⊤
 IsWithinLimits (setting.Moves most) = IfSome most (λ number. number ≤ MAX_MOVES)
@@ -114,7 +114,7 @@ abbrev pub HasOneMore : EngineView → EngineView → Type 0
 HasOneMore old new = (isr : Handler) × (new ≡ record old { isrs = old.isrs ++ isr ∷ [] })
 
 -- The setting is made, and nothing else has changed.
-abbrev pub IsSet : Setting → EngineView → EngineView → Type 0
+abbrev pub IsSet : EngineSetting → EngineView → EngineView → Type 0
 IsSet (setting.Pace pace) old new = new ≡ record old { pace = pace }
 IsSet (setting.Surprises most) old new = new ≡ record old { surprises = most }
 IsSet (setting.Moves most) old new = new ≡ record old { moves = most }

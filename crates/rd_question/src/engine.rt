@@ -5,7 +5,7 @@ ghost use Rattle.rd_question.specs.Questions.{IsQuestion};
 ghost use Rattle.rd_question.specs.Said.{BeginsElsewhere, HasOneMore, IsSet, IsWithinLimits};
 
 use crate::asking::{application, respond};
-use crate::engine_line::Setting;
+use crate::engine_line::EngineSetting;
 use crate::fault::Fault;
 use crate::handler::{Said, handler_of};
 use crate::options::Question;
@@ -136,38 +136,38 @@ impl<'a> Engine<'a> {
 
     /// Makes a setting. `Isr` where an interrupt is none that may come, and `NoMemory` where there is
     /// none for it; nothing has changed then.
-    pub(crate) fn set(&mut self, alloc: Global, setting: Setting<'_>) -> Result<(), Fault>
+    pub(crate) fn set(&mut self, alloc: Global, setting: EngineSetting<'_>) -> Result<(), Fault>
         requires { IsWithinLimits setting }
         ensures made { OnOk result (IsSet setting.entry self.old self.new) }
         ensures kept { OnErr result (self.new ≡ self.old) }
     {
         match setting {
-            Setting::Pace { pace } => {
+            EngineSetting::Pace { pace } => {
                 self.question.pace = pace;
                 Ok(())
             }
-            Setting::Surprises { most } => {
+            EngineSetting::Surprises { most } => {
                 self.question.surprises = most;
                 Ok(())
             }
-            Setting::Moves { most } => {
+            EngineSetting::Moves { most } => {
                 self.question.moves = most;
                 Ok(())
             }
-            Setting::States { most } => {
+            EngineSetting::States { most } => {
                 self.question.states = most;
                 Ok(())
             }
-            Setting::Memory { most } => {
+            EngineSetting::Memory { most } => {
                 self.question.memory = most;
                 Ok(())
             }
-            Setting::Exact { exact } => {
+            EngineSetting::Exact { exact } => {
                 self.question.exact = exact;
                 Ok(())
             }
-            Setting::Isr { said } => self.add_isr(alloc, said),
-            Setting::NoIsrs => {
+            EngineSetting::Isr { said } => self.add_isr(alloc, said),
+            EngineSetting::NoIsrs => {
                 self.question.isrs.clear();
                 Ok(())
             }

@@ -20,7 +20,7 @@ pub const MAX_SURPRISES: usize = 255;
 
 /// What a line changes of what is asked for beside the goal.
 #[derive(Clone, Copy)]
-pub enum Setting<'a> {
+pub enum EngineSetting<'a> {
     /// The pace, by `pace M..N` or `pace none`.
     Pace { pace: Pace },
     /// How many surprises an order has at the most, by `surprises N`; none, by `surprises none`:
@@ -51,7 +51,7 @@ pub enum Line<'a> {
     /// `line COMMAND`: it begins behind one command line more.
     Command { command: &'a str },
     /// A setting.
-    Set { setting: Setting<'a> },
+    Set { setting: EngineSetting<'a> },
     /// `reach GOAL`, `lost GOAL` or `doomed GOAL`: what is asked of the goal.
     Ask { query: Query, goal: &'a str },
     /// `help`: what lines there are.
@@ -125,47 +125,47 @@ fn switch_of(word: &str) -> Result<bool, Fault>
 }
 
 // The interrupt that is said, or none.
-fn isr_within(words: &str) -> Result<Setting<'_>, Fault>
+fn isr_within(words: &str) -> Result<EngineSetting<'_>, Fault>
     ensures said { IfOk result (IsSetting (codes "isr") words.entry.now) }
     ensures limits { IfOk result IsWithinLimits }
 {
     if words == "none" {
-        return Ok(Setting::NoIsrs);
+        return Ok(EngineSetting::NoIsrs);
     }
     let said = said_of(words)?;
-    Ok(Setting::Isr { said })
+    Ok(EngineSetting::Isr { said })
 }
 
 // The setting that a line says by its keyword and what stands behind it. `NoLine` where it says
 // none.
-fn setting_of<'a>(keyword: &str, operand: &'a str) -> Result<Setting<'a>, Fault>
+fn setting_of<'a>(keyword: &str, operand: &'a str) -> Result<EngineSetting<'a>, Fault>
     ensures said { IfOk result (IsSetting keyword.now operand.entry.now) }
     ensures limits { IfOk result IsWithinLimits }
 {
     match keyword {
         "pace" => {
             let pace = pace_within(operand)?;
-            Ok(Setting::Pace { pace })
+            Ok(EngineSetting::Pace { pace })
         }
         "surprises" => {
             let most = surprises_within(operand)?;
-            Ok(Setting::Surprises { most })
+            Ok(EngineSetting::Surprises { most })
         }
         "moves" => {
             let most = moves_within(operand)?;
-            Ok(Setting::Moves { most })
+            Ok(EngineSetting::Moves { most })
         }
         "states" => {
             let most = number_within(operand, "--states", 1, MAX_STATES)?;
-            Ok(Setting::States { most })
+            Ok(EngineSetting::States { most })
         }
         "memory" => {
             let most = number_within(operand, "--memory", 1, MAX_MEMORY)?;
-            Ok(Setting::Memory { most })
+            Ok(EngineSetting::Memory { most })
         }
         "exact" => {
             let exact = switch_of(operand)?;
-            Ok(Setting::Exact { exact })
+            Ok(EngineSetting::Exact { exact })
         }
         "isr" => isr_within(operand),
         _ => Err(Fault::NoLine),
