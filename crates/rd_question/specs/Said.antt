@@ -7,8 +7,8 @@ use Rattle.rd_text.specs.Words.{number_of}
 use Rattle.rd_question.specs.EngineView.{EngineView}
 use Rattle.rd_question.specs.Paces.{IsWritten}
 use Rattle.rd_question.specs.declared.engine_line.TheConstants.{MAX_SURPRISES}
-use Rattle.rd_question.specs.declared.engine_line.Line.{Line}
-use Rattle.rd_question.specs.declared.engine_line.Line.TheVariants as line
+use Rattle.rd_question.specs.declared.engine_line.EngineLine.{EngineLine}
+use Rattle.rd_question.specs.declared.engine_line.EngineLine.TheVariants as line
 use Rattle.rd_question.specs.declared.engine_line.EngineSetting.{EngineSetting}
 use Rattle.rd_question.specs.declared.engine_line.EngineSetting.TheVariants as setting
 use Rattle.rd_question.specs.declared.handler.Handler.{Handler}
@@ -76,7 +76,7 @@ IsSetting keyword operand (setting.Isr said) = keyword ≡ codes "isr"
 IsSetting keyword operand setting.NoIsrs = (keyword ≡ codes "isr") × (operand ≡ codes "none")
 
 -- A line with this keyword, and this behind it, says that.
-abbrev pub IsLine : List ℕ → List ℕ → Line → Type 0
+abbrev pub IsLine : List ℕ → List ℕ → EngineLine → Type 0
 IsLine keyword operand line.Boot = (keyword ≡ codes "from") × (operand ≡ [])
 IsLine keyword operand (line.From path) = (keyword ≡ codes "from") × (operand ≡ path.now)
 IsLine keyword operand (line.Command command) = (keyword ≡ codes "line") × (operand ≡ command.now)
@@ -86,7 +86,7 @@ IsLine keyword operand line.Help = (keyword ≡ codes "help") × (operand ≡ []
 IsLine keyword operand line.Quit = (keyword ≡ codes "quit") × (operand ≡ [])
 
 -- The text, without space at either end, is a line that says that.
-abbrev pub IsSaid : List ℕ → Line → Type 0
+abbrev pub IsSaid : List ℕ → EngineLine → Type 0
 IsSaid text said = IsLine (keyword_of (trim text)) (operand_of (trim text)) said
 
 -- The setting's number is within its limits.
@@ -100,7 +100,7 @@ IsWithinLimits (setting.Exact exact) = ⊤
 IsWithinLimits (setting.Isr said) = ⊤
 IsWithinLimits setting.NoIsrs = ⊤
 
-abbrev pub IsLineWithinLimits : Line → Type 0
+abbrev pub IsLineWithinLimits : EngineLine → Type 0
 IsLineWithinLimits line.Boot = ⊤
 IsLineWithinLimits (line.From path) = ⊤
 IsLineWithinLimits (line.Command command) = ⊤

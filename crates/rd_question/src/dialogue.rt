@@ -5,7 +5,7 @@ ghost use Rattle.rd_question.specs.Questions.{IsQuestion};
 ghost use Rattle.rd_question.specs.Said.{IsLineWithinLimits};
 
 use crate::engine::Engine;
-use crate::engine_line::{Line, line_of};
+use crate::engine_line::{EngineLine, line_of};
 use crate::fault::Fault;
 use crate::input::{Heard, Input};
 use crate::options::Question;
@@ -37,7 +37,7 @@ quit                      ends
 fn obey<H: Files + AllocGlobal, W: Write, E: Write>(
     handle: &H,
     engine: &mut Engine<'_>,
-    line: Line<'_>,
+    line: EngineLine<'_>,
     writer: &mut W,
     errors: &mut E,
 ) -> Result<(), Fault>
@@ -45,19 +45,19 @@ fn obey<H: Files + AllocGlobal, W: Write, E: Write>(
 {
     let alloc = handle.alloc();
     match line {
-        Line::Ask { query, goal } => return engine.ask(alloc, query, goal, writer, errors),
-        Line::Help => return Ok(writer.write_all(HELP.as_bytes())?),
-        Line::Boot => engine.begin_at_boot(),
-        Line::From { path } => engine.begin_behind(handle, path)?,
-        Line::Command { command } => engine.add_command(alloc, command)?,
-        Line::Set { setting } => engine.set(alloc, setting)?,
-        Line::Quit => {}
+        EngineLine::Ask { query, goal } => return engine.ask(alloc, query, goal, writer, errors),
+        EngineLine::Help => return Ok(writer.write_all(HELP.as_bytes())?),
+        EngineLine::Boot => engine.begin_at_boot(),
+        EngineLine::From { path } => engine.begin_behind(handle, path)?,
+        EngineLine::Command { command } => engine.add_command(alloc, command)?,
+        EngineLine::Set { setting } => engine.set(alloc, setting)?,
+        EngineLine::Quit => {}
     }
     Ok(writeln!(writer, "ok")?)
 }
 
 // What the line says that was heard last.
-fn line_heard<'a, R: Read>(input: &'a Input<'_, R>) -> Result<Line<'a>, Fault>
+fn line_heard<'a, R: Read>(input: &'a Input<'_, R>) -> Result<EngineLine<'a>, Fault>
     ensures { IfOk result IsLineWithinLimits }
 {
     match input.text() {
@@ -71,7 +71,7 @@ fn line_heard<'a, R: Read>(input: &'a Input<'_, R>) -> Result<Line<'a>, Fault>
 fn reply<H: Files + AllocGlobal, W: Write, E: Write>(
     handle: &H,
     engine: &mut Engine<'_>,
-    said: Result<Line<'_>, Fault>,
+    said: Result<EngineLine<'_>, Fault>,
     writer: &mut W,
     errors: &mut E,
 ) -> Result<(), Fault>
@@ -91,14 +91,14 @@ fn reply<H: Files + AllocGlobal, W: Write, E: Write>(
 }
 
 // What was heard, as a line, or why it is none. (Behind the end there is nothing to do.)
-fn said_by<'a, R: Read>(input: &'a Input<'_, R>, heard: Heard) -> Result<Line<'a>, Fault>
+fn said_by<'a, R: Read>(input: &'a Input<'_, R>, heard: Heard) -> Result<EngineLine<'a>, Fault>
     ensures { IfOk result IsLineWithinLimits }
 {
     match heard {
         Heard::Line => line_heard(input),
         Heard::TooLong => Err(Fault::LongLine),
         Heard::NoMemory => Err(Fault::NoMemory),
-        Heard::End => Ok(Line::Quit),
+        Heard::End => Ok(EngineLine::Quit),
     }
 }
 
@@ -116,7 +116,7 @@ fn reply_next<H: Files + AllocGlobal, R: Read, W: Write, E: Write>(
         return Ok(false);
     }
     let said = said_by(input, heard);
-    let is_last = matches!(said, Ok(Line::Quit));
+    let is_last = matches!(said, Ok(EngineLine::Quit));
     reply(handle, engine, said, writer, errors)?;
     Ok(!is_last)
 }

@@ -43,7 +43,7 @@ pub enum EngineSetting<'a> {
 
 /// What a line says.
 #[derive(Clone, Copy)]
-pub enum Line<'a> {
+pub enum EngineLine<'a> {
     /// `from`: a search begins at boot.
     Boot,
     /// `from PATH`: it begins behind the command lines of this file.
@@ -185,42 +185,42 @@ fn in_two(text: &str) -> (&str, &str)
 }
 
 // Where a search begins, by what stands behind `from`.
-fn start_in(path: &str) -> Line<'_>
+fn start_in(path: &str) -> EngineLine<'_>
     ensures said { IsLine (codes "from") path.entry.now result }
     ensures limits { IsLineWithinLimits result }
 {
     if path.is_empty() {
-        Line::Boot
+        EngineLine::Boot
     } else {
-        Line::From { path }
+        EngineLine::From { path }
     }
 }
 
 // What a line says by its keyword and what stands behind it. `NoLine` where it says nothing.
-fn line_in<'a>(keyword: &str, operand: &'a str) -> Result<Line<'a>, Fault>
+fn line_in<'a>(keyword: &str, operand: &'a str) -> Result<EngineLine<'a>, Fault>
     ensures said { IfOk result (IsLine keyword.now operand.entry.now) }
     ensures limits { IfOk result IsLineWithinLimits }
 {
     match keyword {
-        "reach" => Ok(Line::Ask {
+        "reach" => Ok(EngineLine::Ask {
             query: Query::Reach,
             goal: operand,
         }),
-        "lost" => Ok(Line::Ask {
+        "lost" => Ok(EngineLine::Ask {
             query: Query::Lost,
             goal: operand,
         }),
-        "doomed" => Ok(Line::Ask {
+        "doomed" => Ok(EngineLine::Ask {
             query: Query::Doomed,
             goal: operand,
         }),
-        "line" => Ok(Line::Command { command: operand }),
+        "line" => Ok(EngineLine::Command { command: operand }),
         "from" => Ok(start_in(operand)),
-        "help" if operand.is_empty() => Ok(Line::Help),
-        "quit" if operand.is_empty() => Ok(Line::Quit),
+        "help" if operand.is_empty() => Ok(EngineLine::Help),
+        "quit" if operand.is_empty() => Ok(EngineLine::Quit),
         _ => {
             let setting = setting_of(keyword, operand)?;
-            Ok(Line::Set { setting })
+            Ok(EngineLine::Set { setting })
         }
     }
 }
@@ -233,7 +233,7 @@ fn line_in<'a>(keyword: &str, operand: &'a str) -> Result<Line<'a>, Fault>
 /// `Switch` where it says neither on nor off, `Isr` where an option of an interrupt is said twice.
 /// Whether its goal, its command line or its calls are some, and what its path leads to, isn't asked
 /// here.
-pub fn line_of(text: &str) -> Result<Line<'_>, Fault>
+pub fn line_of(text: &str) -> Result<EngineLine<'_>, Fault>
     ensures said { IfOk result (IsSaid text.entry.now) }
     ensures limits { IfOk result IsLineWithinLimits }
 {
