@@ -15,7 +15,7 @@ use crate::planning::schedule_of;
 use crate::progress::Progress;
 use crate::query::Query;
 use crate::start::{lines_of, run_of, start_of};
-use crate::telling::{Asked, tell};
+use crate::telling::{AskedQuestion, tell};
 use crate::telling_doomed::tell_doomed;
 use crate::telling_lost::tell_lost;
 use crate::wanted::refused_goal;
@@ -108,7 +108,7 @@ fn answered<W: Onlooker>(
 // Answers whether the goal can come, and tells the answer.
 fn reach<W: Write, E: Write>(
     alloc: Global,
-    asked: &Asked<'_>,
+    asked: &AskedQuestion<'_>,
     goal: &Goal,
     schedule: &Schedule,
     writer: &mut W,
@@ -137,7 +137,7 @@ fn reach<W: Write, E: Write>(
 // Answers where the run of the command lines lost the goal, and tells the answer.
 fn lose<W: Write, E: Write>(
     alloc: Global,
-    asked: &Asked<'_>,
+    asked: &AskedQuestion<'_>,
     goal: &Goal,
     schedule: &Schedule,
     writer: &mut W,
@@ -170,7 +170,7 @@ fn lose<W: Write, E: Write>(
 // Answers whether the goal can be lost, and tells the answer.
 fn doom<W: Write, E: Write>(
     alloc: Global,
-    asked: &Asked<'_>,
+    asked: &AskedQuestion<'_>,
     goal: &Goal,
     schedule: &Schedule,
     writer: &mut W,
@@ -207,7 +207,7 @@ fn doom<W: Write, E: Write>(
 /// `Unwritten` where the answer can't be written.
 pub(crate) fn respond<W: Write, E: Write>(
     alloc: Global,
-    asked: &Asked<'_>,
+    asked: &AskedQuestion<'_>,
     query: Query,
     words: &[&[u8]],
     writer: &mut W,
@@ -241,7 +241,7 @@ pub(crate) fn ask<H: Files + AllocGlobal, W: Write, E: Write>(
 {
     let app = application(handle, question.file)?;
     let lines = lines_of(handle, question.from)?;
-    let asked = Asked {
+    let asked = AskedQuestion {
         app: &app,
         lines: lines.as_str(),
         question,

@@ -12,7 +12,7 @@ use crate::options::Question;
 use crate::planning::schedule_of;
 use crate::query::Query;
 use crate::start::{lines_of, start_of};
-use crate::telling::Asked;
+use crate::telling::AskedQuestion;
 use rd_goal::reading::words_of;
 use rd_names::app::App;
 use rd_origin::origin::origin;
@@ -185,7 +185,7 @@ impl<'a> Engine<'a> {
         errors: &mut E,
     ) -> Result<(), Fault> {
         let words = words_of(alloc, goal.as_bytes())?;
-        let asked = Asked {
+        let asked = AskedQuestion {
             app: &self.app,
             lines: self.lines.as_str(),
             question: &self.question,

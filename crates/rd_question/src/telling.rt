@@ -25,7 +25,7 @@ pub(crate) const UNTOLD: u8 = 2;
 
 /// A question with what it is asked of.
 #[derive(Drop)]
-pub(crate) struct Asked<'a> {
+pub(crate) struct AskedQuestion<'a> {
     /// The application.
     pub(crate) app: &'a App,
     /// The command lines that the search begins behind.
@@ -45,7 +45,7 @@ fn tell_isr<W: Write>(writer: &mut W, handlers: &[Handler], isr: usize) -> io::R
 }
 
 /// The command lines that the search begins behind, a line each.
-pub(crate) fn tell_lines<W: Write>(writer: &mut W, asked: &Asked<'_>) -> io::Result<()> {
+pub(crate) fn tell_lines<W: Write>(writer: &mut W, asked: &AskedQuestion<'_>) -> io::Result<()> {
     for line in asked.lines.lines() {
         writeln!(writer, "{line}")?;
     }
@@ -55,7 +55,7 @@ pub(crate) fn tell_lines<W: Write>(writer: &mut W, asked: &Asked<'_>) -> io::Res
 /// The command lines of an order, a line each.
 pub(crate) fn tell_order<W: Write>(
     writer: &mut W,
-    asked: &Asked<'_>,
+    asked: &AskedQuestion<'_>,
     order: &[u8],
 ) -> io::Result<()> {
     let cores = asked.app.program().cores();
@@ -145,7 +145,7 @@ fn tell_part<W: Write>(writer: &mut W, part: Option<&Part>) -> io::Result<()> {
 }
 
 // The answer by itself. The exit status it has.
-fn tell_answer<W: Write>(writer: &mut W, asked: &Asked<'_>, answer: &SearchAnswer) -> io::Result<u8>
+fn tell_answer<W: Write>(writer: &mut W, asked: &AskedQuestion<'_>, answer: &SearchAnswer) -> io::Result<u8>
     ensures { IfOk result (λ status. status ≡ status_of answer.now) }
 {
     let surprises = asked.question.surprises;
@@ -182,7 +182,7 @@ fn tell_answer<W: Write>(writer: &mut W, asked: &Asked<'_>, answer: &SearchAnswe
 /// began behind, if it is one, what was gone through, and where no order was left out which
 /// instructions none came to. Answers the exit status: 0 where the goal comes behind no order that
 /// was asked for, 1 where it comes behind one, 2 where that can't be told.
-pub(crate) fn tell<W: Write>(writer: &mut W, asked: &Asked<'_>, outcome: &SearchOutcome) -> io::Result<u8>
+pub(crate) fn tell<W: Write>(writer: &mut W, asked: &AskedQuestion<'_>, outcome: &SearchOutcome) -> io::Result<u8>
     ensures status { IfOk result (λ status. status ≡ status_of outcome.now.answer) }
     ensures within { IfOk result (λ status. status ≤ 2) }
 {

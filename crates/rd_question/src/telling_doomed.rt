@@ -3,14 +3,14 @@
 ghost use Rattle.std.specs.Prelude.{◌≤◌, IfOk};
 
 use crate::telling::{
-    Asked, FOUND, NONE, UNTOLD, tell_counts, tell_lines, tell_missed, tell_order, told,
+    AskedQuestion, FOUND, NONE, UNTOLD, tell_counts, tell_lines, tell_missed, tell_order, told,
 };
 use rd_doomed::verdict::{Doomed, Verdict};
 use std::io;
 use std::io::Write;
 
 // The verdict by itself. The exit status it has.
-fn tell_verdict<W: Write>(writer: &mut W, asked: &Asked<'_>, verdict: &Verdict) -> io::Result<u8>
+fn tell_verdict<W: Write>(writer: &mut W, asked: &AskedQuestion<'_>, verdict: &Verdict) -> io::Result<u8>
     ensures { IfOk result (λ status. status ≤ 2) }
 {
     match verdict {
@@ -40,7 +40,7 @@ fn tell_verdict<W: Write>(writer: &mut W, asked: &Asked<'_>, verdict: &Verdict) 
 /// where it can, 2 where that can't be told.
 pub(crate) fn tell_doomed<W: Write>(
     writer: &mut W,
-    asked: &Asked<'_>,
+    asked: &AskedQuestion<'_>,
     doomed: &Doomed,
 ) -> io::Result<u8>
     ensures { IfOk result (λ status. status ≤ 2) }

@@ -2,7 +2,7 @@
 
 ghost use Rattle.std.specs.Prelude.{◌≤◌, IfOk};
 
-use crate::telling::{Asked, FOUND, NONE, UNTOLD, tell_counts, tell_lines, tell_order, told};
+use crate::telling::{AskedQuestion, FOUND, NONE, UNTOLD, tell_counts, tell_lines, tell_order, told};
 use rd_lost::outcome::{Lost, LostOutcome, Untold, Way};
 use std::io;
 use std::io::Write;
@@ -11,7 +11,7 @@ use std::io::Write;
 // way back from there, and the order.
 fn tell_way<W: Write>(
     writer: &mut W,
-    asked: &Asked<'_>,
+    asked: &AskedQuestion<'_>,
     moves: usize,
     place: usize,
     order: &[u8],
@@ -53,7 +53,7 @@ fn tell_why<W: Write>(writer: &mut W, place: usize, untold: Untold) -> io::Resul
 // Where it was lost, by itself. The exit status that says so.
 fn tell_place<W: Write>(
     writer: &mut W,
-    asked: &Asked<'_>,
+    asked: &AskedQuestion<'_>,
     first: usize,
     moves: usize,
     lost: &Lost,
@@ -103,7 +103,7 @@ fn tell_place<W: Write>(
 /// status: 0 where it is lost, 1 where it can still come, 2 where that can't be told.
 pub(crate) fn tell_lost<W: Write>(
     writer: &mut W,
-    asked: &Asked<'_>,
+    asked: &AskedQuestion<'_>,
     first: usize,
     moves: usize,
     outcome: &LostOutcome,
