@@ -9,7 +9,7 @@ ghost use Rattle.rd_reach.specs.Places.{choices_of};
 ghost use Rattle.rd_state.specs.Settled.{IsSettled};
 ghost use Rattle.rd_state.specs.Valid.{IsValid};
 
-use crate::fault::Fault;
+use crate::fault::ReachFault;
 use crate::options::Question;
 use crate::planning::schedule_of;
 use crate::progress::Progress;
@@ -41,18 +41,18 @@ use std::rt::Files;
 const MEBIBYTE: usize = 1_048_576;
 
 /// The application of the file at the path. `File` where there is none.
-pub(crate) fn application<H: Files + AllocGlobal>(handle: &H, path: &str) -> Result<App, Fault> {
+pub(crate) fn application<H: Files + AllocGlobal>(handle: &H, path: &str) -> Result<App, ReachFault> {
     match load(handle, Some(path)) {
         Ok(app) => Ok(app),
         Err(fault) => {
             let path = String::from_str(handle.alloc(), path)?;
-            Err(Fault::File { path, fault })
+            Err(ReachFault::File { path, fault })
         }
     }
 }
 
 // The goal of these words.
-fn goal_of(alloc: Global, app: &App, words: &[&[u8]]) -> Result<Goal, Fault>
+fn goal_of(alloc: Global, app: &App, words: &[&[u8]]) -> Result<Goal, ReachFault>
     ensures { IfOk result (IsGoalOf app.now.runs) }
 {
     match read_goal(alloc, app, words) {
@@ -72,9 +72,9 @@ fn room_of(question: &Question<'_>) -> SearchRoom
 }
 
 // Refuses bounds that would leave orders out of what is said of all.
-fn refuse_bounds(question: &Question<'_>) -> Result<(), Fault> {
+fn refuse_bounds(question: &Question<'_>) -> Result<(), ReachFault> {
     if question.moves.is_some() || question.surprises.is_some() || question.part.is_some() {
-        return Err(Fault::Bounded);
+        return Err(ReachFault::Bounded);
     }
     Ok(())
 }
@@ -113,7 +113,7 @@ fn reach<W: Write, E: Write>(
     schedule: &Schedule,
     writer: &mut W,
     errors: &mut E,
-) -> Result<u8, Fault>
+) -> Result<u8, ReachFault>
     requires question { IsQuestion asked.now.question.now }
     requires goal { IsGoalOf asked.now.app.now.runs goal.now }
     requires isrs { AreIsrsOf asked.now.app.now.runs schedule.now }
@@ -142,7 +142,7 @@ fn lose<W: Write, E: Write>(
     schedule: &Schedule,
     writer: &mut W,
     errors: &mut E,
-) -> Result<u8, Fault>
+) -> Result<u8, ReachFault>
     requires question { IsQuestion asked.now.question.now }
     requires goal { IsGoalOf asked.now.app.now.runs goal.now }
     requires isrs { AreIsrsOf asked.now.app.now.runs schedule.now }
@@ -175,7 +175,7 @@ fn doom<W: Write, E: Write>(
     schedule: &Schedule,
     writer: &mut W,
     errors: &mut E,
-) -> Result<u8, Fault>
+) -> Result<u8, ReachFault>
     requires question { IsQuestion asked.now.question.now }
     requires goal { IsGoalOf asked.now.app.now.runs goal.now }
     requires isrs { AreIsrsOf asked.now.app.now.runs schedule.now }
@@ -212,7 +212,7 @@ pub(crate) fn respond<W: Write, E: Write>(
     words: &[&[u8]],
     writer: &mut W,
     errors: &mut E,
-) -> Result<u8, Fault>
+) -> Result<u8, ReachFault>
     requires { IsQuestion asked.now.question.now }
     ensures { IfOk result (λ status. status ≤ 2) }
 {
@@ -235,7 +235,7 @@ pub(crate) fn ask<H: Files + AllocGlobal, W: Write, E: Write>(
     question: &Question<'_>,
     writer: &mut W,
     errors: &mut E,
-) -> Result<u8, Fault>
+) -> Result<u8, ReachFault>
     requires { IsQuestion question.now }
     ensures { IfOk result (λ status. status ≤ 2) }
 {

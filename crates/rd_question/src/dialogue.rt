@@ -6,7 +6,7 @@ ghost use Rattle.rd_question.specs.Said.{IsLineWithinLimits};
 
 use crate::engine::Engine;
 use crate::engine_line::{EngineLine, line_of};
-use crate::fault::Fault;
+use crate::fault::ReachFault;
 use crate::input::{Heard, Input};
 use crate::options::Question;
 use std::alloc::AllocGlobal;
@@ -40,7 +40,7 @@ fn obey<H: Files + AllocGlobal, W: Write, E: Write>(
     line: EngineLine<'_>,
     writer: &mut W,
     errors: &mut E,
-) -> Result<(), Fault>
+) -> Result<(), ReachFault>
     requires { IsLineWithinLimits line }
 {
     let alloc = handle.alloc();
@@ -57,7 +57,7 @@ fn obey<H: Files + AllocGlobal, W: Write, E: Write>(
 }
 
 // What the line says that was heard last.
-fn line_heard<'a, R: Read>(input: &'a Input<'_, R>) -> Result<EngineLine<'a>, Fault>
+fn line_heard<'a, R: Read>(input: &'a Input<'_, R>) -> Result<EngineLine<'a>, ReachFault>
     ensures { IfOk result IsLineWithinLimits }
 {
     match input.text() {
@@ -71,10 +71,10 @@ fn line_heard<'a, R: Read>(input: &'a Input<'_, R>) -> Result<EngineLine<'a>, Fa
 fn reply<H: Files + AllocGlobal, W: Write, E: Write>(
     handle: &H,
     engine: &mut Engine<'_>,
-    said: Result<EngineLine<'_>, Fault>,
+    said: Result<EngineLine<'_>, ReachFault>,
     writer: &mut W,
     errors: &mut E,
-) -> Result<(), Fault>
+) -> Result<(), ReachFault>
     requires { IfOk said IsLineWithinLimits }
 {
     let done = match said {
@@ -83,7 +83,7 @@ fn reply<H: Files + AllocGlobal, W: Write, E: Write>(
     };
     match done {
         Ok(()) => {}
-        Err(Fault::Unwritten) => return Err(Fault::Unwritten),
+        Err(ReachFault::Unwritten) => return Err(ReachFault::Unwritten),
         Err(fault) => writeln!(writer, "no: {fault}")?,
     }
     writeln!(writer)?;
@@ -91,13 +91,13 @@ fn reply<H: Files + AllocGlobal, W: Write, E: Write>(
 }
 
 // What was heard, as a line, or why it is none. (Behind the end there is nothing to do.)
-fn said_by<'a, R: Read>(input: &'a Input<'_, R>, heard: Heard) -> Result<EngineLine<'a>, Fault>
+fn said_by<'a, R: Read>(input: &'a Input<'_, R>, heard: Heard) -> Result<EngineLine<'a>, ReachFault>
     ensures { IfOk result IsLineWithinLimits }
 {
     match heard {
         Heard::Line => line_heard(input),
-        Heard::TooLong => Err(Fault::LongLine),
-        Heard::NoMemory => Err(Fault::NoMemory),
+        Heard::TooLong => Err(ReachFault::LongLine),
+        Heard::NoMemory => Err(ReachFault::NoMemory),
         Heard::End => Ok(EngineLine::Quit),
     }
 }
@@ -110,7 +110,7 @@ fn reply_next<H: Files + AllocGlobal, R: Read, W: Write, E: Write>(
     input: &mut Input<'_, R>,
     writer: &mut W,
     errors: &mut E,
-) -> Result<bool, Fault> {
+) -> Result<bool, ReachFault> {
     let heard = input.hear()?;
     if matches!(heard, Heard::End) {
         return Ok(false);
@@ -128,7 +128,7 @@ fn reply_all<H: Files + AllocGlobal, R: Read, W: Write, E: Write>(
     input: &mut Input<'_, R>,
     writer: &mut W,
     errors: &mut E,
-) -> Result<(), Fault> {
+) -> Result<(), ReachFault> {
     for _line in 0..u64::MAX {
         let goes_on = reply_next(handle, engine, input, writer, errors)?;
         if !goes_on {
@@ -150,13 +150,13 @@ pub(crate) fn answer_lines<H: Files + AllocGlobal, R: Read, W: Write, E: Write>(
     reader: &mut R,
     writer: &mut W,
     errors: &mut E,
-) -> Result<(), Fault>
+) -> Result<(), ReachFault>
     requires { IsQuestion question }
 {
     let mut engine = Engine::new(handle, question)?;
     let mut input = Input::new(handle.alloc(), reader)?;
     let Ok(mut writer) = BufWriter::new(handle.alloc(), writer) else {
-        return Err(Fault::NoMemory);
+        return Err(ReachFault::NoMemory);
     };
     reply_all(handle, &mut engine, &mut input, &mut writer, errors)
 }

@@ -6,7 +6,7 @@ ghost use Rattle.rd_question.specs.Said.{BeginsElsewhere, HasOneMore, IsSet, IsW
 
 use crate::asking::{application, respond};
 use crate::engine_line::EngineSetting;
-use crate::fault::Fault;
+use crate::fault::ReachFault;
 use crate::handler::{Said, handler_of};
 use crate::options::Question;
 use crate::planning::schedule_of;
@@ -56,7 +56,7 @@ fn lines_from<H: Files + AllocGlobal>(
     handle: &H,
     app: &App,
     path: Option<&str>,
-) -> Result<String, Fault> {
+) -> Result<String, ReachFault> {
     let lines = ended(lines_of(handle, path)?)?;
     let _start = start_of(handle.alloc(), app, path, lines.as_str())?;
     Ok(lines)
@@ -69,7 +69,7 @@ impl<'a> Engine<'a> {
     pub(crate) fn new<H: Files + AllocGlobal>(
         handle: &H,
         question: Question<'a>,
-    ) -> Result<Engine<'a>, Fault>
+    ) -> Result<Engine<'a>, ReachFault>
         requires { IsQuestion question }
     {
         let app = application(handle, question.file)?;
@@ -96,7 +96,7 @@ impl<'a> Engine<'a> {
         &mut self,
         handle: &H,
         path: &str,
-    ) -> Result<(), Fault>
+    ) -> Result<(), ReachFault>
         ensures begins { OnOk result (BeginsElsewhere self.old self.new) }
         ensures kept { OnErr result (self.new ≡ self.old) }
     {
@@ -107,7 +107,7 @@ impl<'a> Engine<'a> {
     /// From now on searches begin behind one command line more, which comes last. `Command` where it
     /// is no command or is refused there, `NoMemory` where there is none for it; nothing has changed
     /// then.
-    pub(crate) fn add_command(&mut self, alloc: Global, command: &str) -> Result<(), Fault>
+    pub(crate) fn add_command(&mut self, alloc: Global, command: &str) -> Result<(), ReachFault>
         ensures added { OnOk result (self.new
             ≡ record self.old { lines = self.old.lines ++ (command.now ++ 10 ∷ []) }) }
         ensures kept { OnErr result (self.new ≡ self.old) }
@@ -119,7 +119,7 @@ impl<'a> Engine<'a> {
     }
 
     // One interrupt more may come.
-    fn add_isr(&mut self, alloc: Global, said: Said<'_>) -> Result<(), Fault>
+    fn add_isr(&mut self, alloc: Global, said: Said<'_>) -> Result<(), ReachFault>
         ensures added { OnOk result (HasOneMore self.old self.new) }
         ensures kept { OnErr result (self.new ≡ self.old) }
     {
@@ -129,14 +129,14 @@ impl<'a> Engine<'a> {
             Ok(_schedule) => Ok(()),
             Err(fault) => {
                 self.question.isrs.pop();
-                Err(Fault::from(fault))
+                Err(ReachFault::from(fault))
             }
         }
     }
 
     /// Makes a setting. `Isr` where an interrupt is none that may come, and `NoMemory` where there is
     /// none for it; nothing has changed then.
-    pub(crate) fn set(&mut self, alloc: Global, setting: EngineSetting<'_>) -> Result<(), Fault>
+    pub(crate) fn set(&mut self, alloc: Global, setting: EngineSetting<'_>) -> Result<(), ReachFault>
         requires { IsWithinLimits setting }
         ensures made { OnOk result (IsSet setting.entry self.old self.new) }
         ensures kept { OnErr result (self.new ≡ self.old) }
@@ -183,7 +183,7 @@ impl<'a> Engine<'a> {
         goal: &str,
         writer: &mut W,
         errors: &mut E,
-    ) -> Result<(), Fault> {
+    ) -> Result<(), ReachFault> {
         let words = words_of(alloc, goal.as_bytes())?;
         let asked = AskedQuestion {
             app: &self.app,

@@ -8,7 +8,7 @@ ghost use Rattle.rd_question.specs.Said.{IsSaid, IsSetting, IsSwitchSaid, IsWith
 ghost use Rattle.rd_question.specs.Said.{number_within};
 
 use crate::engine_isr::said_of;
-use crate::fault::Fault;
+use crate::fault::ReachFault;
 use crate::handler::Said;
 use crate::options::{MAX_MEMORY, MAX_MOVES, MAX_STATES};
 use crate::pace::{NO_PACE, Pace, pace_of};
@@ -66,13 +66,13 @@ fn number_within(
     option: &'static str,
     least: usize,
     most: usize,
-) -> Result<usize, Fault>
+) -> Result<usize, ReachFault>
     ensures exact { result_ok result ≡ number_within least most word.now }
     ensures within { IfOk result (λ number. number ≤ most) }
 {
     match number(word.as_bytes()) {
         Some(number) if least <= number as usize && number as usize <= most => Ok(number as usize),
-        Some(_) | None => Err(Fault::Number {
+        Some(_) | None => Err(ReachFault::Number {
             option,
             least,
             most,
@@ -81,7 +81,7 @@ fn number_within(
 }
 
 // The pace that is said, or none.
-fn pace_within(word: &str) -> Result<Pace, Fault>
+fn pace_within(word: &str) -> Result<Pace, ReachFault>
     ensures { IfOk result (IsPaceSaid word.now) }
 {
     if word == "none" {
@@ -91,7 +91,7 @@ fn pace_within(word: &str) -> Result<Pace, Fault>
 }
 
 // How many surprises are said, or that they aren't counted.
-fn surprises_within(word: &str) -> Result<Option<u8>, Fault>
+fn surprises_within(word: &str) -> Result<Option<u8>, ReachFault>
     ensures { IfOk result (IsLimitSaid MAX_SURPRISES word.now) }
 {
     if word == "none" {
@@ -102,7 +102,7 @@ fn surprises_within(word: &str) -> Result<Option<u8>, Fault>
 }
 
 // How many choices are said, or that there may be any number of them.
-fn moves_within(word: &str) -> Result<Option<u32>, Fault>
+fn moves_within(word: &str) -> Result<Option<u32>, ReachFault>
     ensures said { IfOk result (IsLimitSaid MAX_MOVES word.now) }
     ensures limit { IfOk result (λ most. IfSome most (λ number. number ≤ MAX_MOVES)) }
 {
@@ -114,18 +114,18 @@ fn moves_within(word: &str) -> Result<Option<u32>, Fault>
 }
 
 // Whether it is said to be on.
-fn switch_of(word: &str) -> Result<bool, Fault>
+fn switch_of(word: &str) -> Result<bool, ReachFault>
     ensures { IfOk result (IsSwitchSaid word.now) }
 {
     match word {
         "on" => Ok(true),
         "off" => Ok(false),
-        _ => Err(Fault::Switch),
+        _ => Err(ReachFault::Switch),
     }
 }
 
 // The interrupt that is said, or none.
-fn isr_within(words: &str) -> Result<EngineSetting<'_>, Fault>
+fn isr_within(words: &str) -> Result<EngineSetting<'_>, ReachFault>
     ensures said { IfOk result (IsSetting (codes "isr") words.entry.now) }
     ensures limits { IfOk result IsWithinLimits }
 {
@@ -138,7 +138,7 @@ fn isr_within(words: &str) -> Result<EngineSetting<'_>, Fault>
 
 // The setting that a line says by its keyword and what stands behind it. `NoLine` where it says
 // none.
-fn setting_of<'a>(keyword: &str, operand: &'a str) -> Result<EngineSetting<'a>, Fault>
+fn setting_of<'a>(keyword: &str, operand: &'a str) -> Result<EngineSetting<'a>, ReachFault>
     ensures said { IfOk result (IsSetting keyword.now operand.entry.now) }
     ensures limits { IfOk result IsWithinLimits }
 {
@@ -168,7 +168,7 @@ fn setting_of<'a>(keyword: &str, operand: &'a str) -> Result<EngineSetting<'a>, 
             Ok(EngineSetting::Exact { exact })
         }
         "isr" => isr_within(operand),
-        _ => Err(Fault::NoLine),
+        _ => Err(ReachFault::NoLine),
     }
 }
 
@@ -197,7 +197,7 @@ fn start_in(path: &str) -> EngineLine<'_>
 }
 
 // What a line says by its keyword and what stands behind it. `NoLine` where it says nothing.
-fn line_in<'a>(keyword: &str, operand: &'a str) -> Result<EngineLine<'a>, Fault>
+fn line_in<'a>(keyword: &str, operand: &'a str) -> Result<EngineLine<'a>, ReachFault>
     ensures said { IfOk result (IsLine keyword.now operand.entry.now) }
     ensures limits { IfOk result IsLineWithinLimits }
 {
@@ -233,7 +233,7 @@ fn line_in<'a>(keyword: &str, operand: &'a str) -> Result<EngineLine<'a>, Fault>
 /// `Switch` where it says neither on nor off, `Isr` where an option of an interrupt is said twice.
 /// Whether its goal, its command line or its calls are some, and what its path leads to, isn't asked
 /// here.
-pub fn line_of(text: &str) -> Result<EngineLine<'_>, Fault>
+pub fn line_of(text: &str) -> Result<EngineLine<'_>, ReachFault>
     ensures said { IfOk result (IsSaid text.entry.now) }
     ensures limits { IfOk result IsLineWithinLimits }
 {

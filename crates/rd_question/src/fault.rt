@@ -12,7 +12,7 @@ use thiserror::Error;
 
 /// Why there is no answer.
 #[derive(Debug, Drop, Error)]
-pub enum Fault {
+pub enum ReachFault {
     /// The words are no command line; the text says what is wrong.
     #[error("{text}")]
     Words {
@@ -97,57 +97,57 @@ pub enum Fault {
     Unwritten,
 }
 
-impl From<AllocError> for Fault {
-    fn from(_error: AllocError) -> Fault {
-        Fault::NoMemory
+impl From<AllocError> for ReachFault {
+    fn from(_error: AllocError) -> ReachFault {
+        ReachFault::NoMemory
     }
 }
 
-impl<T: Drop> From<AllocFailed<T>> for Fault {
-    fn from(_failed: AllocFailed<T>) -> Fault {
-        Fault::NoMemory
+impl<T: Drop> From<AllocFailed<T>> for ReachFault {
+    fn from(_failed: AllocFailed<T>) -> ReachFault {
+        ReachFault::NoMemory
     }
 }
 
-impl From<no_memory::NoMemory> for Fault {
-    fn from(_error: no_memory::NoMemory) -> Fault {
-        Fault::NoMemory
+impl From<no_memory::NoMemory> for ReachFault {
+    fn from(_error: no_memory::NoMemory) -> ReachFault {
+        ReachFault::NoMemory
     }
 }
 
-impl From<NoPace> for Fault {
-    fn from(fault: NoPace) -> Fault {
-        Fault::Pace { fault }
+impl From<NoPace> for ReachFault {
+    fn from(fault: NoPace) -> ReachFault {
+        ReachFault::Pace { fault }
     }
 }
 
-impl From<NoPart> for Fault {
-    fn from(fault: NoPart) -> Fault {
-        Fault::Part { fault }
+impl From<NoPart> for ReachFault {
+    fn from(fault: NoPart) -> ReachFault {
+        ReachFault::Part { fault }
     }
 }
 
-impl From<NoHandler> for Fault {
-    fn from(fault: NoHandler) -> Fault {
+impl From<NoHandler> for ReachFault {
+    fn from(fault: NoHandler) -> ReachFault {
         match fault {
-            NoHandler::NoMemory => Fault::NoMemory,
-            fault => Fault::Isr { fault },
+            NoHandler::NoMemory => ReachFault::NoMemory,
+            fault => ReachFault::Isr { fault },
         }
     }
 }
 
-impl From<NoOrigin> for Fault {
-    fn from(cause: NoOrigin) -> Fault {
+impl From<NoOrigin> for ReachFault {
+    fn from(cause: NoOrigin) -> ReachFault {
         match cause {
-            NoOrigin::NoMemory => Fault::NoMemory,
-            NoOrigin::BadLine { .. } | NoOrigin::Refused { .. } => Fault::Command { cause },
+            NoOrigin::NoMemory => ReachFault::NoMemory,
+            NoOrigin::BadLine { .. } | NoOrigin::Refused { .. } => ReachFault::Command { cause },
         }
     }
 }
 
 // What was met where the answer is written.
-impl From<io::Error> for Fault {
-    fn from(_error: io::Error) -> Fault {
-        Fault::Unwritten
+impl From<io::Error> for ReachFault {
+    fn from(_error: io::Error) -> ReachFault {
+        ReachFault::Unwritten
     }
 }

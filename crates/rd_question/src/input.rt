@@ -1,6 +1,6 @@
 //! The lines of an input, of which none is kept but the last.
 
-use crate::fault::Fault;
+use crate::fault::ReachFault;
 use std::alloc::Global;
 use std::io::{BufRead, BufReader, ErrorKind, Read};
 use std::{io, str};
@@ -53,14 +53,14 @@ fn heard_in(line: &mut Vec<u8>) -> Heard {
 
 impl<'a, R: Read> Input<'a, R> {
     /// Nothing was heard yet. `NoMemory` where there is none to hear anything.
-    pub(crate) fn new(alloc: Global, reader: &'a mut R) -> Result<Input<'a, R>, Fault> {
+    pub(crate) fn new(alloc: Global, reader: &'a mut R) -> Result<Input<'a, R>, ReachFault> {
         match BufReader::new(alloc, reader) {
             Ok(reader) => Ok(Input {
                 reader,
                 line: Vec::new(alloc),
                 is_amid: false,
             }),
-            Err(_) => Err(Fault::NoMemory),
+            Err(_) => Err(ReachFault::NoMemory),
         }
     }
 
@@ -74,15 +74,15 @@ impl<'a, R: Read> Input<'a, R> {
     }
 
     /// Hears the next line. The last one needs no LF. `Unread` where the input can't be read.
-    pub(crate) fn hear(&mut self) -> Result<Heard, Fault> {
+    pub(crate) fn hear(&mut self) -> Result<Heard, ReachFault> {
         if self.pass_rest().is_err() {
-            return Err(Fault::Unread);
+            return Err(ReachFault::Unread);
         }
         self.line.clear();
         let heard = match read_line(&mut self.reader, &mut self.line) {
             Ok(_) => heard_in(&mut self.line),
             Err(error) if error.kind() == ErrorKind::OutOfMemory => Heard::NoMemory,
-            Err(_) => return Err(Fault::Unread),
+            Err(_) => return Err(ReachFault::Unread),
         };
         self.is_amid = match heard {
             Heard::TooLong | Heard::NoMemory => true,
@@ -92,10 +92,10 @@ impl<'a, R: Read> Input<'a, R> {
     }
 
     /// The line that was heard last. `NoLineText` where it is no text.
-    pub(crate) fn text(&self) -> Result<&str, Fault> {
+    pub(crate) fn text(&self) -> Result<&str, ReachFault> {
         match str::from_utf8(self.line.as_slice()) {
             Ok(text) => Ok(text),
-            Err(_) => Err(Fault::NoLineText),
+            Err(_) => Err(ReachFault::NoLineText),
         }
     }
 }

@@ -28,7 +28,7 @@ mod wanted;
 
 use crate::asking::ask;
 use crate::dialogue::answer_lines;
-use crate::fault::Fault;
+use crate::fault::ReachFault;
 use crate::options::{ReachRequest, options};
 use std::alloc::AllocGlobal;
 use std::io;
@@ -63,15 +63,15 @@ pub fn refuse_words<E: Write>(errors: &mut E, error: &io::Error) -> u8
     ensures { result ≡ 2 }
 {
     if error.kind() == ErrorKind::InvalidData {
-        report(errors, &Fault::NoText)
+        report(errors, &ReachFault::NoText)
     } else {
-        report(errors, &Fault::NoMemory)
+        report(errors, &ReachFault::NoMemory)
     }
 }
 
 // Says what is wrong, and answers the exit status. There is nobody left to be told that the saying
 // failed.
-fn report<E: Write>(errors: &mut E, fault: &Fault) -> u8
+fn report<E: Write>(errors: &mut E, fault: &ReachFault) -> u8
     ensures { result ≡ 2 }
 {
     let _ = writeln!(errors, "rdreach: {fault}");
@@ -85,7 +85,7 @@ fn run<H: Files + AllocGlobal, R: Read, W: Write, E: Write>(
     reader: &mut R,
     writer: &mut W,
     errors: &mut E,
-) -> Result<u8, Fault>
+) -> Result<u8, ReachFault>
     ensures { IfOk result (λ status. status ≤ 2) }
 {
     match options(handle.alloc(), words)? {

@@ -3,7 +3,7 @@
 ghost use Rattle.std.specs.Prelude.{◌≡◌, ◌≤◌, IfOk, IfSome};
 ghost use Rattle.rd_question.specs.Questions.{IsQuestion, IsRequest, manner_of};
 
-use crate::fault::Fault;
+use crate::fault::ReachFault;
 use crate::handler::Handler;
 use crate::isr_options::{after_arg, apart_arg, handlers_in, isr_arg, times_arg};
 use crate::pace::{NO_PACE, Pace, pace_of};
@@ -252,7 +252,7 @@ fn number_of<'a>(matches: &ArgMatches<'a>, id: &str, most: usize) -> usize
 }
 
 // The part that is asked for, where one is.
-fn part_in<'a>(matches: &ArgMatches<'a>) -> Result<Option<Part>, Fault> {
+fn part_in<'a>(matches: &ArgMatches<'a>) -> Result<Option<Part>, ReachFault> {
     match matches.get_str("part") {
         Some(word) => Ok(Some(part_of(word)?)),
         None => Ok(None),
@@ -271,7 +271,7 @@ fn query_in<'a>(matches: &ArgMatches<'a>) -> Query {
 }
 
 // The pace that is asked for, where one is.
-fn pace_in<'a>(matches: &ArgMatches<'a>) -> Result<Pace, Fault> {
+fn pace_in<'a>(matches: &ArgMatches<'a>) -> Result<Pace, ReachFault> {
     match matches.get_str("pace") {
         Some(word) => Ok(pace_of(word)?),
         None => Ok(NO_PACE),
@@ -279,7 +279,7 @@ fn pace_in<'a>(matches: &ArgMatches<'a>) -> Result<Pace, Fault> {
 }
 
 // What was asked for by the words that were found.
-fn question_of<'a>(alloc: Global, matches: &ArgMatches<'a>) -> Result<Question<'a>, Fault>
+fn question_of<'a>(alloc: Global, matches: &ArgMatches<'a>) -> Result<Question<'a>, ReachFault>
     ensures { IfOk result IsQuestion }
 {
     Ok(Question {
@@ -311,14 +311,14 @@ fn request_of<'a>(matches: &ArgMatches<'a>, question: Question<'a>) -> ReachRequ
 }
 
 // What becomes of words that are no question: help is one of clap's errors.
-fn without_question<'a>(alloc: Global, error: &clap::Error) -> Result<ReachRequest<'a>, Fault>
+fn without_question<'a>(alloc: Global, error: &clap::Error) -> Result<ReachRequest<'a>, ReachFault>
     ensures { IfOk result IsRequest }
 {
     let text = format!(in alloc; "{error}")?;
     match error.kind() {
         ErrorKind::DisplayHelp => Ok(ReachRequest::Help { text }),
-        ErrorKind::OutOfMemory => Err(Fault::NoMemory),
-        _ => Err(Fault::Words { text }),
+        ErrorKind::OutOfMemory => Err(ReachFault::NoMemory),
+        _ => Err(ReachFault::Words { text }),
     }
 }
 
@@ -328,7 +328,7 @@ fn without_question<'a>(alloc: Global, error: &clap::Error) -> Result<ReachReque
 /// [--part K/N] [--exact] [--progress]`, an engine where no goal is said; or help. `Words` where
 /// they are no such line, `Pace` where the pace is none, `Isr` where an interrupt is none, `Part`
 /// where the part is none, `NoMemory` where there is no memory to read them or for the text of help.
-pub fn options<'a>(alloc: Global, words: &'a [String]) -> Result<ReachRequest<'a>, Fault>
+pub fn options<'a>(alloc: Global, words: &'a [String]) -> Result<ReachRequest<'a>, ReachFault>
     ensures { IfOk result IsRequest }
 {
     match command(alloc)?.try_get_matches_from(words) {

@@ -7,7 +7,7 @@ ghost use Rattle.rd_origin.specs.RunView.{IsRunOf};
 ghost use Rattle.rd_state.specs.Settled.{IsSettled};
 ghost use Rattle.rd_state.specs.Valid.{IsValid};
 
-use crate::fault::Fault;
+use crate::fault::ReachFault;
 use rd_names::app::App;
 use rd_origin::cause::NoOrigin;
 use rd_origin::origin::origin;
@@ -22,21 +22,21 @@ use std::{fs, io};
 const MAX_LINES: usize = 16_777_216;
 
 // The refusal of a file that has no command lines.
-fn no_lines(alloc: Global, path: &str) -> Fault {
+fn no_lines(alloc: Global, path: &str) -> ReachFault {
     match String::from_str(alloc, path) {
-        Ok(path) => Fault::Lines { path },
-        Err(_) => Fault::NoMemory,
+        Ok(path) => ReachFault::Lines { path },
+        Err(_) => ReachFault::NoMemory,
     }
 }
 
 // The refusal of command lines that lead to no start.
-fn no_start(alloc: Global, path: &str, cause: NoOrigin) -> Fault {
+fn no_start(alloc: Global, path: &str, cause: NoOrigin) -> ReachFault {
     if cause == NoOrigin::NoMemory {
-        return Fault::NoMemory;
+        return ReachFault::NoMemory;
     }
     match String::from_str(alloc, path) {
-        Ok(path) => Fault::Start { path, cause },
-        Err(_) => Fault::NoMemory,
+        Ok(path) => ReachFault::Start { path, cause },
+        Err(_) => ReachFault::NoMemory,
     }
 }
 
@@ -45,7 +45,7 @@ fn text_of_opened<R: Read + Drop>(
     alloc: Global,
     path: &str,
     opened: io::Result<R>,
-) -> Result<String, Fault> {
+) -> Result<String, ReachFault> {
     let Ok(reader) = opened else {
         return Err(no_lines(alloc, path));
     };
@@ -53,7 +53,7 @@ fn text_of_opened<R: Read + Drop>(
     // (one byte more shows that there are too many)
     if let Err(error) = reader.take(MAX_LINES as u64 + 1).read_to_end(&mut bytes) {
         return Err(match error.kind() {
-            ErrorKind::OutOfMemory => Fault::NoMemory,
+            ErrorKind::OutOfMemory => ReachFault::NoMemory,
             _ => no_lines(alloc, path),
         });
     }
@@ -72,7 +72,7 @@ fn text_of_opened<R: Read + Drop>(
 pub(crate) fn lines_of<H: Files + AllocGlobal>(
     handle: &H,
     path: Option<&str>,
-) -> Result<String, Fault> {
+) -> Result<String, ReachFault> {
     match path {
         Some(path) => text_of_opened(handle.alloc(), path, fs::open(handle, path)),
         None => Ok(String::new(handle.alloc())),
@@ -86,7 +86,7 @@ pub(crate) fn start_of(
     app: &App,
     path: Option<&str>,
     lines: &str,
-) -> Result<State, Fault>
+) -> Result<State, ReachFault>
     ensures origin { IfOk result (IsOrigin app.now lines.now) }
     ensures valid { IfOk result (IsValid app.now.runs) }
     ensures settled { IfOk result (IsSettled (priorities_of app.now.runs)) }
@@ -104,7 +104,7 @@ pub(crate) fn run_of(
     app: &App,
     path: Option<&str>,
     lines: &str,
-) -> Result<Run, Fault>
+) -> Result<Run, ReachFault>
     ensures { IfOk result (IsRunOf app.now lines.now) }
 {
     match Run::of(alloc, app, lines) {

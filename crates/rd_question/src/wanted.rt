@@ -1,6 +1,6 @@
 //! Why words are no goal, told to a person.
 
-use crate::fault::Fault;
+use crate::fault::ReachFault;
 use rd_goal::reading::{NoGoal, Wanted};
 use std::alloc::{AllocError, Global};
 
@@ -53,9 +53,9 @@ fn text_of(alloc: Global, words: &[&[u8]], error: &NoGoal) -> Result<String, All
 }
 
 /// The refusal of words that are no goal.
-pub(crate) fn refused_goal(alloc: Global, words: &[&[u8]], error: &NoGoal) -> Fault {
+pub(crate) fn refused_goal(alloc: Global, words: &[&[u8]], error: &NoGoal) -> ReachFault {
     match text_of(alloc, words, error) {
-        Ok(text) => Fault::Goal { text },
-        Err(_) => Fault::NoMemory,
+        Ok(text) => ReachFault::Goal { text },
+        Err(_) => ReachFault::NoMemory,
     }
 }
