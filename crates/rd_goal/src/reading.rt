@@ -88,7 +88,7 @@ impl From<NoMemory> for NoGoal {
 
 // What waits for its right operand: an operator, or a parenthesis that is open.
 #[derive(Clone, Copy, Default, PartialEq, Eq)]
-enum Pending {
+enum PendingOperator {
     #[default]
     Open,
     Either,
@@ -103,7 +103,7 @@ struct Draft<'r, 'a> {
     reader: GoalReader<'r, 'a>,
     goal: Goal,
     rows: ArrayVec<usize, MAX_ROWS>,
-    pending: ArrayVec<Pending, MAX_ROWS>,
+    pending: ArrayVec<PendingOperator, MAX_ROWS>,
 }
 
 impl<'r, 'a> Model for Draft<'r, 'a> {
@@ -117,14 +117,14 @@ impl<'r, 'a> Model for Draft<'r, 'a> {
     ghost invariant = { λ d. IsGoalOf d.reader.runs d.goal };
 }
 
-impl Pending {
+impl PendingOperator {
     // How much it binds: whatever binds as much or more is joined before it.
     fn strength(self) -> u8 {
         match self {
-            Pending::Open => 0,
-            Pending::Either => 1,
-            Pending::Both => 2,
-            Pending::Not => 3,
+            PendingOperator::Open => 0,
+            PendingOperator::Either => 1,
+            PendingOperator::Both => 2,
+            PendingOperator::Not => 3,
         }
     }
 }
@@ -155,7 +155,7 @@ impl<'r, 'a> Draft<'r, 'a> {
     }
 
     // Has an operator wait for its right operand, or for its parenthesis to be closed.
-    fn pend(&mut self, operator: Pending) -> Result<(), NoGoal>
+    fn pend(&mut self, operator: PendingOperator) -> Result<(), NoGoal>
         ensures { self.new ≡ self.old }
     {
         self.pending.try_push(operator).map_err(|_| NoGoal::TooLong)
@@ -169,21 +169,21 @@ impl<'r, 'a> Draft<'r, 'a> {
     }
 
     // Joins the last rows by an operator.
-    fn join(&mut self, operator: Pending) -> Result<(), NoGoal>
+    fn join(&mut self, operator: PendingOperator) -> Result<(), NoGoal>
         ensures { self.new ≡ self.old }
     {
         let other = self.operand();
         match operator {
-            Pending::Not => self.add(GoalRow::Not { row: other }),
-            Pending::Both => {
+            PendingOperator::Not => self.add(GoalRow::Not { row: other }),
+            PendingOperator::Both => {
                 let one = self.operand();
                 self.add(GoalRow::Both { one, other })
             }
-            Pending::Either => {
+            PendingOperator::Either => {
                 let one = self.operand();
                 self.add(GoalRow::Either { one, other })
             }
-            Pending::Open => Err(NoGoal::Unclosed),
+            PendingOperator::Open => Err(NoGoal::Unclosed),
         }
     }
 
@@ -207,7 +207,7 @@ impl<'r, 'a> Draft<'r, 'a> {
     fn close(&mut self) -> Result<(), NoGoal>
         ensures { self.new ≡ self.old }
     {
-        self.settle(Pending::Either.strength())?;
+        self.settle(PendingOperator::Either.strength())?;
         match self.pending.pop() {
             Some(_open) => Ok(()),
             None => Err(self.reader.unopened()),
@@ -219,11 +219,11 @@ impl<'r, 'a> Draft<'r, 'a> {
         ensures { self.new ≡ self.old }
     {
         if self.reader.takes(b"not") {
-            self.pend(Pending::Not)?;
+            self.pend(PendingOperator::Not)?;
             return Ok(true);
         }
         if self.reader.takes(b"(") {
-            self.pend(Pending::Open)?;
+            self.pend(PendingOperator::Open)?;
             return Ok(true);
         }
         let claim = claim(&mut self.reader)?;
@@ -237,13 +237,13 @@ impl<'r, 'a> Draft<'r, 'a> {
     {
         match self.reader.next(Wanted::Join)? {
             b"and" => {
-                self.settle(Pending::Both.strength())?;
-                self.pend(Pending::Both)?;
+                self.settle(PendingOperator::Both.strength())?;
+                self.pend(PendingOperator::Both)?;
                 Ok(true)
             }
             b"or" => {
-                self.settle(Pending::Either.strength())?;
-                self.pend(Pending::Either)?;
+                self.settle(PendingOperator::Either.strength())?;
+                self.pend(PendingOperator::Either)?;
                 Ok(true)
             }
             b")" => {
@@ -259,7 +259,7 @@ impl<'r, 'a> Draft<'r, 'a> {
         ensures { IfOk result (IsGoalOf self.entry.runs) }
     {
         let mut draft = self;
-        draft.settle(Pending::Either.strength())?;
+        draft.settle(PendingOperator::Either.strength())?;
         if draft.pending.is_empty() {
             Ok(draft.goal)
         } else {
