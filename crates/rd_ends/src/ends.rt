@@ -18,7 +18,7 @@ pub struct ReadFault;
 pub struct WriteFault;
 
 /// Where bytes come from.
-pub trait Source {
+pub trait ByteSource {
     /// What is known of it: the bytes that reads will give, and what came of those so far.
     ghost seen: { Self → SourceView };
 
@@ -39,7 +39,7 @@ pub trait Source {
 }
 
 /// Where bytes go.
-pub trait Sink {
+pub trait ByteSink {
     /// What is known of it: the bytes that it was given and has taken, and how many writes failed.
     ghost seen: { Self → SinkView };
 

@@ -4,7 +4,7 @@ ghost use Rattle.std.specs.Prelude.{◌≡◌, ◌<◌, ◌≤◌, length, take,
 ghost use Rattle.std.specs.Io.KnownBytes.{Appends, Consumes, IsAtEnd, Keeps};
 ghost use Rattle.rd_ends.specs.Ends.{Says};
 
-use crate::ends::{ReadFault, Sink, Source, WriteFault};
+use crate::ends::{ReadFault, ByteSink, ByteSource, WriteFault};
 use std::io::{ErrorKind, Read, Write};
 
 /// A reader as a source, or a writer as a sink. A call that was interrupted is made again.
@@ -37,7 +37,7 @@ impl<T> Over<T> {
     }
 }
 
-impl<R: Read> Source for Over<R> {
+impl<R: Read> ByteSource for Over<R> {
     ghost seen = { λ over. record {
       remaining = R.remaining over.inner;
       reads = over.reads;
@@ -57,7 +57,7 @@ impl<R: Read> Source for Over<R> {
     }
 }
 
-impl<W: Write> Sink for Over<W> {
+impl<W: Write> ByteSink for Over<W> {
     // (a writer doesn't tell which bytes it was given and hasn't taken)
     ghost seen = { λ over. record {
       contents = W.contents over.inner;

@@ -12,7 +12,7 @@ use crate::failure::Failure;
 use rd_bytes::no_memory::NoMemory;
 use rd_desk::limits::Limits;
 use rd_desk::sessions::MAX_JOINS;
-use rd_ends::ends::{Sink, Source};
+use rd_ends::ends::{ByteSink, ByteSource};
 use rd_ends::over::Over;
 use rd_hall::account::Closed;
 use rd_hall::hall::Hall;
@@ -58,7 +58,7 @@ pub fn debug<H: Wait, R: Read, W: Write>(
 
 // The same, of a hall that is set up for it. (What is set up can be picked only where no type of
 // the call hangs on it.)
-fn begin<L: Setup, H: Wait, S: Source, W: Sink>(
+fn begin<L: Setup, H: Wait, S: ByteSource, W: ByteSink>(
     rt: &H,
     alloc: Global,
     blank: Blank,
@@ -86,7 +86,7 @@ fn begin<L: Setup, H: Wait, S: Source, W: Sink>(
 /// of its answers to what was read were written. Nothing was read of the source yet, and no write
 /// to the sink has failed. `NoMemory` where there is none for the hall or for
 /// the session to join, `Broken` where the history isn't what the session was answered.
-pub fn attend<L: Setup, H: Wait, S: Source, W: Sink>(
+pub fn attend<L: Setup, H: Wait, S: ByteSource, W: ByteSink>(
     rt: &H,
     alloc: Global,
     blank: Blank,

@@ -8,7 +8,7 @@ ghost use Rattle.rd_net.specs.Refused.{refusal_of};
 
 use rd_desk::desk::EnterError;
 use rd_desk::reply::DeskReply;
-use rd_ends::ends::{Sink, WriteFault};
+use rd_ends::ends::{ByteSink, WriteFault};
 use rd_ends::over::Over;
 use rd_refusal::refusal::Refusal;
 use rd_reply::reply::Reply as Short;
@@ -113,7 +113,7 @@ fn refusal_of(error: &EnterError) -> Refusal
 }
 
 // Tells why a session isn't let in.
-fn tell<W: Sink>(sink: &mut W, error: &EnterError) -> Result<(), WriteFault>
+fn tell<W: ByteSink>(sink: &mut W, error: &EnterError) -> Result<(), WriteFault>
     requires { (W.seen sink.old).faults < 2 ^ 63 }
     ensures says { Says (W.seen sink.old).contents (W.seen sink.new).contents result
         (refusal_line (refusal_of error.now)) }

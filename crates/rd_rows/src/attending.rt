@@ -4,7 +4,7 @@ ghost use Rattle.std.specs.Prelude.{◌≡◌};
 ghost use Rattle.rd_ends.specs.Ends.{IsUnread};
 
 use crate::hall::next_pass;
-use rd_ends::ends::{Sink, Source};
+use rd_ends::ends::{ByteSink, ByteSource};
 use rd_hall::hall::Hall;
 use rd_hall::seat::{Gone, Pass};
 use rd_hall::setup::Setup;
@@ -16,7 +16,7 @@ use std::process::Abort;
 use std::sync::Wait;
 
 /// The next session joins, answers its lines, and leaves.
-pub fn attend<L: Setup, H, S: Source, W: Sink, G: Gate>(
+pub fn attend<L: Setup, H, S: ByteSource, W: ByteSink, G: Gate>(
     rt: &H,
     hall: &Hall<L>,
     passes: &mut Vec<Pass<L>>,

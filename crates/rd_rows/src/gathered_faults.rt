@@ -10,7 +10,7 @@ use crate::memory::Source;
 use crate::receipts::all_sessions;
 use rd_desk::limits::Limits;
 use rd_desk::sessions::MAX_JOINS;
-use rd_ends::ends::{Sink, WriteFault};
+use rd_ends::ends::{ByteSink, WriteFault};
 use rd_ends::over::Over;
 use rd_hall::hall::Hall;
 use rd_hall::seat::{Gone, Pass};
@@ -33,7 +33,7 @@ struct Losing<'a> {
     lines_out: &'a AtomicU64,
 }
 
-impl Sink for Losing<'_> {
+impl ByteSink for Losing<'_> {
     ghost use Rattle.std.specs.Prelude.{None};
 
     ghost seen = { λ l. record { contents = None; given = None; faults = l.faults } };

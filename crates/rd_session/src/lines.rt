@@ -7,7 +7,7 @@ ghost use Rattle.std.specs.List.{position_or_len};
 ghost use Rattle.std.specs.Io.KnownBytes.{IsAtEnd, Keeps};
 ghost use Rattle.rd_session.specs.Lines.{AddsRead, is_feed, front_of, without_return};
 
-use rd_ends::ends::{ReadFault, Source};
+use rd_ends::ends::{ReadFault, ByteSource};
 use std::alloc::{AllocError, Global};
 use std::marker::Model;
 
@@ -108,7 +108,7 @@ impl Lines {
     /// Reads once, after the bytes that are there, at most 1,024, and answers how many have come;
     /// none come only at the end of the input. An `Err` is the source's, and leaves the bytes as
     /// they were.
-    pub(crate) fn read_from<S: Source>(&mut self, source: &mut S) -> Result<usize, ReadFault>
+    pub(crate) fn read_from<S: ByteSource>(&mut self, source: &mut S) -> Result<usize, ReadFault>
         requires held { length self.old ≤ 1024 }
         requires counts { CountsReads (S.seen source.old) }
         ensures ok { IfOk result (AddsRead self.old self.new
@@ -150,7 +150,7 @@ fn move_to_front(buffer: &mut [u8], start: usize, end: usize)
 }
 
 // Reads once, after the first `end` bytes, which stay.
-fn read_after<S: Source>(source: &mut S, buffer: &mut [u8], end: usize) -> Result<usize, ReadFault>
+fn read_after<S: ByteSource>(source: &mut S, buffer: &mut [u8], end: usize) -> Result<usize, ReadFault>
     requires end { end < length buffer.old }
     requires counts { CountsReads (S.seen source.old) }
     ensures ok { IfOk result (λ count.

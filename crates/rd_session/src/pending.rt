@@ -6,7 +6,7 @@ ghost use Rattle.std.specs.Io.KnownBytes.{Appends};
 ghost use Rattle.rd_ends.specs.Ends.{Says, faults_after};
 ghost use Rattle.rd_reply.specs.Replies.{line_of, reply_text};
 
-use rd_ends::ends::{Sink, WriteFault};
+use rd_ends::ends::{ByteSink, WriteFault};
 use rd_reply::reply::{MAX_REPLY, Reply as Short, append_reply};
 use std::alloc::{AllocError, Global};
 use std::marker::Model;
@@ -100,7 +100,7 @@ impl Pending {
     }
 
     /// Writes them all.
-    pub(crate) fn send<W: Sink>(&mut self, sink: &mut W) -> Result<(), WriteFault>
+    pub(crate) fn send<W: ByteSink>(&mut self, sink: &mut W) -> Result<(), WriteFault>
         requires { (W.seen sink.old).faults < 2 ^ 63 }
         ensures says { Says (W.seen sink.old).contents (W.seen sink.new).contents
             result self.old.bytes }

@@ -26,7 +26,7 @@ use rd_command::order::Order;
 use rd_command::recent::Recent;
 use rd_command::word::Behind;
 use rd_desk::desk::NotServed;
-use rd_ends::ends::{Sink, Source, WriteFault};
+use rd_ends::ends::{ByteSink, ByteSource, WriteFault};
 use rd_hall::hall::Hall;
 use rd_hall::seat::{Gone, Seat};
 use rd_hall::setup::Setup;
@@ -77,7 +77,7 @@ fn refusal_of(error: &NotServed) -> Refusal
 }
 
 // Writes all answers.
-fn finish<G: Gate, W: Sink>(
+fn finish<G: Gate, W: ByteSink>(
     gate: &mut G,
     who: u32,
     pending: &mut Pending,
@@ -97,7 +97,7 @@ fn finish<G: Gate, W: Sink>(
 }
 
 // Makes room for a reply in a few words: where there is none the answers before it are written.
-fn make_room<G: Gate, W: Sink>(
+fn make_room<G: Gate, W: ByteSink>(
     gate: &mut G,
     who: u32,
     pending: &mut Pending,
@@ -122,7 +122,7 @@ fn make_room<G: Gate, W: Sink>(
 
 // Begins a line: makes room for a reply in a few words, and calls the gate. Where answers before it
 // can't be written, the line isn't begun.
-fn begin<G: Gate, W: Sink>(
+fn begin<G: Gate, W: ByteSink>(
     gate: &mut G,
     who: u32,
     pending: &mut Pending,
@@ -147,7 +147,7 @@ fn begin<G: Gate, W: Sink>(
 }
 
 // Asks the hall, and tells its reply, or why the command wasn't served.
-fn ask<R: Wait, L: Setup, G: Gate, W: Sink>(
+fn ask<R: Wait, L: Setup, G: Gate, W: ByteSink>(
     host: &Host<'_, R, L>,
     gate: &mut G,
     seat: &mut Seat<L>,
@@ -182,7 +182,7 @@ fn ask<R: Wait, L: Setup, G: Gate, W: Sink>(
 // Answers a line that was begun, and isn't among those that were bound lately. (By itself, since
 // room for its words is cleared.)
 #[inline(never)]
-fn answer_anew<R: Wait, L: Setup, G: Gate, W: Sink>(
+fn answer_anew<R: Wait, L: Setup, G: Gate, W: ByteSink>(
     host: &mut Host<'_, R, L>,
     gate: &mut G,
     seat: &mut Seat<L>,
@@ -219,7 +219,7 @@ fn answer_anew<R: Wait, L: Setup, G: Gate, W: Sink>(
 }
 
 // Answers a line that was begun.
-fn answer<R: Wait, L: Setup, G: Gate, W: Sink>(
+fn answer<R: Wait, L: Setup, G: Gate, W: ByteSink>(
     host: &mut Host<'_, R, L>,
     gate: &mut G,
     seat: &mut Seat<L>,
@@ -244,7 +244,7 @@ fn answer<R: Wait, L: Setup, G: Gate, W: Sink>(
 }
 
 // Begins a line, and answers it.
-fn answer_line<R: Wait, L: Setup, G: Gate, W: Sink>(
+fn answer_line<R: Wait, L: Setup, G: Gate, W: ByteSink>(
     host: &mut Host<'_, R, L>,
     gate: &mut G,
     seat: &mut Seat<L>,
@@ -271,7 +271,7 @@ fn answer_line<R: Wait, L: Setup, G: Gate, W: Sink>(
 }
 
 // Answers a line that is too long, and writes all answers.
-fn answer_long<L: Setup, G: Gate, W: Sink>(
+fn answer_long<L: Setup, G: Gate, W: ByteSink>(
     gate: &mut G,
     seat: &Seat<L>,
     pending: &mut Pending,
@@ -296,7 +296,7 @@ fn answer_long<L: Setup, G: Gate, W: Sink>(
 }
 
 // Answers all whole lines that were read, and writes the answers.
-fn answer_lines<R: Wait, L: Setup, G: Gate, W: Sink>(
+fn answer_lines<R: Wait, L: Setup, G: Gate, W: ByteSink>(
     host: &mut Host<'_, R, L>,
     gate: &mut G,
     seat: &mut Seat<L>,
@@ -340,7 +340,7 @@ fn answer_lines<R: Wait, L: Setup, G: Gate, W: Sink>(
 
 // At the end of the input, answers what stands behind the last LF, if there is something, and
 // writes the answer.
-fn answer_rest<R: Wait, L: Setup, G: Gate, W: Sink>(
+fn answer_rest<R: Wait, L: Setup, G: Gate, W: ByteSink>(
     host: &mut Host<'_, R, L>,
     gate: &mut G,
     seat: &mut Seat<L>,
@@ -366,7 +366,7 @@ fn answer_rest<R: Wait, L: Setup, G: Gate, W: Sink>(
 }
 
 // Reads and answers until an end.
-fn listen<R: Wait, L: Setup, G: Gate, S: Source, W: Sink>(
+fn listen<R: Wait, L: Setup, G: Gate, S: ByteSource, W: ByteSink>(
     host: &mut Host<'_, R, L>,
     gate: &mut G,
     source: &mut S,
@@ -413,7 +413,7 @@ fn listen<R: Wait, L: Setup, G: Gate, S: Source, W: Sink>(
 /// Behind a line that is too long, a fault or the end of the input nothing more is read, and behind
 /// a write that has failed no line is asked. The gate is called before each line that is answered,
 /// and after it once its answer is written.
-pub fn session<L: Setup, S: Source, W: Sink, G: Gate>(
+pub fn session<L: Setup, S: ByteSource, W: ByteSink, G: Gate>(
     rt: &impl Wait,
     source: &mut S,
     sink: &mut W,

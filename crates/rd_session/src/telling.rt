@@ -9,7 +9,7 @@ ghost use Rattle.rd_reply.specs.declared.reply.TheConstants.{MAX_REPLY};
 use crate::gate::Gate;
 use crate::pending::Pending;
 use rd_desk::reply::DeskReply;
-use rd_ends::ends::{Sink, WriteFault};
+use rd_ends::ends::{ByteSink, WriteFault};
 
 // Tells the gate of each line up to that number whose answer is out by now.
 fn let_out<G: Gate>(gate: &mut G, who: u32, pending: &mut Pending, upto: u64)
@@ -24,7 +24,7 @@ fn let_out<G: Gate>(gate: &mut G, who: u32, pending: &mut Pending, upto: u64)
 }
 
 /// Writes all answers that were gathered, which are those up to the line of that number.
-pub(crate) fn flush<G: Gate, W: Sink>(
+pub(crate) fn flush<G: Gate, W: ByteSink>(
     gate: &mut G,
     who: u32,
     upto: u64,
@@ -46,7 +46,7 @@ pub(crate) fn flush<G: Gate, W: Sink>(
 }
 
 // Writes a line that has no room beside the answers that were gathered: those first, then it.
-fn write_alone<G: Gate, W: Sink>(
+fn write_alone<G: Gate, W: ByteSink>(
     gate: &mut G,
     who: u32,
     pending: &mut Pending,
@@ -73,7 +73,7 @@ fn write_alone<G: Gate, W: Sink>(
 /// Gathers the line of a reply; there is no line of one to who enters or leaves. A view that has no
 /// room beside the answers before it is written by itself, behind them. There is room for a reply
 /// in a few words.
-pub(crate) fn tell<G: Gate, W: Sink>(
+pub(crate) fn tell<G: Gate, W: ByteSink>(
     gate: &mut G,
     who: u32,
     pending: &mut Pending,

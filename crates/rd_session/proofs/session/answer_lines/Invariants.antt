@@ -7,11 +7,11 @@ use Rattle.rd_session.proofs.session.answer_lines.Given as goal
 abbrev pub invariant-loop-len : goal.invariant-loop-len
 invariant-loop-len g l = record {
   answering : Answering l.fn.lines l.lines
-      (spot l.fn.seat.session (g.W.Sink.seen l.fn.sink) (g.G.Gate.calls l.fn.gate) l.fn.pending)
-      (spot l.seat.session (g.W.Sink.seen l.sink) (g.G.Gate.calls l.gate) l.pending);
+      (spot l.fn.seat.session (g.W.ByteSink.seen l.fn.sink) (g.G.Gate.calls l.fn.gate) l.fn.pending)
+      (spot l.seat.session (g.W.ByteSink.seen l.sink) (g.G.Gate.calls l.gate) l.pending);
   out : l.pending.out ≤ l.pending.begun;
   begun : l.pending.begun + length l.lines ≤ l.fn.pending.begun + length l.fn.lines;
-  faults : (g.W.Sink.seen l.sink).faults ≡ 0;
+  faults : (g.W.ByteSink.seen l.sink).faults ≡ 0;
 }
 
 abbrev pub decreases-loop-len : goal.decreases-loop-len

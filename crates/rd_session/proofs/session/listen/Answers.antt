@@ -45,5 +45,5 @@ loop-turn-preserved g c =
 
 pub returns-clause-heard : goal.returns-clause-heard
 returns-clause-heard g c =
-    let spent : (g.S.Source.seen c.loop-turn.source).reads ≡ 16777216 = omega (arith, c.loop-turn-test.false, c.loop-turn.auto._turn-end, c.loop-turn.invariant.reads) in
+    let spent : (g.S.ByteSource.seen c.loop-turn.source).reads ≡ 16777216 = omega (arith, c.loop-turn-test.false, c.loop-turn.auto._turn-end, c.loop-turn.invariant.reads) in
     Heard-spent _ _ _ _ _ c.loop-turn.invariant.hears c.loop-turn.invariant.out spent
