@@ -1,7 +1,7 @@
--- The debugger that the fields of a `Machine` stand for, and its records.
+-- The debugger that the fields of a `DeskMachine` stand for, and its records.
 use Rattle.rd_names.specs.Apps.{AreAsMany}
 use Rattle.rd_timeline.specs.Runs.{moves_of}
-use Rattle.rd_desk.specs.declared.machine.Machine.TheInside.{Inside}
+use Rattle.rd_desk.specs.declared.machine.DeskMachine.TheInside.{Inside}
 use Rattle.rd_desk.specs.Debugger.{Debugger, MachineView}
 use Rattle.rd_desk.specs.Kept.{IsShort}
 use Rattle.rd_desk.specs.Sessions.{AreSessionsOf}

@@ -20,7 +20,7 @@ use crate::asked::Asked;
 use crate::entry::{HistoryEntry, Event, Receipt};
 use crate::history::History;
 use crate::limits::Limits;
-use crate::machine::Machine;
+use crate::machine::DeskMachine;
 use crate::reply::DeskReply;
 use crate::rows::{Deed, Rows};
 use crate::sessions::MAX_JOINS;
@@ -77,7 +77,7 @@ impl From<NoMemory> for NotServed {
 /// The sequential debugger with its history. It can't be dropped: it ends in `close`.
 pub struct Desk {
     alloc: Global,
-    machine: Machine,
+    machine: DeskMachine,
     limit: usize,
     history: History,
 }
@@ -95,7 +95,7 @@ impl Model for Desk {
 }
 
 // Lets the next session in, where there is room for its entry.
-fn admit(machine: &mut Machine, history: &mut History) -> Receipt
+fn admit(machine: &mut DeskMachine, history: &mut History) -> Receipt
     requires joins { length machine.old.debugger.sessions < MAX_JOINS }
     requires room { 0 < history.old.row_room }
     ensures machine { machine.new.debugger ≡ entered machine.old.debugger }
@@ -168,7 +168,7 @@ impl Desk {
     {
         Ok(Desk {
             alloc,
-            machine: Machine::new(alloc, app, limits.moves)?,
+            machine: DeskMachine::new(alloc, app, limits.moves)?,
             limit: limits.history as usize,
             history: History::new(alloc),
         })

@@ -45,7 +45,7 @@ use std::alloc::Global;
 use std::marker::Model;
 
 /// The sequential debugger without its history. It can't be dropped: it ends in `close`.
-pub struct Machine {
+pub struct DeskMachine {
     alloc: Global,
     timeline: Timeline,
     names: Names,
@@ -53,7 +53,7 @@ pub struct Machine {
     sessions: Sessions,
 }
 
-impl Model for Machine {
+impl Model for DeskMachine {
     ghost use Rattle.rd_desk.specs.Debugger.{MachineView};
 
     ghost Value = { MachineView };
@@ -107,9 +107,9 @@ fn freed(wheel: Option<u32>, who: u32) -> Option<u32>
     if is_holder(wheel, who) { None } else { wheel }
 }
 
-impl Machine {
+impl DeskMachine {
     /// A debugger at its opening, for so many moves. A refusal drops the application.
-    pub fn new(alloc: Global, app: App, moves: u32) -> Result<Machine, NoMemory>
+    pub fn new(alloc: Global, app: App, moves: u32) -> Result<DeskMachine, NoMemory>
         ensures { IfOk result (λ machine. machine ≡ record {
           debugger = opening app moves;
           log = [];
@@ -119,7 +119,7 @@ impl Machine {
         let sessions = Sessions::new(alloc)?;
         let (program, names) = app.split();
         let timeline = Timeline::new(alloc, program, moves as usize)?;
-        Ok(Machine {
+        Ok(DeskMachine {
             alloc,
             timeline,
             names,
@@ -483,7 +483,7 @@ impl Machine {
 
     /// Ends the debugger.
     pub fn close(self) {
-        let Machine {
+        let DeskMachine {
             alloc: _,
             timeline,
             names: _names,

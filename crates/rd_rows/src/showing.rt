@@ -8,7 +8,7 @@ ghost use Rattle.rd_desk.specs.Views.{text_shown};
 
 use crate::asserts::assert_same;
 use rd_command::view::View;
-use rd_desk::machine::Machine;
+use rd_desk::machine::DeskMachine;
 use rd_desk::showing::show;
 use rd_names::app::App;
 use rd_text::kind::Kind;
@@ -19,7 +19,7 @@ use std::test::Fail;
 // What the command asks to see of the target is this line.
 fn assert_shown<H: AllocGlobal + Abort>(
     rt: &H,
-    machine: &Machine,
+    machine: &DeskMachine,
     view: View,
     wanted: &str,
 ) -> Result<(), Fail>
@@ -34,7 +34,7 @@ fn assert_shown<H: AllocGlobal + Abort>(
 }
 
 // The queue, the task and the cores of the built-in application are shown so.
-fn assert_all_shown<H: AllocGlobal + Abort>(rt: &H, machine: &Machine) -> Result<(), Fail>
+fn assert_all_shown<H: AllocGlobal + Abort>(rt: &H, machine: &DeskMachine) -> Result<(), Fail>
     requires { machine.now.debugger.app.names ≡ builtin_names }
 {
     let queue = View::Thing {
@@ -57,7 +57,7 @@ fn assert_all_shown<H: AllocGlobal + Abort>(rt: &H, machine: &Machine) -> Result
 #[test]
 fn at_boot(rt: HostRuntime) -> Result<(), Fail> {
     let app = App::builtin(rt.alloc())?;
-    let machine = Machine::new(rt.alloc(), app, 10)?;
+    let machine = DeskMachine::new(rt.alloc(), app, 10)?;
     let ended = assert_all_shown(&rt, &machine);
     machine.close();
     ended

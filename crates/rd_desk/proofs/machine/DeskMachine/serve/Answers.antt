@@ -4,7 +4,7 @@ use Rattle.rd_names.specs.Apps.{AreAsMany}
 use Rattle.rd_command.specs.Bindings.{Known, bound_in}
 use Rattle.rd_command.proofs.Offered.{bound_is_there}
 use Rattle.rd_desk.specs.Debugger.{MachineView}
-use Rattle.rd_desk.proofs.machine.Machine.serve.Goals as goal
+use Rattle.rd_desk.proofs.machine.DeskMachine.serve.Goals as goal
 
 pub obey-requires-clause-named : goal.obey-requires-clause-named
 obey-requires-clause-named c =

@@ -9,7 +9,7 @@ use Rattle.rd_desk.specs.DeskView.{LeadsBack}
 use Rattle.rd_desk.specs.MachineInside.{debugger_of}
 use Rattle.rd_desk.specs.Views.{AreNamesOf}
 use Rattle.rd_desk.proofs.NameLaws.{named_in_state}
-use Rattle.rd_desk.proofs.machine.Machine.keeps.Goals as goal
+use Rattle.rd_desk.proofs.machine.DeskMachine.keeps.Goals as goal
 
 pub returns-clause-paired : goal.returns-clause-paired
 returns-clause-paired c =

@@ -4,7 +4,7 @@ use Rattle.rd_app.specs.Application.{Application}
 use Rattle.rd_names.specs.Apps.{AreAsMany}
 use Rattle.rd_names.specs.Names.{NamesView}
 use Rattle.rd_timeline.specs.Course.{Course}
-use Rattle.rd_desk.proofs.machine.Machine.new.Goals as goal
+use Rattle.rd_desk.proofs.machine.DeskMachine.new.Goals as goal
 
 pub invariant_of-result : goal.invariant_of-result
 invariant_of-result c =

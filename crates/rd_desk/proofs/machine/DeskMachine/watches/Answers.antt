@@ -9,7 +9,7 @@ use Rattle.rd_desk.specs.Debugger.{MachineView, own_watches, target_of}
 use Rattle.rd_desk.specs.MachineInside.{debugger_of}
 use Rattle.rd_desk.specs.Sessions.{WatchesView}
 use Rattle.rd_desk.specs.Views.{watches_shown}
-use Rattle.rd_desk.proofs.machine.Machine.watches.Goals as goal
+use Rattle.rd_desk.proofs.machine.DeskMachine.watches.Goals as goal
 
 pub returns : goal.returns
 returns c =
