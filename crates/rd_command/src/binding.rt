@@ -18,7 +18,7 @@ use crate::command::Command;
 use crate::demand::Demand;
 use crate::digits::Digits;
 use crate::keyword::{
-    AmountKeyword, ConditionKeyword, EditKeyword, InterruptKeyword, CommandKeyword, RequestKeyword,
+    AmountKeyword, CommandKeyword, ConditionKeyword, EditKeyword, InterruptKeyword, RequestKeyword,
     SearchKeyword,
 };
 use crate::known::Known;
@@ -271,7 +271,10 @@ fn read_watch(reader: &mut CommandReader<'_, '_>) -> Result<Condition, Unknown>
 }
 
 // What a command of this keyword does, of its operands.
-fn read_bound<'a>(keyword: CommandKeyword, reader: &mut CommandReader<'_, 'a>) -> Result<Bound<'a>, Unknown>
+fn read_bound<'a>(
+    keyword: CommandKeyword,
+    reader: &mut CommandReader<'_, 'a>,
+) -> Result<Bound<'a>, Unknown>
     ensures { result_ok result ≡ bound_by keyword reader.old }
 {
     match keyword {

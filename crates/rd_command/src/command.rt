@@ -12,7 +12,7 @@ ghost use Rattle.rd_command.specs.Tables.{command_longer, command_with_second};
 ghost use Rattle.rd_command.specs.Tables.{found_in, with_operands};
 
 use crate::form::are_operands;
-use crate::keyword::{Alone, KEYWORDS, CommandKeyword, Longer, Verb};
+use crate::keyword::{Alone, CommandKeyword, KEYWORDS, Longer, Verb};
 use crate::word::{Behind, Word};
 use rd_text::words::Words;
 use std::marker::Model;
@@ -212,7 +212,11 @@ fn command_longer(words: &[Word<'_>], rows: &[Longer<'_>]) -> Option<Found>
 }
 
 // The first of these keywords that has this second word, and the words as operands.
-fn keyword_with_second(second: &[u8], words: &[Word<'_>], rows: &[Longer<'_>]) -> Option<CommandKeyword>
+fn keyword_with_second(
+    second: &[u8],
+    words: &[Word<'_>],
+    rows: &[Longer<'_>],
+) -> Option<CommandKeyword>
     ensures { option_map (with_operands words.now) result
         ≡ command_with_second (longer_view rows.now) second.now words.now }
 {

@@ -10,7 +10,7 @@ ghost use Rattle.rd_command.specs.Tables.{operands_view};
 
 use crate::binding::MAX_WATCHES;
 use crate::digits::is_data;
-use crate::keyword::{Operands, CommandParameter, condition_keyword_of};
+use crate::keyword::{CommandParameter, Operands, condition_keyword_of};
 use crate::word::Word;
 use rd_condition::condition::{Comparison, PhaseName};
 use rd_moves::count::Count;
@@ -78,9 +78,10 @@ fn is_formed(parameter: CommandParameter, word: &Word<'_>) -> bool
     ensures { result ≡ is_formed parameter word.now }
 {
     match parameter {
-        CommandParameter::Core | CommandParameter::Register | CommandParameter::Index | CommandParameter::Number => {
-            word.number().is_some()
-        }
+        CommandParameter::Core
+        | CommandParameter::Register
+        | CommandParameter::Index
+        | CommandParameter::Number => { word.number().is_some() }
         CommandParameter::Count => count_of(word).is_some(),
         CommandParameter::Data => is_data(word.text()),
         CommandParameter::Operator => operator_of(word.text()).is_some(),
@@ -92,7 +93,10 @@ fn is_formed(parameter: CommandParameter, word: &Word<'_>) -> bool
 }
 
 // What is left of the words behind one for each of these operands, if they have the forms.
-fn after_words<'w, 'a>(words: &'w [Word<'a>], parameters: &[CommandParameter]) -> Option<&'w [Word<'a>]>
+fn after_words<'w, 'a>(
+    words: &'w [Word<'a>],
+    parameters: &[CommandParameter],
+) -> Option<&'w [Word<'a>]>
     ensures { option_copied result ≡ after_words parameters.now words.now }
 {
     let mut left = words;

@@ -6,8 +6,8 @@ ghost use Rattle.rd_command.specs.Keywords.{parameters_of};
 ghost use Rattle.rd_command.specs.Tables.{first_condition, conditions_view};
 
 use crate::view::Overview;
-use ConditionKeyword::Compares;
 use CommandKeyword::{Ask, AskByWatch, Look, Show};
+use ConditionKeyword::Compares;
 use Operands::{Plain, WithCondition};
 use rd_text::kind::Kind;
 
@@ -118,7 +118,8 @@ impl CommandKeyword {
         ensures { result ≡ needs_wheel self }
     {
         match self {
-            CommandKeyword::Ask(_) | CommandKeyword::AskByWatch(_) | CommandKeyword::TakeWheel => true,
+            CommandKeyword::Ask(_) | CommandKeyword::AskByWatch(_) | CommandKeyword::TakeWheel =>
+                true,
             CommandKeyword::GiveWheel
             | CommandKeyword::Watch
             | CommandKeyword::Unwatch
@@ -307,7 +308,11 @@ pub(crate) static KEYWORDS: [Verb<'static>; 13] = [
         &[],
     ),
     ("watch", &[(WithCondition(&[]), CommandKeyword::Watch)], &[]),
-    ("unwatch", &[(Plain(&[NUMBER]), CommandKeyword::Unwatch)], &[]),
+    (
+        "unwatch",
+        &[(Plain(&[NUMBER]), CommandKeyword::Unwatch)],
+        &[],
+    ),
 ];
 
 // Each keyword of a condition: as it is written, and its operands.
@@ -348,7 +353,9 @@ static CONDITIONS: [(&str, &[CommandParameter], ConditionKeyword); 9] = [
 ];
 
 /// The keyword of a condition that is written so, with its operands.
-pub(crate) fn condition_keyword_of(word: &[u8]) -> Option<(&'static [CommandParameter], ConditionKeyword)>
+pub(crate) fn condition_keyword_of(
+    word: &[u8],
+) -> Option<(&'static [CommandParameter], ConditionKeyword)>
     ensures keyword { option_map (λ found. found.1) result ≡ condition_keyword_of word.now }
     ensures operands { IfSome result
         (λ found. found.0.now ≡ parameters_of (condition_row found.1)) }

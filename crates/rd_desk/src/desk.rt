@@ -17,7 +17,7 @@ ghost use Rattle.rd_desk.specs.Refusals.{is_serve_full, KeepsOut, LetsIn};
 ghost use Rattle.rd_desk.specs.Sessions.{IsPresent, present_count, watch_count};
 
 use crate::asked::Asked;
-use crate::entry::{HistoryEntry, Event, Receipt};
+use crate::entry::{Event, HistoryEntry, Receipt};
 use crate::history::History;
 use crate::limits::Limits;
 use crate::machine::DeskMachine;

@@ -283,7 +283,12 @@ impl DeskMachine {
 
     // Asks the timeline to search for the condition of a watch.
     #[inline(never)]
-    fn ask_by_watch(&mut self, who: u32, watch: usize, search: Search) -> Result<DeskReply, NoMemory>
+    fn ask_by_watch(
+        &mut self,
+        who: u32,
+        watch: usize,
+        search: Search,
+    ) -> Result<DeskReply, NoMemory>
         requires { IsPresent self.old.debugger.sessions who }
         ensures ok { IfOk result (IsDone self.old.debugger who (bound.AsksByWatch watch search)
             self.new.debugger) }

@@ -4,7 +4,7 @@ ghost use Rattle.std.specs.Prelude.{◌≡◌, ◌<◌, ◌≤◌, length, take,
 ghost use Rattle.std.specs.Io.KnownBytes.{Appends, Consumes, IsAtEnd, Keeps};
 ghost use Rattle.rd_ends.specs.Ends.{Says};
 
-use crate::ends::{ReadFault, ByteSink, ByteSource, WriteFault};
+use crate::ends::{ByteSink, ByteSource, ReadFault, WriteFault};
 use std::io::{ErrorKind, Read, Write};
 
 /// A reader as a source, or a writer as a sink. A call that was interrupted is made again.

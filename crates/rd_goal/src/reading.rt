@@ -4,7 +4,7 @@ ghost use Rattle.std.specs.Prelude.{◌≡◌, IfOk};
 ghost use Rattle.rd_goal.specs.Goals.{IsGoalOf, IsRowOf};
 
 use crate::claim_words::claim;
-use crate::goal::{Goal, MAX_ROWS, GoalRow};
+use crate::goal::{Goal, GoalRow, MAX_ROWS};
 use crate::words::GoalReader;
 use arrayvec::ArrayVec;
 use rd_bytes::no_memory::NoMemory;

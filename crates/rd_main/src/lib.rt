@@ -18,7 +18,7 @@ use crate::serve::listen;
 use rd_desk::limits::Limits;
 use rd_start::fault::Fault;
 use rd_start::file::load;
-use rd_start::options::{StartRequest, Settings, options};
+use rd_start::options::{Settings, StartRequest, options};
 use std::alloc::AllocGlobal;
 use std::io;
 use std::io::{ErrorKind, Read, Write};

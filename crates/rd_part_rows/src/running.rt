@@ -50,7 +50,13 @@ fn met(at: usize) -> FoundPlace {
 }
 
 // On to where r1 has the value, so many moves at the most.
-fn assert_until(rt: &impl Abort, timeline: &mut Timeline, value: u32, count: usize, found: FoundPlace)
+fn assert_until(
+    rt: &impl Abort,
+    timeline: &mut Timeline,
+    value: u32,
+    count: usize,
+    found: FoundPlace,
+)
     requires { 0 < count }
 {
     timeline.app().limits();

@@ -41,7 +41,10 @@ use std::rt::Files;
 const MEBIBYTE: usize = 1_048_576;
 
 /// The application of the file at the path. `File` where there is none.
-pub(crate) fn application<H: Files + AllocGlobal>(handle: &H, path: &str) -> Result<App, ReachFault> {
+pub(crate) fn application<H: Files + AllocGlobal>(
+    handle: &H,
+    path: &str,
+) -> Result<App, ReachFault> {
     match load(handle, Some(path)) {
         Ok(app) => Ok(app),
         Err(fault) => {

@@ -136,7 +136,11 @@ impl<'a> Engine<'a> {
 
     /// Makes a setting. `Isr` where an interrupt is none that may come, and `NoMemory` where there is
     /// none for it; nothing has changed then.
-    pub(crate) fn set(&mut self, alloc: Global, setting: EngineSetting<'_>) -> Result<(), ReachFault>
+    pub(crate) fn set(
+        &mut self,
+        alloc: Global,
+        setting: EngineSetting<'_>,
+    ) -> Result<(), ReachFault>
         requires { IsWithinLimits setting }
         ensures made { OnOk result (IsSet setting.entry self.old self.new) }
         ensures kept { OnErr result (self.new ≡ self.old) }

@@ -7,7 +7,7 @@ use crate::handler::Handler;
 use crate::options::Question;
 use rd_dealt::part::Part;
 use rd_names::app::App;
-use rd_reach::answer::{SearchAnswer, FullCause, SearchOutcome};
+use rd_reach::answer::{FullCause, SearchAnswer, SearchOutcome};
 use rd_reach::came::Came;
 use rd_reach::choice::{Choice, choice_of};
 use rd_text::kind::Kind;
@@ -145,7 +145,11 @@ fn tell_part<W: Write>(writer: &mut W, part: Option<&Part>) -> io::Result<()> {
 }
 
 // The answer by itself. The exit status it has.
-fn tell_answer<W: Write>(writer: &mut W, asked: &AskedQuestion<'_>, answer: &SearchAnswer) -> io::Result<u8>
+fn tell_answer<W: Write>(
+    writer: &mut W,
+    asked: &AskedQuestion<'_>,
+    answer: &SearchAnswer,
+) -> io::Result<u8>
     ensures { IfOk result (λ status. status ≡ status_of answer.now) }
 {
     let surprises = asked.question.surprises;
@@ -182,7 +186,11 @@ fn tell_answer<W: Write>(writer: &mut W, asked: &AskedQuestion<'_>, answer: &Sea
 /// began behind, if it is one, what was gone through, and where no order was left out which
 /// instructions none came to. Answers the exit status: 0 where the goal comes behind no order that
 /// was asked for, 1 where it comes behind one, 2 where that can't be told.
-pub(crate) fn tell<W: Write>(writer: &mut W, asked: &AskedQuestion<'_>, outcome: &SearchOutcome) -> io::Result<u8>
+pub(crate) fn tell<W: Write>(
+    writer: &mut W,
+    asked: &AskedQuestion<'_>,
+    outcome: &SearchOutcome,
+) -> io::Result<u8>
     ensures status { IfOk result (λ status. status ≡ status_of outcome.now.answer) }
     ensures within { IfOk result (λ status. status ≤ 2) }
 {

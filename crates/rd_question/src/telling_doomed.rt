@@ -10,7 +10,11 @@ use std::io;
 use std::io::Write;
 
 // The verdict by itself. The exit status it has.
-fn tell_verdict<W: Write>(writer: &mut W, asked: &AskedQuestion<'_>, verdict: &Verdict) -> io::Result<u8>
+fn tell_verdict<W: Write>(
+    writer: &mut W,
+    asked: &AskedQuestion<'_>,
+    verdict: &Verdict,
+) -> io::Result<u8>
     ensures { IfOk result (λ status. status ≤ 2) }
 {
     match verdict {

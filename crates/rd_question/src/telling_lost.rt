@@ -2,7 +2,9 @@
 
 ghost use Rattle.std.specs.Prelude.{◌≤◌, IfOk};
 
-use crate::telling::{AskedQuestion, FOUND, NONE, UNTOLD, tell_counts, tell_lines, tell_order, told};
+use crate::telling::{
+    AskedQuestion, FOUND, NONE, UNTOLD, tell_counts, tell_lines, tell_order, told,
+};
 use rd_lost::outcome::{Lost, LostOutcome, Untold, Way};
 use std::io;
 use std::io::Write;

@@ -9,7 +9,7 @@ use crate::counting::{CountingGate, TellingWriter};
 use crate::memory::{Narrow, first_len};
 use rd_desk::limits::Limits;
 use rd_desk::sessions::MAX_JOINS;
-use rd_ends::ends::{ReadFault, ByteSource};
+use rd_ends::ends::{ByteSource, ReadFault};
 use rd_ends::over::Over;
 use rd_hall::hall::Hall;
 use rd_hall::seat::{Gone, Pass, Seat};

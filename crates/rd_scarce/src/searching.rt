@@ -17,7 +17,7 @@ use rd_app::app::Program;
 use rd_goal::claim::Claim;
 use rd_goal::goal::Goal;
 use rd_key::sight::Sight;
-use rd_reach::answer::{SearchAnswer, FullCause, SearchCounts, SearchOutcome, SearchRoom, Watch};
+use rd_reach::answer::{FullCause, SearchAnswer, SearchCounts, SearchOutcome, SearchRoom, Watch};
 use rd_reach::orders::reach_orders;
 use rd_reach::schedule::Schedule;
 use rd_state::state::State;
@@ -172,9 +172,10 @@ fn come_of(
             }
             Ok(led)
         }
-        SearchAnswer::Full(_, _) | SearchAnswer::NotWithin(_) | SearchAnswer::Found(_) | SearchAnswer::Never => {
-            Err(Wrong::Answer)
-        }
+        SearchAnswer::Full(_, _)
+        | SearchAnswer::NotWithin(_)
+        | SearchAnswer::Found(_)
+        | SearchAnswer::Never => { Err(Wrong::Answer) }
     }
 }
 

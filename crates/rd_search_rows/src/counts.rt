@@ -12,7 +12,7 @@ use rd_answer::manner::Manner;
 use rd_goal::reading::{read_goal, words_of};
 use rd_names::app::App;
 use rd_origin::origin::origin;
-use rd_reach::answer::{SearchAnswer, FullCause, SearchOutcome, SearchRoom};
+use rd_reach::answer::{FullCause, SearchAnswer, SearchOutcome, SearchRoom};
 use rd_reach::came::Came;
 use rd_reach::schedule::Schedule;
 use rd_script::file::read_app;

@@ -7,7 +7,7 @@ ghost use Rattle.std.specs.List.{position_or_len};
 ghost use Rattle.std.specs.Io.KnownBytes.{IsAtEnd, Keeps};
 ghost use Rattle.rd_session.specs.Lines.{AddsRead, is_feed, front_of, without_return};
 
-use rd_ends::ends::{ReadFault, ByteSource};
+use rd_ends::ends::{ByteSource, ReadFault};
 use std::alloc::{AllocError, Global};
 use std::marker::Model;
 
@@ -150,7 +150,11 @@ fn move_to_front(buffer: &mut [u8], start: usize, end: usize)
 }
 
 // Reads once, after the first `end` bytes, which stay.
-fn read_after<S: ByteSource>(source: &mut S, buffer: &mut [u8], end: usize) -> Result<usize, ReadFault>
+fn read_after<S: ByteSource>(
+    source: &mut S,
+    buffer: &mut [u8],
+    end: usize,
+) -> Result<usize, ReadFault>
     requires end { end < length buffer.old }
     requires counts { CountsReads (S.seen source.old) }
     ensures ok { IfOk result (λ count.
