@@ -5,7 +5,6 @@ pub mod EffectLaws
 pub mod FormLaws
 pub mod LengthLaws
 pub mod OrderLaws
-pub mod RecentLaws
 pub mod Steps
 pub mod TableLaws
 pub mod ThereLaws

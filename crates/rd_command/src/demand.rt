@@ -1,12 +1,10 @@
 //! What a command asks of a timeline.
 
-ghost use Rattle.std.specs.Prelude.{◌≡◌, IfErr, IfOk, IfSome, is_some};
+ghost use Rattle.std.specs.Prelude.{◌≡◌, IfErr, IfOk, IfSome};
 ghost use Rattle.rd_command.specs.Keywords.{carrying};
-ghost use Rattle.rd_command.specs.Recents.{is_bare};
 
 use crate::digits::Digits;
 use rd_moves::carried::{Carried, Lent};
-use rd_moves::moves::Move;
 use rd_moves::request::Request;
 use std::marker::Model;
 
@@ -33,33 +31,6 @@ impl<'a> Model for Demand<'a> {
     ghost Value = { PlainRequest };
 
     ghost view = { λ d. demanded d.form };
-}
-
-// The same request, where its move carries nothing.
-fn copy_bare(request: &Request<Lent<'static>>) -> Option<Request<Lent<'static>>>
-    ensures copy { IfSome result (λ copy. copy ≡ request.now) }
-    ensures some { is_some result ≡ is_bare request.now }
-{
-    Some(match request {
-        Request::Go { action } => Request::Go {
-            action: match action {
-                Move::Core { core } => Move::Core { core: *core },
-                Move::Tick => Move::Tick,
-                Move::Carried { .. } => return None,
-            },
-        },
-        Request::Back { count } => Request::Back { count: *count },
-        Request::Forward { count } => Request::Forward { count: *count },
-        Request::Redo { count } => Request::Redo { count: *count },
-        Request::Until { condition, count } => Request::Until {
-            condition: *condition,
-            count: *count,
-        },
-        Request::BackUntil { condition } => Request::BackUntil {
-            condition: *condition,
-        },
-        Request::Trim { keep } => Request::Trim { keep: *keep },
-    })
 }
 
 impl<'a> Demand<'a> {
@@ -94,12 +65,11 @@ impl<'a> Demand<'a> {
     }
 
     /// The same where it doesn't borrow of a line, since its move carries nothing.
-    pub(crate) fn lasting(&self) -> Option<Demand<'static>>
-        ensures lasting { IfSome result (λ lasting. lasting ≡ self.now) }
-        ensures some { is_some result ≡ is_bare self.now }
+    pub(crate) fn lasting(self) -> Option<Demand<'static>>
+        ensures { IfSome result (λ lasting. lasting ≡ self.entry) }
     {
-        match &self.form {
-            Form::Bare { request } => Some(Demand::bare(copy_bare(request)?)),
+        match self.form {
+            Form::Bare { request } => Some(Demand::bare(request)),
             Form::Carrying { .. } => None,
         }
     }

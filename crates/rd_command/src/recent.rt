@@ -1,11 +1,13 @@
 //! The lines that were bound lately.
 
-ghost use Rattle.std.specs.Prelude.{◌≡◌, ◌<◌, ◌↔◌, All, IfSome, IsSome, None, Some, is_some};
-ghost use Rattle.std.specs.Prelude.{slice_get, slice_set};
-ghost use Rattle.rd_command.specs.Recents.{IsRow, can_be_kept, is_lasting, keeping, place_of};
+ghost use Rattle.std.specs.Prelude.{◌≡◌, ◌<◌, IfSome, slice_set};
+ghost use Rattle.std.specs.Result.{result_ok};
+ghost use Rattle.rd_command.specs.Bindings.{bound_in};
+ghost use Rattle.rd_command.specs.Recents.{IsRow};
 ghost use Rattle.rd_command.specs.declared.recent.TheConstants.{ROWS};
 
 use crate::binding::{Bound, Unknown};
+use crate::command::Command;
 use crate::known::Known;
 use crate::order::Order;
 use arrayvec::ArrayVec;
@@ -17,6 +19,10 @@ const ROWS: usize = 64;
 
 const MAX_KEPT: usize = 40;
 
+// Of so many lines that weren't found one is kept: to keep one takes a fifth of a line's time, which
+// is lost where no line is said again.
+const ONE_OF: u8 = 16;
+
 // A line that is a command, with what this is bound to.
 #[derive(Drop)]
 struct Row {
@@ -26,29 +32,30 @@ struct Row {
 }
 
 /// Lines that were bound lately, each with what it is bound to, so that who says one of them again
-/// need not have it read again. Lines of more than 40 bytes are not kept, nor are commands that
-/// carry bytes. Two lines may share a place: the later one is kept.
+/// and again need not have it read each time. What is found of a line is what it is bound to; which
+/// lines are found hangs on what was said before.
 #[derive(Drop)]
 pub struct Recent<'n> {
     known: &'n Known,
     rows: [Option<Row>; ROWS],
+    // how many lines weren't found, up to a multiple of 256
+    read: u8,
 }
 
 impl<'n> Model for Recent<'n> {
-    ghost use Rattle.rd_command.specs.Recents.{AreRows, RecentView, lines_in};
+    ghost use Rattle.rd_command.specs.Bindings.{Known};
+    ghost use Rattle.rd_command.specs.Recents.{AreRows};
 
-    ghost Value = { RecentView };
+    ghost Value = { Known };
 
-    ghost view = { λ r. record { known = r.known.now; lines = lines_in r.rows } };
+    ghost view = { λ r. r.known.now };
 
     ghost invariant = { λ r. AreRows r.known.now r.rows };
 }
 
-// Where a line is kept. (No two of `step 0` to `step 15`, `tick`, and `back`, `redo` and `forward`
-// with one digit share a place, and few of the usual views.)
+// Where a line is kept: any place is right.
 fn place_of(line: &[u8]) -> usize
-    ensures place { result ≡ place_of line.now }
-    ensures within { result < ROWS }
+    ensures { result < ROWS }
 {
     match line {
         [first, .., last] => {
@@ -59,27 +66,20 @@ fn place_of(line: &[u8]) -> usize
     }
 }
 
-// The same where it doesn't borrow of the line, since it carries no bytes.
-fn lasting(bound: &Bound<'_>) -> Option<Bound<'static>>
-    ensures lasting { IfSome result (λ lasting. lasting ≡ bound.now) }
-    ensures some { is_some result ≡ is_lasting bound.now }
+// The same where it doesn't borrow of the line. (Who keeps and drops watches hardly does so again.)
+fn lasting(bound: Bound<'_>) -> Option<Bound<'static>>
+    ensures { IfSome result (λ lasting. lasting ≡ bound.entry) }
 {
-    Some(match bound {
-        Bound::Asks { request } => Bound::Asks {
+    match bound {
+        Bound::Asks { request } => Some(Bound::Asks {
             request: request.lasting()?,
-        },
-        Bound::AsksByWatch { watch, search } => Bound::AsksByWatch {
-            watch: *watch,
-            search: *search,
-        },
-        Bound::TakesWheel => Bound::TakesWheel,
-        Bound::GivesWheel => Bound::GivesWheel,
-        Bound::Keeps { condition } => Bound::Keeps {
-            condition: *condition,
-        },
-        Bound::Drops { number } => Bound::Drops { number: *number },
-        Bound::Looks { view } => Bound::Looks { view: *view },
-    })
+        }),
+        Bound::AsksByWatch { watch, search } => Some(Bound::AsksByWatch { watch, search }),
+        Bound::TakesWheel => Some(Bound::TakesWheel),
+        Bound::GivesWheel => Some(Bound::GivesWheel),
+        Bound::Looks { view } => Some(Bound::Looks { view }),
+        _ => None,
+    }
 }
 
 // Puts an item in the place of another. (Of any type: the borrow checker has no rule for writing an
@@ -92,20 +92,19 @@ fn put<T: Drop>(items: &mut [T; ROWS], place: usize, item: T)
 }
 
 impl Row {
-    // The row of an order, if it can be kept.
-    fn of(order: &Order<'_, '_>) -> Option<Row>
-        ensures row { IfSome result (IsRow order.now.known) }
-        ensures line { IfSome result (λ row. row.line.items ≡ order.now.line) }
-        ensures some { is_some result ≡ can_be_kept order.now }
+    // The row of a command that is bound so, if it can be kept.
+    fn of(command: &Command<'_, '_>, bound: Result<Bound<'_>, Unknown>) -> Option<Row>
+        ensures { IfSome result (λ row. (known : Known)
+            → result_ok bound.entry ≡ bound_in known command.now → IsRow known row) }
     {
-        let bound = match order.bound() {
-            Some(bound) => Ok(lasting(bound)?),
-            None => Err(Unknown),
+        let bound = match bound {
+            Ok(bound) => Ok(lasting(bound)?),
+            Err(unknown) => Err(unknown),
         };
-        let line = ArrayVec::try_from(order.line()).ok()?;
+        let line = ArrayVec::try_from(command.line()).ok()?;
         Some(Row {
             line,
-            needs_wheel: order.needs_wheel(),
+            needs_wheel: command.needs_wheel(),
             bound,
         })
     }
@@ -114,12 +113,12 @@ impl Row {
 impl<'n> Recent<'n> {
     /// None yet, of this application.
     pub fn new(known: &'n Known) -> Recent<'n>
-        ensures known { result.known ≡ known.now }
-        ensures none { All (λ line. line ≡ None) result.lines }
+        ensures { result ≡ known.now }
     {
         Recent {
             known,
             rows: from_fn(|_| None),
+            read: 0,
         }
     }
 
@@ -127,9 +126,7 @@ impl<'n> Recent<'n> {
     #[inline(always)]
     pub fn find<'a>(&self, line: &'a [u8]) -> Option<Order<'_, 'a>>
         ensures line { IfSome result (λ order. order.line ≡ line.now) }
-        ensures known { IfSome result (λ order. order.known ≡ self.now.known) }
-        ensures found { IsSome result
-            ↔ (slice_get self.now.lines (place_of line.now) ≡ Some (Some line.now)) }
+        ensures known { IfSome result (λ order. order.known ≡ self.now) }
     {
         let row = self.rows[place_of(line)].as_ref()?;
         if row.line.as_slice() == line {
@@ -139,13 +136,22 @@ impl<'n> Recent<'n> {
         }
     }
 
-    /// Keeps what a line is bound to, where it can be kept, in place of the line that was there.
-    pub fn keep(&mut self, order: &Order<'_, '_>)
-        requires { order.now.known ≡ self.old.known }
-        ensures { self.new ≡ keeping self.old order.now }
+    /// Whether it's the turn of a line that wasn't found to be kept.
+    #[inline(always)]
+    pub fn is_turn(&mut self) -> bool
+        ensures { self.new ≡ self.old }
     {
-        if let Some(row) = Row::of(order) {
-            put(&mut self.rows, place_of(order.line()), Some(row));
+        self.read = self.read.wrapping_add(1);
+        self.read % ONE_OF == 0
+    }
+
+    /// Keeps what a line is bound to, if it can be kept.
+    pub fn keep<'a>(&mut self, command: &Command<'_, 'a>, bound: Result<Bound<'a>, Unknown>)
+        requires { result_ok bound ≡ bound_in self.old command.now }
+        ensures { self.new ≡ self.old }
+    {
+        if let Some(row) = Row::of(command, bound) {
+            put(&mut self.rows, place_of(command.line()), Some(row));
         }
     }
 }

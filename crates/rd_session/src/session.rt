@@ -62,7 +62,7 @@ struct Host<'a, R: Wait, L: Setup> {
     rt: &'a R,
     hall: &'a Hall<L>,
     recent: Recent<'a>,
-    ghost application: { recent.known ≡ known_of L.app },
+    ghost application: { recent ≡ known_of L.app },
 }
 
 // The refusal that says why a command wasn't served.
@@ -207,8 +207,11 @@ fn answer_anew<R: Wait, L: Setup, G: Gate, W: ByteSink>(
             let known = host.hall.known();
             let bound = bind(command, known);
             let order = Order::new(command, known, &bound);
-            host.recent.keep(&order);
-            ask(host, gate, seat, &order, pending, sink)
+            let asked = ask(host, gate, seat, &order, pending, sink);
+            if host.recent.is_turn() {
+                host.recent.keep(command, bound);
+            }
+            asked
         }
         Err(_) => {
             let refusal = Refusal::Syntax;
