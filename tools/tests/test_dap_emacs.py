@@ -26,7 +26,7 @@ class Hunt:
     tells: Sequence[str]
 
 
-# Those of docs/LOST_ITEM.md, with its mend by an edit, and of docs/HUNTING.md.
+# Those of docs/LOST_ITEM.md, with its mend by an edit, of docs/HUNTING.md, and of frames.json.
 HUNTS = (
     Hunt(
         "lost_item",
