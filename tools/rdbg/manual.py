@@ -85,10 +85,13 @@ ENVIRONMENT = (
 PAGES = (
     Entry("../README.md", "the first command, a task as a script, what is proved"),
     Entry("README.md", "every page, by who reads it"),
-    Entry("FROM_C.md, CALLS.md", "how C becomes a script, and each call of one"),
+    Entry("FIRST.md, CALLS.md", "from C to a first fault; each line and each call of a model"),
+    Entry("FROM_C.md, FAULTS.md", "how pieces of C become scripts; eight faults with their C"),
     Entry("COMMANDS.md, FORMATS.md", "each command, refusal, file, reply and limit"),
-    Entry("COMPANIONS.md, HUNTING.md, REACHING.md", "the companions, and searches for a fault"),
+    Entry("COMPANIONS.md, HUNTING.md", "the companions, and how a fault is looked for"),
+    Entry("REACHING.md, NO_RETURN.md", "what can still come, and where it was lost for good"),
     Entry("TOGETHER.md, EDITORS.md, SECURITY.md", "several at one target, editors, ports"),
+    Entry("BUILD.md, RELEASE.md", "rdbg at a build server, and installing it"),
     Entry("MODEL.md, PROMISES.md", "the kernel's rules, and what is proved"),
 )
 
