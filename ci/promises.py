@@ -2,7 +2,8 @@
 the clauses that are named, and no clause of a call is said twice.
 
 A row's last cell has calls, each with its clauses behind a colon: '`play`: `step`, `valid`; `State::copy`'.
-What stands in parentheses is definitions, and no clause.
+What stands in parentheses is definitions, and no clause. What a page quotes in blocks stands so in the
+sources, however it is broken into lines there.
 """
 import re
 
@@ -15,6 +16,7 @@ HEAD = "| Promise | Carried by |"
 CLAUSE = re.compile(r"\bensures (\w+)\s*\{")
 ASIDE = re.compile(r"\([^()]*\)")
 NAMED = re.compile(r"`([\w:]+)`")
+BLOCK = re.compile(r"^```\n(.*?)^```$", re.MULTILINE | re.DOTALL)
 
 
 def clauses_of(top):
@@ -68,3 +70,13 @@ def wrong_promises(clauses, page):
                 if told in said:
                     yield at, f"{told} is said twice"
                 said.add(told)
+
+
+def misquoted(top, page):
+    """The lines of a page's blocks that stand nowhere in code and definitions."""
+    files = [*top.glob("crates/*/src/**/*.rt"), *top.glob("crates/*/specs/*.antt")]
+    texts = [" ".join(file.read_text().split()) for file in files]
+    for found in BLOCK.finditer(page):
+        for line in found[1].splitlines():
+            if not any(" ".join(line.split()) in text for text in texts):
+                yield page.count("\n", 0, found.start()) + 1, f"'{line}' isn't in the sources"
