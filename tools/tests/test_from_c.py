@@ -270,6 +270,20 @@ class Drift(unittest.TestCase):
         (said,) = told(named.replace("push(job)", "pull(job)"))
         self.assertIn("no call of push stands beside it", said)
 
+    def test_several_of_one_call(self) -> None:
+        body = (
+            "  /* rdbg(xQueueReceive):\n   * recv q 5\n   * if r0 = 1\n   *   recv other 5\n"
+            "   * end\n   */\n  xQueueReceive(ready, &x, 5);"
+        )
+        other = "queue other length 1 item 1"
+        self.assertEqual(told(in_task(body, other)), [])
+        found = told(in_task(body.replace("&x, 5", "&x, 6"), other))
+        self.assertEqual(["10:6", "12:8"], [it.partition(": ")[0] for it in found])
+        self.assertTrue(all(it.endswith("has 6 as its block time") for it in found), found)
+        alone = told(in_task(body.replace("xQueueReceive(ready", "gone(ready"), other))
+        self.assertTrue(all("no call of xQueueReceive stands beside it" in it for it in alone))
+        self.assertEqual(2, len(alone))
+
     def test_what_is_left_out(self) -> None:
         left = "  xTaskNotifyStateClear(NULL); // rdbg: skip"
         self.assertEqual(told(in_task(left)), [])
@@ -346,6 +360,75 @@ class Drift(unittest.TestCase):
         ):
             drifts(text, set(), {})
         self.assertEqual(told('extern "C" {\n' + FIRMWARE + "}\n"), [])
+
+
+SHARED = """\
+static int get(uint8_t *to, TickType_t patience)
+{
+    xSemaphoreTake(m, portMAX_DELAY);
+    int done = xQueueReceive(q, to, patience);
+    xSemaphoreGive(m);
+    return done;
+}
+"""
+GET = """\
+  /* rdbg(get):
+   * take m max
+   * recv q 5
+   * give m
+   */
+  get(&x, 5);"""
+
+
+class Through(unittest.TestCase):
+    """The lines of what a function of the source calls stand beside the calls of it."""
+
+    def told(self, shared: str, body: str = GET) -> List[str]:
+        """What is told of a task that calls it."""
+        return told(shared + in_task(body, "mutex m"))
+
+    def test_nothing(self) -> None:
+        self.assertEqual([], self.told(SHARED))
+        self.assertEqual([], self.told("int get(void *to, int (*f)(int), int patience);" + SHARED))
+        twice = GET.replace("recv q 5\n", "recv q 5\n   * while r0\n   *   recv q 5\n   * end\n")
+        self.assertEqual([], self.told(SHARED, twice))
+
+    def test_a_call_taken_out(self) -> None:
+        (said,) = self.told(SHARED.replace("xSemaphoreGive(m);", ""))
+        self.assertEqual("19:6: give m: get makes no call of xSemaphoreGive or its like", said)
+
+    def test_a_call_come_in(self) -> None:
+        come = SHARED.replace("    return", "    xQueueReset(q);\n    return")
+        (said,) = self.told(come)
+        self.assertEqual(
+            "22:3: xQueueReset in line 6, which get calls, has no line here: // rdbg(get): qreset q",
+            said,
+        )
+        left = GET.replace("  get(&x", "  // rdbg(get): skip\n  get(&x")
+        self.assertEqual([], self.told(come, left))
+
+    def test_a_block_time_changed(self) -> None:
+        at = "18:6: recv q 5: xQueueReceive in line 4 has"
+        self.assertEqual(
+            [f"{at} 7 as its block time"], self.told(SHARED, GET.replace("&x, 5", "&x, 7"))
+        )
+        fixed = SHARED.replace("to, patience)", "to, 9)")
+        self.assertEqual([f"{at} 9 as its block time"], self.told(fixed))
+        for changed in ("patience = 9;", "patience -= 1;", "patience--;", "f(&patience);"):
+            body = SHARED.replace("    int done", f"    {changed}\n    int done")
+            self.assertEqual([], self.told(body, GET.replace("&x, 5", "&x, 7")))
+
+    def test_a_function_that_calls_another(self) -> None:
+        outer = "int outer(int t) { prepare(); return get(0, t); }\n"
+        lines = GET.replace("(get)", "(outer)").replace("get(&x, 5)", "outer(5)")
+        self.assertEqual([], self.told(SHARED + outer, lines))
+        self.assertEqual(1, len(self.told(SHARED + outer, lines.replace("outer(5)", "outer(6)"))))
+        inner = lines.replace("  /*", "  // rdbg(prepare): wait 1\n  /*")
+        self.assertEqual([], self.told(SHARED + outer, inner))
+
+    def test_functions_that_call_themselves(self) -> None:
+        again = SHARED.replace("return done", "return done ? get(to, patience) : other(to)")
+        self.assertEqual([], self.told(again + "int other(void *to) { return get(to, 5); }\n"))
 
 
 class Companions(unittest.TestCase):
