@@ -9,7 +9,7 @@ import tempfile
 import unittest
 from typing import List, Tuple
 
-from rdbg import instructions, kinds
+from rdbg import instructions
 from rdbg.adapter.sources import Text
 from rdbg.companions import check, make, trace
 from rdbg.failure import Failure
@@ -88,14 +88,11 @@ end
 """
 
 
-def told(text: str) -> List[str]:
+def told(text: str, path: str = "a.c") -> List[str]:
     """What is told of a source."""
-    found = source("a.c", text.encode())
+    found = source(path, text.encode())
     assert found.application is not None, found.faults
-    names = {it.name for kind in kinds.ALL for it in found.application.of(kind)}
-    named = found.named()
-    assert named is not None
-    return [str(it) for it in drifts(found.text, names, named.constants)]
+    return [*map(str, check.drifts(found))]
 
 
 def in_task(body: str, objects: str = "") -> str:
@@ -358,7 +355,7 @@ class Drift(unittest.TestCase):
             "#define",
             'extern "C" {\n' + FIRMWARE + "}",
         ):
-            drifts(text, set(), {})
+            drifts("a.c", text, set(), {})
         self.assertEqual(told('extern "C" {\n' + FIRMWARE + "}\n"), [])
 
 
@@ -429,6 +426,84 @@ class Through(unittest.TestCase):
     def test_functions_that_call_themselves(self) -> None:
         again = SHARED.replace("return done", "return done ? get(to, patience) : other(to)")
         self.assertEqual([], self.told(again + "int other(void *to) { return get(to, 5); }\n"))
+
+
+class Headers(unittest.TestCase):
+    """Numbers that headers of the source's own folder give a name to are compared."""
+
+    def setUp(self) -> None:
+        folder = tempfile.TemporaryDirectory()
+        self.addCleanup(folder.cleanup)
+        self.folder = pathlib.Path(folder.name)
+
+    def told(self, wait: str, include: str = '"config.h"', **headers: str) -> List[str]:
+        """What is told of a receive that waits for 10 ticks, and for this in C."""
+        for name, text in headers.items():
+            (self.folder / f"{name}.h").write_text(text)
+        text = f"#include {include}\n" + in_task(
+            f"  xQueueReceive(q, &x, {wait}); // rdbg: recv q 10"
+        )
+        return told(text, str(self.folder / "a.c"))
+
+    def test_numbers(self) -> None:
+        for text in (
+            "10",
+            "0x0AUL",
+            "(TickType_t)10",
+            "(1 << 3 | 2) /* ticks */",
+            "OTHER\n#define OTHER 10",
+        ):
+            self.assertEqual([], self.told("RX_WAIT", config=f"#define RX_WAIT {text}\n"))
+        (said,) = self.told("RX_WAIT", config="#define OTHER 12\n#define RX_WAIT (OTHER)\n")
+        self.assertEqual(
+            "10:43: recv q 10: xQueueReceive in line 10 has RX_WAIT as its block time, which is 12",
+            said,
+        )
+
+    def test_milliseconds(self) -> None:
+        for rate, text, value in (
+            ("1000", "pdMS_TO_TICKS(20)", "20"),
+            ("((TickType_t)100)", "(pdMS_TO_TICKS( (TickType_t)(5000) ))", "500"),
+            ("(100)", "pdMS_TO_TICKS(RX_MS)\n#define RX_MS 39", "3"),
+        ):
+            config = f"#define RX_WAIT {text}\n#define configTICK_RATE_HZ {rate}\n"
+            (said,) = self.told("RX_WAIT", config=config)
+            self.assertTrue(said.endswith(f"which is {value}"), said)
+            (said,) = self.told("pdMS_TO_TICKS(RX_WAIT)", config=config.replace(text, "90000"))
+            self.assertIn("pdMS_TO_TICKS(RX_WAIT) as its block time", said)
+
+    def test_the_configuration_of_the_kernel(self) -> None:
+        rate = "#define configTICK_RATE_HZ 100\n"
+        self.assertEqual([], self.told("pdMS_TO_TICKS(20)", '"FreeRTOS.h"'))
+        (said,) = self.told("pdMS_TO_TICKS(20)", '"FreeRTOS.h"', FreeRTOSConfig=rate)
+        self.assertTrue(said.endswith("which is 2"), said)
+
+    def test_headers_of_headers(self) -> None:
+        around = '#include "config.h"\n#define RX_WAIT 7\n'
+        (said,) = self.told("RX_WAIT", config='#include "waits.h"\n', waits=around)
+        self.assertTrue(said.endswith("which is 7"), said)
+
+    def test_what_cannot_be_known(self) -> None:
+        for text in (
+            "#define RX_WAIT pdMS_TO_TICKS(20)",
+            "#define RX_WAIT (cfg->wait)",
+            "#define RX_WAIT RX_WAIT",
+            "#if FAST\n#define RX_WAIT 1\n#else\n#define RX_WAIT 20\n#endif",
+            "#define RX_WAIT() 20",
+            "// #define RX_WAIT 20",
+        ):
+            self.assertEqual([], self.told("RX_WAIT", config=text), text)
+        there = "#define RX_WAIT 20\n"
+        for include in ("<config.h>", '"../config.h"', '"none.h"', '"."', '"\0"'):
+            self.assertEqual([], self.told("RX_WAIT", include, config=there), include)
+        self.assertEqual([], self.told("RX_WAIT", config=there + " " * 1_048_576))
+
+    def test_a_const_of_the_model(self) -> None:
+        (self.folder / "config.h").write_text("#define RX_WAIT 12\n")
+        text = '#include "config.h"\n' + in_task("", "const RX_WAIT 10")
+        self.assertEqual(
+            ["6:1: const RX_WAIT is 10, and 12 in the C"], told(text, str(self.folder / "a.c"))
+        )
 
 
 class Companions(unittest.TestCase):

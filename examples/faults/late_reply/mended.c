@@ -1,6 +1,10 @@
 /* The mend of late_reply.c: the reply to another question is dropped, and the client goes on waiting for its
  * own. No register is taken from another, so that `left` is PATIENCE each time in the model: the client
  * waits no shorter than in C. */
+#include "FreeRTOS.h"
+
+#define PATIENCE pdMS_TO_TICKS(20)
+
 /* rdbg:
  * cores 2
  * const TYPE 0x54

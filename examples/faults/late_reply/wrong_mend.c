@@ -1,5 +1,9 @@
 /* A mend of late_reply.c that is none: what lies in the queue is thrown away before each question. The late
  * reply that comes behind that is taken all the same. */
+#include "FreeRTOS.h"
+
+#define PATIENCE pdMS_TO_TICKS(20)
+
 /* rdbg:
  * cores 2
  * const TYPE 0x54

@@ -4,6 +4,7 @@ from typing import Dict, Iterator, List, Mapping, NamedTuple, Optional, Sequence
 from rdbg.fault import Fault
 from rdbg.from_c.calls import TEMPLATES, Block, Call, blocks, calls_in, made_by
 from rdbg.from_c.comparing import Comparing, Model, fault
+from rdbg.from_c.headers import of_headers
 from rdbg.from_c.lexer import pieces
 from rdbg.from_c.lines import SKIP, Line, lines_of, rows_alone
 from rdbg.from_c.said import Said, first_of, said, shown
@@ -192,12 +193,12 @@ def differing_consts(lines: Sequence[Line], model: Model) -> Iterator[Fault]:
                 yield fault(line.place, f"const {name} is {known}, and {own} in the C")
 
 
-def drifts(text: str, names: Set[str], known: Mapping[str, int]) -> List[Fault]:
+def drifts(path: str, text: str, names: Set[str], known: Mapping[str, int]) -> List[Fault]:
     """Where a source and the model in its comments have gone apart, in the order of its lines.
     `names` are the model's tasks and objects, and `known` its consts."""
     found = [*pieces(text)]
     lines = lines_of(found)
-    model = Model(names, known, defined(found, known))
+    model = Model(names, known, defined([*found, *of_headers(path, found)], known))
     told = [*differing_consts(lines, model)]
     functions = blocks([it for it in found if it.is_code])
     source = Source(lines, rows_alone(found), {it.name: it for it in functions})
