@@ -69,7 +69,7 @@ CHOICES: Dict[str, Dict[str, str]] = {
     "CLR": {"pdTRUE": "clear", "pdFALSE": "keep"},
     "TAKE": {"pdTRUE": "clear", "pdFALSE": "dec"},
 }
-VALUES, NAMES, TIME = ("V", "T"), ("Q", "K"), "T"
+VALUES, NAMES = ("V", "T"), ("Q", "K")
 # A name that is none of a part of something.
 NAME = re.compile(r"(?<![\w.>])[A-Za-z_]\w*")
 # So many calls are gone into at the most from one.

@@ -28,11 +28,6 @@ class Line(NamedTuple):
         return self.place.line
 
 
-def is_c(path: str) -> bool:
-    """Whether a file is a C source, by its name."""
-    return path.endswith(ENDING)
-
-
 def bodies(piece: Piece) -> Iterator[Line]:
     """The lines of a model in a comment, if it has any."""
     mark = MARK.match(piece.text)
