@@ -9,7 +9,7 @@ import tempfile
 import unittest
 from typing import List, Tuple
 
-from rdbg import instructions, kinds
+from rdbg import instructions
 from rdbg.adapter.sources import Text
 from rdbg.companions import check, make, trace
 from rdbg.failure import Failure
@@ -88,14 +88,11 @@ end
 """
 
 
-def told(text: str) -> List[str]:
+def told(text: str, path: str = "a.c") -> List[str]:
     """What is told of a source."""
-    found = source("a.c", text.encode())
+    found = source(path, text.encode())
     assert found.application is not None, found.faults
-    names = {it.name for kind in kinds.ALL for it in found.application.of(kind)}
-    named = found.named()
-    assert named is not None
-    return [str(it) for it in drifts(found.text, names, named.constants)]
+    return [*map(str, check.drifts(found))]
 
 
 def in_task(body: str, objects: str = "") -> str:
@@ -270,6 +267,20 @@ class Drift(unittest.TestCase):
         (said,) = told(named.replace("push(job)", "pull(job)"))
         self.assertIn("no call of push stands beside it", said)
 
+    def test_several_of_one_call(self) -> None:
+        body = (
+            "  /* rdbg(xQueueReceive):\n   * recv q 5\n   * if r0 = 1\n   *   recv other 5\n"
+            "   * end\n   */\n  xQueueReceive(ready, &x, 5);"
+        )
+        other = "queue other length 1 item 1"
+        self.assertEqual(told(in_task(body, other)), [])
+        found = told(in_task(body.replace("&x, 5", "&x, 6"), other))
+        self.assertEqual(["10:6", "12:8"], [it.partition(": ")[0] for it in found])
+        self.assertTrue(all(it.endswith("has 6 as its block time") for it in found), found)
+        alone = told(in_task(body.replace("xQueueReceive(ready", "gone(ready"), other))
+        self.assertTrue(all("no call of xQueueReceive stands beside it" in it for it in alone))
+        self.assertEqual(2, len(alone))
+
     def test_what_is_left_out(self) -> None:
         left = "  xTaskNotifyStateClear(NULL); // rdbg: skip"
         self.assertEqual(told(in_task(left)), [])
@@ -344,8 +355,155 @@ class Drift(unittest.TestCase):
             "#define",
             'extern "C" {\n' + FIRMWARE + "}",
         ):
-            drifts(text, set(), {})
+            drifts("a.c", text, set(), {})
         self.assertEqual(told('extern "C" {\n' + FIRMWARE + "}\n"), [])
+
+
+SHARED = """\
+static int get(uint8_t *to, TickType_t patience)
+{
+    xSemaphoreTake(m, portMAX_DELAY);
+    int done = xQueueReceive(q, to, patience);
+    xSemaphoreGive(m);
+    return done;
+}
+"""
+GET = """\
+  /* rdbg(get):
+   * take m max
+   * recv q 5
+   * give m
+   */
+  get(&x, 5);"""
+
+
+class Through(unittest.TestCase):
+    """The lines of what a function of the source calls stand beside the calls of it."""
+
+    def told(self, shared: str, body: str = GET) -> List[str]:
+        """What is told of a task that calls it."""
+        return told(shared + in_task(body, "mutex m"))
+
+    def test_nothing(self) -> None:
+        self.assertEqual([], self.told(SHARED))
+        self.assertEqual([], self.told("int get(void *to, int (*f)(int), int patience);" + SHARED))
+        twice = GET.replace("recv q 5\n", "recv q 5\n   * while r0\n   *   recv q 5\n   * end\n")
+        self.assertEqual([], self.told(SHARED, twice))
+
+    def test_a_call_taken_out(self) -> None:
+        (said,) = self.told(SHARED.replace("xSemaphoreGive(m);", ""))
+        self.assertEqual("19:6: give m: get makes no call of xSemaphoreGive or its like", said)
+
+    def test_a_call_come_in(self) -> None:
+        come = SHARED.replace("    return", "    xQueueReset(q);\n    return")
+        (said,) = self.told(come)
+        self.assertEqual(
+            "22:3: xQueueReset in line 6, which get calls, has no line here: // rdbg(get): qreset q",
+            said,
+        )
+        left = GET.replace("  get(&x", "  // rdbg(get): skip\n  get(&x")
+        self.assertEqual([], self.told(come, left))
+
+    def test_a_block_time_changed(self) -> None:
+        at = "18:6: recv q 5: xQueueReceive in line 4 has"
+        self.assertEqual(
+            [f"{at} 7 as its block time"], self.told(SHARED, GET.replace("&x, 5", "&x, 7"))
+        )
+        fixed = SHARED.replace("to, patience)", "to, 9)")
+        self.assertEqual([f"{at} 9 as its block time"], self.told(fixed))
+        for changed in ("patience = 9;", "patience -= 1;", "patience--;", "f(&patience);"):
+            body = SHARED.replace("    int done", f"    {changed}\n    int done")
+            self.assertEqual([], self.told(body, GET.replace("&x, 5", "&x, 7")))
+
+    def test_a_function_that_calls_another(self) -> None:
+        outer = "int outer(int t) { prepare(); return get(0, t); }\n"
+        lines = GET.replace("(get)", "(outer)").replace("get(&x, 5)", "outer(5)")
+        self.assertEqual([], self.told(SHARED + outer, lines))
+        self.assertEqual(1, len(self.told(SHARED + outer, lines.replace("outer(5)", "outer(6)"))))
+        inner = lines.replace("  /*", "  // rdbg(prepare): wait 1\n  /*")
+        self.assertEqual([], self.told(SHARED + outer, inner))
+
+    def test_functions_that_call_themselves(self) -> None:
+        again = SHARED.replace("return done", "return done ? get(to, patience) : other(to)")
+        self.assertEqual([], self.told(again + "int other(void *to) { return get(to, 5); }\n"))
+
+
+class Headers(unittest.TestCase):
+    """Numbers that headers of the source's own folder give a name to are compared."""
+
+    def setUp(self) -> None:
+        folder = tempfile.TemporaryDirectory()
+        self.addCleanup(folder.cleanup)
+        self.folder = pathlib.Path(folder.name)
+
+    def told(self, wait: str, include: str = '"config.h"', **headers: str) -> List[str]:
+        """What is told of a receive that waits for 10 ticks, and for this in C."""
+        for name, text in headers.items():
+            (self.folder / f"{name}.h").write_text(text)
+        text = f"#include {include}\n" + in_task(
+            f"  xQueueReceive(q, &x, {wait}); // rdbg: recv q 10"
+        )
+        return told(text, str(self.folder / "a.c"))
+
+    def test_numbers(self) -> None:
+        for text in (
+            "10",
+            "0x0AUL",
+            "(TickType_t)10",
+            "(1 << 3 | 2) /* ticks */",
+            "OTHER\n#define OTHER 10",
+        ):
+            self.assertEqual([], self.told("RX_WAIT", config=f"#define RX_WAIT {text}\n"))
+        (said,) = self.told("RX_WAIT", config="#define OTHER 12\n#define RX_WAIT (OTHER)\n")
+        self.assertEqual(
+            "10:43: recv q 10: xQueueReceive in line 10 has RX_WAIT as its block time, which is 12",
+            said,
+        )
+
+    def test_milliseconds(self) -> None:
+        for rate, text, value in (
+            ("1000", "pdMS_TO_TICKS(20)", "20"),
+            ("((TickType_t)100)", "(pdMS_TO_TICKS( (TickType_t)(5000) ))", "500"),
+            ("(100)", "pdMS_TO_TICKS(RX_MS)\n#define RX_MS 39", "3"),
+        ):
+            config = f"#define RX_WAIT {text}\n#define configTICK_RATE_HZ {rate}\n"
+            (said,) = self.told("RX_WAIT", config=config)
+            self.assertTrue(said.endswith(f"which is {value}"), said)
+            (said,) = self.told("pdMS_TO_TICKS(RX_WAIT)", config=config.replace(text, "90000"))
+            self.assertIn("pdMS_TO_TICKS(RX_WAIT) as its block time", said)
+
+    def test_the_configuration_of_the_kernel(self) -> None:
+        rate = "#define configTICK_RATE_HZ 100\n"
+        self.assertEqual([], self.told("pdMS_TO_TICKS(20)", '"FreeRTOS.h"'))
+        (said,) = self.told("pdMS_TO_TICKS(20)", '"FreeRTOS.h"', FreeRTOSConfig=rate)
+        self.assertTrue(said.endswith("which is 2"), said)
+
+    def test_headers_of_headers(self) -> None:
+        around = '#include "config.h"\n#define RX_WAIT 7\n'
+        (said,) = self.told("RX_WAIT", config='#include "waits.h"\n', waits=around)
+        self.assertTrue(said.endswith("which is 7"), said)
+
+    def test_what_cannot_be_known(self) -> None:
+        for text in (
+            "#define RX_WAIT pdMS_TO_TICKS(20)",
+            "#define RX_WAIT (cfg->wait)",
+            "#define RX_WAIT RX_WAIT",
+            "#if FAST\n#define RX_WAIT 1\n#else\n#define RX_WAIT 20\n#endif",
+            "#define RX_WAIT() 20",
+            "// #define RX_WAIT 20",
+        ):
+            self.assertEqual([], self.told("RX_WAIT", config=text), text)
+        there = "#define RX_WAIT 20\n"
+        for include in ("<config.h>", '"../config.h"', '"none.h"', '"."', '"\0"'):
+            self.assertEqual([], self.told("RX_WAIT", include, config=there), include)
+        self.assertEqual([], self.told("RX_WAIT", config=there + " " * 1_048_576))
+
+    def test_a_const_of_the_model(self) -> None:
+        (self.folder / "config.h").write_text("#define RX_WAIT 12\n")
+        text = '#include "config.h"\n' + in_task("", "const RX_WAIT 10")
+        self.assertEqual(
+            ["6:1: const RX_WAIT is 10, and 12 in the C"], told(text, str(self.folder / "a.c"))
+        )
 
 
 class Companions(unittest.TestCase):

@@ -11,8 +11,60 @@ from typing import Any, Dict, List
 from rdbg.reaching.asking import program
 from tests.hunts import said
 from tests.paths import COMPANION, EXAMPLES
+from tests.test_schema import jsonschema
 
+SCHEMA = json.loads((pathlib.Path(__file__).parent / "sarif.schema.json").read_text())
 MEETING, MENDED = EXAMPLES / "meeting.json", EXAMPLES / "meeting_mended.json"
+
+
+def faults(report: Any) -> List[str]:
+    """Where a report isn't as the schema has it."""
+    validator = jsonschema.Draft7Validator(SCHEMA)
+    return [f"{[*it.path]}: {it.message}" for it in validator.iter_errors(report)]
+
+
+def report_of(path: pathlib.Path) -> Dict[str, Any]:
+    """A report, which is as the schema has it."""
+    found: Dict[str, Any] = json.loads(path.read_text())
+    wrong = faults(found) if jsonschema else []
+    assert not wrong, wrong
+    for it in found["runs"][0]["results"]:
+        # (what the schema can't say: a level is of what has failed)
+        assert it["kind"] == "fail" or it["level"] == "none", it
+    return found
+
+
+@unittest.skipUnless(jsonschema, "the other interpreter has jsonschema")
+class Form(unittest.TestCase):
+    """The schema of the tests refuses what isn't SARIF."""
+
+    def test_what_it_refuses(self) -> None:
+        jsonschema.Draft7Validator.check_schema(SCHEMA)
+        place = {"artifactLocation": {"uri": "a.json"}, "region": {"startLine": 1}}
+        step = {"location": {"physicalLocation": place}}
+        result = {
+            "message": {"text": "so"},
+            "level": "error",
+            "locations": [step["location"]],
+            "codeFlows": [{"threadFlows": [{"locations": [step]}]}],
+        }
+        run = {"tool": {"driver": {"name": "rdbg"}}, "results": [result]}
+        right = {"version": "2.1.0", "runs": [run]}
+        self.assertEqual([], faults(right))
+        text = json.dumps(right)
+        for one, other in (
+            ('"2.1.0"', '"2.1"'),
+            ('"name"', '"title"'),
+            ('"startLine": 1', '"startLine": 0'),
+            ('"uri"', '"url"'),
+            ('"a.json"', '"a b.json"'),
+            ('"text"', '"said"'),
+            ('"level": "error"', '"level": "bad"'),
+            ('"message"', '"messages"'),
+            (json.dumps([step]), "[]"),
+            ('"threadFlows"', '"flows"'),
+        ):
+            self.assertNotEqual([], faults(json.loads(text.replace(one, other))), one)
 
 
 class Report(unittest.TestCase):
@@ -24,7 +76,7 @@ class Report(unittest.TestCase):
             path = pathlib.Path(folder) / "report.sarif"
             ran = said(*words, "--report", str(path))
             self.assertEqual(ran[0], status, ran)
-            report = json.loads(path.read_text())
+            report = report_of(path)
         self.assertEqual((report["version"], len(report["runs"])), ("2.1.0", 1))
         rules = [it["id"] for it in report["runs"][0]["tool"]["driver"]["rules"]]
         results: List[Dict[str, Any]] = report["runs"][0]["results"]
@@ -65,6 +117,14 @@ class Report(unittest.TestCase):
         results = self.results(1, str(MEETING), "asleep", "--all", "3")
         self.assertGreater(len(results), 1)
 
+    def test_a_name_with_signs(self) -> None:
+        with tempfile.TemporaryDirectory() as folder:
+            path = pathlib.Path(folder) / "a b#%1:ü.json"
+            path.write_bytes(MEETING.read_bytes())
+            (result,) = self.results(1, str(path), "asleep")
+        where = result["locations"][0]["physicalLocation"]["artifactLocation"]["uri"]
+        self.assertEqual("a%20b%23%251%3A%C3%BC.json", where.rpartition("/")[2])
+
     def test_where_it_can_not_be_written(self) -> None:
         ran = said(str(MEETING), "asleep", "--report", "/nowhere/report.sarif")
         self.assertEqual(ran[0], 2)
@@ -82,7 +142,7 @@ class Reach(unittest.TestCase):
                 asked, env={**os.environ, "RDBG_REACH": program()}, stdout=subprocess.PIPE
             )
             self.assertEqual(ran.returncode, status)
-            (result,) = json.loads(path.read_text())["runs"][0]["results"]
+            (result,) = report_of(path)["runs"][0]["results"]
         found: Dict[str, Any] = result
         return found
 

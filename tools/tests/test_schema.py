@@ -62,7 +62,7 @@ class Schema(unittest.TestCase):
     @unittest.skipIf(jsonschema, "this interpreter has jsonschema")
     def test_by_the_other_interpreter(self) -> None:
         self.assertNotIn(OTHER, os.environ, "jsonschema isn't there: install python3-jsonschema")
-        words = [DEBIAN, "-B", "-m", "unittest", "tests.test_schema"]
+        words = [DEBIAN, "-B", "-m", "unittest", "tests.test_schema", "tests.test_report"]
         done = subprocess.run(
             words,
             cwd=str(TOP / "tools"),

@@ -236,6 +236,25 @@ class Refused(InFolder):
         self.assertEqual([f"rdbg test: cannot write {self.folder}: Is a directory"], errors)
 
 
+# What an element of JUnit's XML has to have, what besides, and what may stand in it.
+SHAPES = {
+    "testsuites": ("", "name tests failures errors skipped time", "testsuite"),
+    "testsuite": ("name tests failures errors time", "skipped timestamp hostname", "testcase"),
+    "testcase": ("name classname time", "", "skipped error failure system-out system-err"),
+    "failure": ("", "message type", ""),
+    "error": ("", "message type", ""),
+    "system-out": ("", "", ""),
+}
+
+
+def misshapen(element: ElementTree.Element) -> str:
+    """What is wrong with an element, as build servers read it."""
+    needed, more, parts = (set(it.split()) for it in SHAPES[element.tag])
+    given, inner = {*element.keys()}, {it.tag for it in element}
+    wrong = (needed - given) | (given - needed - more) | (inner - parts)
+    return f"{element.tag}: {sorted(wrong)}" if wrong else ""
+
+
 class Report(InFolder):
     """JUnit's XML."""
 
@@ -245,7 +264,10 @@ class Report(InFolder):
         )
         path = os.path.join(self.folder, "report.xml")
         self.assertEqual(2, tested(self.folder, "--report", path)[0])
-        (suite,) = ElementTree.parse(path).getroot()
+        root = ElementTree.parse(path).getroot()
+        self.assertEqual("testsuites", root.tag)
+        self.assertEqual([], [it for it in map(misshapen, root.iter()) if it])
+        (suite,) = root
         counts = [suite.get(key) for key in ("tests", "failures", "errors")]
         self.assertEqual(["3", "1", "1"], counts)
         never, found, refused = suite

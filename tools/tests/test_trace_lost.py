@@ -15,8 +15,9 @@ class Rows(Traced):
 
     def test_the_row_is_marked(self) -> None:
         marked = f"{ROWS[7]}, loses 'at worker 1'"
-        status, lines, _ = self.traced(RUN, "--lost", "at worker 1")
-        self.assertEqual((0, [*ROWS[:7], marked, ROWS[8], SAID]), (status, lines[1:]))
+        for question in (("--lost", "at worker 1"), ("--ask", "lost at worker 1")):
+            status, lines, _ = self.traced(RUN, *question)
+            self.assertEqual((0, [*ROWS[:7], marked, ROWS[8], SAID]), (status, lines[1:]))
         for words, rows in (
             (("--from", "8", "--to", "8"), [marked]),
             (("--from", "9"), [ROWS[8]]),
@@ -48,6 +49,8 @@ class Rows(Traced):
             (("--lost", "faild"), "--lost: word 1, 'faild': .*; `failed` would be right"),
             (("--lost", "sleeps worker"), "--lost: the search through orders has no word"),
             (("--lost", "failed", "--events", "x"), "--lost is for rows or --page of a run that"),
+            (("--ask", "lost faild"), "--lost: word 1, 'faild'"),
+            (("--ask", "reach failed"), "--ask is for a page: --page OUT.html; of rows it takes"),
         ):
             with self.subTest(words):
                 status, lines, errors = self.traced(RUN, *words)
@@ -66,9 +69,8 @@ class Page(Shown):
         plain = self.reader.picture()
         self.assertTrue(self.browser.value("document.querySelector('#loss').hidden"))
         self.show(RUN, "--lost", "at worker 1", link="#3")
-        self.assertEqual("lost at 8", self.browser.text("#to-loss"))
-        said = " ".join(f"lost at 8 at worker 1: {SAID}".split())
-        self.assertEqual(said, " ".join(self.browser.text("#loss").split()))
+        said = self.browser.text("#asked p")
+        self.assertIn("lost at worker 1? Lost at 8: from place 8 on no order", said)
         label = self.browser.value("document.querySelector('#canvas').getAttribute('aria-label')")
         self.assertTrue(label.endswith("at 3; lost at 8"), label)
         self.assertNotEqual(plain, self.reader.picture())
@@ -78,10 +80,11 @@ class Page(Shown):
 
     def test_what_wasnt_lost_is_said(self) -> None:
         self.show(RUN[:3], "--lost", "at worker 1")
-        self.assertIn("at worker 1: still: tick; step 0", self.browser.text("#loss"))
-        self.assertTrue(self.browser.value("document.querySelector('#to-loss').hidden"))
+        said = self.browser.text("#asked p")
+        self.assertIn("Still: from the last place of the run an order leads there.", said)
+        place = self.reader.place()
         self.browser.key("x")
-        self.assertEqual(0, self.reader.place())
+        self.assertEqual(place, self.reader.place())
 
 
 if __name__ == "__main__":

@@ -9,7 +9,31 @@
 #define LENGTH 4
 #define SILENCE 3               /* ticks; within a frame a byte comes at each */
 
-static StreamBufferHandle_t rx; /* xStreamBufferCreate(16, 1) */
+static StreamBufferHandle_t rx;
+
+/* rdbg:
+ * cores 2
+ * const LENGTH 4
+ * const SILENCE 3
+ * stream rx size 16 trigger 1
+ */
+
+// rdbg: task parser priority 2
+static void parser(void *unused)
+{
+    uint8_t frame[LENGTH];
+
+    for (;;) {                                                              // rdbg: loop
+        size_t count = xStreamBufferReceive(rx, frame, LENGTH, SILENCE);    // rdbg: sread rx LENGTH SILENCE
+        if (count > 0) {                                                    // rdbg: if r0
+            if (count < LENGTH) {                                           // rdbg: if r0 != LENGTH
+                discard(frame, count);          /* a broken frame */        // rdbg: discard: add r1 1
+            } else {                                                        // rdbg: else
+                accept(frame);                                              // rdbg: add r2 1
+            }                                                               // rdbg: end
+        }                                                                   // rdbg: end
+    }                                                                       // rdbg: end
+}
 
 void USART1_IRQHandler(void)
 {
@@ -20,22 +44,22 @@ void USART1_IRQHandler(void)
     portYIELD_FROM_ISR(woken);
 }
 
-static void parser(void *unused)
-{
-    uint8_t frame[LENGTH];
-
-    for (;;) {
-        size_t count = xStreamBufferReceive(rx, frame, LENGTH, SILENCE);
-        if (count > 0) {
-            if (count < LENGTH) {
-                discard(frame, count);          /* a broken frame */
-            } else {
-                accept(frame);
-            }
-        }
-    }
-}
-
+/* The interrupt can't write to a stream buffer in the model: a task of the highest priority with a core
+ * of its own does, byte by byte, until the host has its reply, and sends on. */
+/* rdbg: task uart priority 9
+ *     data 55
+ *     loop
+ *         wait 1
+ *         swrite rx 0
+ *         wait 1
+ *         swrite rx 0
+ *         wait 1
+ *         swrite rx 0
+ *         wait 1
+ *         swrite rx 0
+ *         wait 10
+ *     end
+ */
 void parser_start(void)
 {
     rx = xStreamBufferCreate(16, 1);

@@ -11,6 +11,19 @@
 static int16_t samples[2][SAMPLES];
 static TaskHandle_t dsp_task;
 
+/* A half is full every 10 ticks, each half every 20. Since interrupts can be off for as long
+ * (flash_erase), the second half's may come right behind the first one's, though never before it.
+ * Entry 1 isn't in the C: it counts the halves that are full and not filtered, so that a goal can speak
+ * of them. */
+/* rdbg:
+ * cores 1
+ * notes 3
+ * const FIRST 1 << 0
+ * const SECOND 1 << 1
+ * interrupt ping apart 20 times 3: notify dsp 0 1 set; notify dsp 1 0 inc
+ * interrupt pong after ping apart 20 times 3: notify dsp 0 2 set; notify dsp 1 0 inc
+ */
+
 void DMA1_Stream0_IRQHandler(void)
 {
     BaseType_t woken = pdFALSE;
@@ -26,18 +39,23 @@ void DMA1_Stream0_IRQHandler(void)
     portYIELD_FROM_ISR(woken);
 }
 
+// rdbg: task dsp priority 3
 static void dsp(void *unused)
 {
     uint32_t half;
 
-    for (;;) {
-        xTaskNotifyWait(0, UINT32_MAX, &half, portMAX_DELAY);
-        if (half & FIRST) {
+    for (;;) {                                                  // rdbg: loop
+        xTaskNotifyWait(0, UINT32_MAX, &half, portMAX_DELAY);   // rdbg: nwait 0 0 0xffffffff max
+        if (half & FIRST) {                                     // rdbg: if r1 & FIRST
+            // rdbg(filter): wait 3
+            // rdbg(filter): take 1 dec 0
             filter(samples[0]);             /* 1 to 3 ticks; a half takes 10 */
-        } else {
+        } else {                                                // rdbg: else
+            // rdbg(filter): wait 3
+            // rdbg(filter): take 1 dec 0
             filter(samples[1]);
-        }
-    }
+        }                                                       // rdbg: end
+    }                                                           // rdbg: end
 }
 
 /* Erases a page: interrupts are off for longer than a half takes. Both flags are up then, and the

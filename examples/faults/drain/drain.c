@@ -7,9 +7,16 @@
 #include "task.h"
 #include "capture.h"
 
-static QueueHandle_t samples;   /* xQueueCreate(4, sizeof(uint32_t)) */
+static QueueHandle_t samples;
 static TaskHandle_t logger_task;
 
+/* rdbg:
+ * cores 1
+ * queue samples length 4 item 4
+ */
+
+/* Eight times, since each time counts: an interrupt of any number would count for ever. */
+// rdbg: interrupt capture times 8: send samples 01020304; notify logger 0 0 inc
 void TIM2_IRQHandler(void)
 {
     BaseType_t woken = pdFALSE;
@@ -20,16 +27,19 @@ void TIM2_IRQHandler(void)
     portYIELD_FROM_ISR(woken);
 }
 
+// rdbg: task logger priority 1
 static void logger(void *unused)
 {
     uint32_t sample;
 
-    for (;;) {
-        ulTaskNotifyTake(pdTRUE, portMAX_DELAY);
-        while (xQueueReceive(samples, &sample, 0) == pdPASS) {
-            log_sample(sample);
-        }
-    }
+    for (;;) {                                                  // rdbg: loop
+        ulTaskNotifyTake(pdTRUE, portMAX_DELAY);                // rdbg: take 0 clear portMAX_DELAY
+        // rdbg: loop
+        while (xQueueReceive(samples, &sample, 0) == pdPASS) {  // rdbg: recv samples 0
+            // rdbg: if !r0 break
+            log_sample(sample);                                 // rdbg: add r1 1
+        }                                                       // rdbg: end
+    }                                                           // rdbg: end
 }
 
 void logger_start(void)

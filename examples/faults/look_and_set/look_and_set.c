@@ -9,6 +9,12 @@
 
 static EventGroupHandle_t bus;
 
+/* rdbg:
+ * cores 2
+ * const BUSY 1 << 0
+ * group bus
+ */
+
 static void with_bus(void (*transfer)(void))
 {
     while (xEventGroupGetBits(bus) & BUSY) {
@@ -19,20 +25,42 @@ static void with_bus(void (*transfer)(void))
     xEventGroupClearBits(bus, BUSY);
 }
 
+// rdbg: task sensor priority 2
 static void sensor(void *unused)
 {
-    for (;;) {
+    for (;;) {                  // rdbg: loop
+        /* rdbg(with_bus):
+         * gget bus
+         * while r0
+         *     wait 1
+         *     gget bus
+         * end
+         * gset bus BUSY
+         * transfer: set r1 1
+         * gclear bus BUSY
+         */
         with_bus(read_sensor);
-        vTaskDelay(2);
-    }
+        vTaskDelay(2);          // rdbg: wait 2
+    }                           // rdbg: end
 }
 
+// rdbg: task display priority 2
 static void display(void *unused)
 {
-    for (;;) {
+    for (;;) {                  // rdbg: loop
+        /* rdbg(with_bus):
+         * gget bus
+         * while r0
+         *     wait 1
+         *     gget bus
+         * end
+         * gset bus BUSY
+         * transfer: set r1 1
+         * gclear bus BUSY
+         */
         with_bus(write_display);
-        vTaskDelay(3);
-    }
+        vTaskDelay(3);          // rdbg: wait 3
+    }                           // rdbg: end
 }
 
 void bus_start(void)

@@ -9,6 +9,14 @@
 
 static EventGroupHandle_t flags;
 
+/* rdbg:
+ * cores 2
+ * notes 2
+ * const STOP 1 << 0
+ * const PERIOD 2
+ * group flags
+ */
+
 /* Whether all is to stop. */
 static BaseType_t stop_asked(TickType_t patience)
 {
@@ -16,29 +24,36 @@ static BaseType_t stop_asked(TickType_t patience)
     return (bits & STOP) != 0;
 }
 
+// rdbg: task pump priority 2
 static void pump(void *unused)
 {
-    while (!stop_asked(PERIOD)) {
-        drive_pump();
-    }
+    // rdbg: loop
+    // rdbg(stop_asked): gwait flags STOP any clear PERIOD
+    while (!stop_asked(PERIOD)) {       // rdbg: if r0 & STOP break
+        drive_pump();                   // rdbg: add r1 1
+    }                                   // rdbg: end
     pump_off();
-    vTaskDelete(NULL);
+    vTaskDelete(NULL);                  // rdbg: end task
 }
 
+// rdbg: task valve priority 2
 static void valve(void *unused)
 {
-    while (!stop_asked(PERIOD)) {
-        drive_valve();
-    }
+    // rdbg: loop
+    // rdbg(stop_asked): gwait flags STOP any clear PERIOD
+    while (!stop_asked(PERIOD)) {       // rdbg: if r0 & STOP break
+        drive_valve();                  // rdbg: add r1 1
+    }                                   // rdbg: end
     valve_off();
-    vTaskDelete(NULL);
+    vTaskDelete(NULL);                  // rdbg: end task
 }
 
+// rdbg: task supervisor priority 3
 static void supervisor(void *unused)
 {
-    vTaskDelay(3);              /* the run */
-    xEventGroupSetBits(flags, STOP);
-    vTaskDelete(NULL);
+    vTaskDelay(3);              /* the run */   // rdbg: wait 3
+    xEventGroupSetBits(flags, STOP);            // rdbg: gset flags STOP
+    vTaskDelete(NULL);                          // rdbg: end task
 }
 
 void drives_start(void)

@@ -9,6 +9,21 @@
 static StreamBufferHandle_t rx;
 static TaskHandle_t receiver_task;
 
+/* The interrupt can't write to a stream buffer in the model: a task of the highest priority with a core
+ * of its own does. Two bytes come, and then the line is silent. */
+/* rdbg:
+ * cores 3
+ * const STOP 1 << 0
+ * stream rx size 8 trigger 1
+ * task radio priority 9
+ *     wait 1
+ *     data 55
+ *     swrite rx 0
+ *     wait 1
+ *     swrite rx 0
+ *     end
+ */
+
 void RADIO_IRQHandler(void)
 {
     BaseType_t woken = pdFALSE;
@@ -18,29 +33,32 @@ void RADIO_IRQHandler(void)
     portYIELD_FROM_ISR(woken);
 }
 
+// rdbg: task receiver priority 2
 static void receiver(void *unused)
 {
     uint8_t bytes[8];
     uint32_t told;
 
-    for (;;) {
+    for (;;) {                                                  // rdbg: loop
+        // rdbg: sread rx 8 portMAX_DELAY
         size_t count = xStreamBufferReceive(rx, bytes, sizeof bytes, portMAX_DELAY);
         if (count > 0) {
             take_in(bytes, count);
         }
-        if (xTaskNotifyWait(0, STOP, &told, 0) == pdTRUE) {
-            break;
+        if (xTaskNotifyWait(0, STOP, &told, 0) == pdTRUE) {     // rdbg: nwait 0 0 STOP 0
+            break;                                              // rdbg: if r0 break
         }
-    }
+    }                                                           // rdbg: end
     radio_off();
-    vTaskDelete(NULL);
+    vTaskDelete(NULL);                                          // rdbg: end task
 }
 
+// rdbg: task control priority 2
 static void control(void *unused)
 {
-    vTaskDelay(2);
-    xTaskNotify(receiver_task, STOP, eSetBits);
-    vTaskDelete(NULL);
+    vTaskDelay(2);                                  // rdbg: wait 2
+    xTaskNotify(receiver_task, STOP, eSetBits);     // rdbg: notify receiver 0 STOP bits
+    vTaskDelete(NULL);                              // rdbg: end
 }
 
 void radio_start(void)

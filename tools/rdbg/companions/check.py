@@ -104,7 +104,7 @@ def drifts(found: Source) -> List[Fault]:
     from rdbg.from_c.drift import drifts as drifts_of
 
     names = {thing.name for kind in kinds.ALL for thing in found.application.of(kind)}
-    return drifts_of(found.text, names, named.constants)
+    return drifts_of(found.path, found.text, names, named.constants)
 
 
 def told_of(apart: Sequence[Fault]) -> str:

@@ -33,11 +33,6 @@ def parser() -> argparse.ArgumentParser:
         metavar="GOAL",
         help="rows of moves behind which it holds: 'count jobs > 0 and not runs worker'; as above",
     )
-    made.add_argument(
-        "--lost",
-        metavar="GOAL",
-        help="marks the move behind which it could come no more, in rows or in the page, and says it",
-    )
     made.add_argument("--from", dest="first", type=bounded(0), metavar="N", help="from place N on")
     made.add_argument("--to", dest="last", type=bounded(0), metavar="N", help="up to place N")
     made.add_argument(
@@ -68,15 +63,23 @@ def take_report(made: argparse.ArgumentParser) -> None:
         metavar="PLACE",
         help="of a page: where it opens, a number, or a goal that holds there",
     )
-    made.add_argument(
+    question = made.add_mutually_exclusive_group()
+    question.add_argument(
         "--ask",
         metavar="QUESTION",
         help="of a page: the question that it answers, 'lost GOAL', 'reach GOAL' or 'doomed GOAL'",
     )
+    question.add_argument(
+        "--lost",
+        dest="ask",
+        type="lost {}".format,
+        metavar="GOAL",
+        help="--ask 'lost GOAL', also of rows: at which move that was lost for good",
+    )
 
 
 # What is said of a page alone.
-OF_PAGES = ("title", "note", "at", "ask", "against")
+OF_PAGES = ("title", "note", "at", "against")
 
 
 def check_words(given: argparse.Namespace) -> None:
@@ -92,20 +95,30 @@ def check_words(given: argparse.Namespace) -> None:
     for name in OF_PAGES:
         if getattr(given, name) is not None and not given.page:
             raise Failure(f"--{name} is for a page: --page OUT.html", 2)
-    for name in ("ask", "against"):
-        if getattr(given, name) is not None and given.port is not None:
-            raise Failure(f"--{name} is of a run by its lines; --port takes none", 2)
+    if given.against is not None and given.port is not None:
+        raise Failure("--against is of a run by its lines; --port takes none", 2)
+    if given.ask is not None:
+        check_question(given)
     if given.note == "-" and given.port is None and given.commands in (None, "-"):
         raise Failure(
             "--note -: standard input is COMMANDS already; name a file for one of them", 2
         )
-    if given.lost is not None and (given.events or given.port is not None):
-        word = "--events" if given.events else "--port"
-        raise Failure(f"--lost is for rows or --page of a run that is told here, not {word}", 2)
     if given.events and given.page:
         raise Failure("--events or --page, one at a time", 2)
     if given.first is not None and given.last is not None and given.first > given.last:
         raise Failure(f"--from {given.first} lies behind --to {given.last}: no move is between", 2)
+
+
+def check_question(given: argparse.Namespace) -> None:
+    """Raises `Failure` where a question can't stand with the other words."""
+    is_lost = given.ask.startswith("lost ")
+    if is_lost and (given.events or given.port is not None):
+        word = "--events" if given.events else "--port"
+        raise Failure(f"--lost is for rows or --page of a run that is told here, not {word}", 2)
+    if not is_lost and not given.page:
+        raise Failure("--ask is for a page: --page OUT.html; of rows it takes 'lost GOAL' alone", 2)
+    if given.port is not None:
+        raise Failure("--ask is of a run by its lines; --port takes none", 2)
 
 
 def main(words: Sequence[str]) -> int:

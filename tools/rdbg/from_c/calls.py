@@ -1,6 +1,7 @@
 """FreeRTOS's calls as they stand in C: what a model says of each, which of its arguments that has,
 and where calls are found."""
-from typing import Dict, List, NamedTuple, Sequence, Tuple
+import re
+from typing import Dict, List, Mapping, NamedTuple, Sequence, Tuple
 
 from rdbg.from_c.lexer import WORD, Piece, joined
 from rdbg.tree import Place
@@ -68,7 +69,11 @@ CHOICES: Dict[str, Dict[str, str]] = {
     "CLR": {"pdTRUE": "clear", "pdFALSE": "keep"},
     "TAKE": {"pdTRUE": "clear", "pdFALSE": "dec"},
 }
-VALUES, NAMES, TIME = ("V", "T"), ("Q", "K"), "T"
+VALUES, NAMES = ("V", "T"), ("Q", "K")
+# A name that is none of a part of something.
+NAME = re.compile(r"(?<![\w.>])[A-Za-z_]\w*")
+# So many calls are gone into at the most from one.
+MOST_CALLS = 100
 
 
 class Operand(NamedTuple):
@@ -120,11 +125,13 @@ class Call(NamedTuple):
 
 class Block(NamedTuple):
     """What stands between the outermost braces of a function: its pieces, its first line, which is
-    the one of its name, and its last."""
+    the one of its name, and its last; its name, and its parameters as they are written."""
 
     pieces: Tuple[Piece, ...]
     begin: int
     end: int
+    name: str
+    parameters: Tuple[str, ...]
 
 
 def blocks(code: Sequence[Piece]) -> List[Block]:
@@ -133,22 +140,32 @@ def blocks(code: Sequence[Piece]) -> List[Block]:
     depth, head, inside = 0, 0, -1
     for at, piece in enumerate(code):
         if piece.text == "{":
-            before = code[at - 1].text if at else ""
-            if depth == 0 and before.startswith('"'):
+            last = code[at - 1].text if at else ""
+            if depth == 0 and last.startswith('"'):
                 head = at + 1  # (extern "C")
                 continue
             if depth == 0:
-                inside = at if before == ")" else -1
+                inside = at if last == ")" else -1
             depth += 1
         elif piece.text == "}" and depth:
             depth -= 1
             if depth == 0 and inside >= 0:
-                begin = code[head].place.line
-                found.append(Block(tuple(code[inside : at + 1]), begin, piece.end))
+                body, before = tuple(code[inside : at + 1]), code[head:inside]
+                found.append(Block(body, before[0].place.line, piece.end, *named(before)))
             head = at + 1 if depth == 0 else head
         elif piece.text == ";" and depth == 0:
             head = at + 1
     return found
+
+
+def named(head: Sequence[Piece]) -> Tuple[str, Tuple[str, ...]]:
+    """The name and the parameters of a function, by what stands before its braces."""
+    for at, piece in enumerate(head[:-1]):
+        if piece.kind == WORD and head[at + 1].text == "(":
+            given, end = arguments(head, at + 1)
+            if end == len(head) - 1:
+                return piece.text, given
+    return "", ()
 
 
 def arguments(code: Sequence[Piece], at: int) -> Tuple[Tuple[str, ...], int]:
@@ -176,4 +193,39 @@ def calls_in(code: Sequence[Piece]) -> List[Call]:
         if piece.kind == WORD and code[at + 1].text == "(":
             given, end = arguments(code, at + 1)
             found.append(Call(piece.text, given, piece.place, code[end].end))
+    return found
+
+
+def parameter(written: str) -> str:
+    """The name of a parameter."""
+    found = re.search(r"\(\*(\w+)\)|(\w+)[\[\]\w]*$", written)
+    return (found[1] or found[2]) if found else ""
+
+
+def kept(block: Block) -> List[str]:
+    """The names of a function's parameters; empty that of one which it may change."""
+    text = joined(block.pieces)
+    changed = r"\b{0}(?:[-+*/%|&^]|<<|>>)?=(?!=)|[(,]&{0}\b|\b{0}(?:--|\+\+)|(?:--|\+\+){0}\b"
+    names = map(parameter, block.parameters)
+    return ["" if re.search(changed.format(it), text) else it for it in names]
+
+
+def made_by(call: Call, functions: Mapping[str, Block]) -> List[Call]:
+    """The calls of FreeRTOS that a call of one of these functions makes, by itself and by others of
+    them, with what it is given in the place of its parameters."""
+    waiting, found = [call], []
+    for _ in range(MOST_CALLS):
+        if not waiting:
+            break
+        one = waiting.pop(0)
+        block = functions[one.name]
+        given = dict(zip(kept(block), one.arguments))
+        for it in calls_in(block.pieces):
+            put = (
+                NAME.sub(lambda name: given.get(name[0], name[0]), text) for text in it.arguments
+            )
+            if it.name in TEMPLATES:
+                found.append(it._replace(arguments=tuple(put)))
+            elif it.name in functions:
+                waiting.append(it._replace(arguments=tuple(put)))
     return found

@@ -2,7 +2,7 @@
 directives of the preprocessor are told apart from what is left, and words from signs."""
 import bisect
 import re
-from typing import Iterator, List, NamedTuple
+from typing import Iterator, NamedTuple, Sequence
 
 from rdbg.tree import Place
 
@@ -52,7 +52,7 @@ def pieces(text: str) -> Iterator[Piece]:
         yield Piece(found.lastgroup, found[0], places.of(found.start()), last)
 
 
-def joined(found: List[Piece]) -> str:
+def joined(found: Sequence[Piece]) -> str:
     """Pieces as one text, with a space between two words."""
     said = ""
     for piece in found:

@@ -1,6 +1,6 @@
 """The lines of a model that stand in the comments of a C source: `// rdbg: recv jobs 10`."""
 import re
-from typing import Dict, Iterator, List, NamedTuple, Sequence
+from typing import Dict, Iterator, List, NamedTuple, Sequence, Set
 
 from rdbg.from_c.lexer import COMMENT, Piece, pieces
 from rdbg.tree import Place
@@ -28,11 +28,6 @@ class Line(NamedTuple):
         return self.place.line
 
 
-def is_c(path: str) -> bool:
-    """Whether a file is a C source, by its name."""
-    return path.endswith(ENDING)
-
-
 def bodies(piece: Piece) -> Iterator[Line]:
     """The lines of a model in a comment, if it has any."""
     mark = MARK.match(piece.text)
@@ -52,11 +47,18 @@ def bodies(piece: Piece) -> Iterator[Line]:
             yield Line(body.strip(), place, mark[1] or "", False)
 
 
+def rows_alone(found: Sequence[Piece]) -> Set[int]:
+    """The rows of a source that have comments with lines of a model, and nothing of C."""
+    code = {line for it in found if it.is_code for line in (it.place.line, it.end)}
+    said = [it for it in found if it.kind == COMMENT and MARK.match(it.text)]
+    return {row for it in said for row in range(it.place.line, it.end + 1)} - code
+
+
 def lines_of(found: Sequence[Piece]) -> List[Line]:
     """The lines of a model in a source."""
-    code = {line for it in found if it.is_code for line in (it.place.line, it.end)}
+    alone = rows_alone(found)
     said = [line for it in found if it.kind == COMMENT for line in bodies(it)]
-    return [it._replace(is_alone=it.number not in code) for it in said]
+    return [it._replace(is_alone=it.number in alone) for it in said]
 
 
 def code_beside(text: str, found: Sequence[Piece]) -> Dict[int, str]:

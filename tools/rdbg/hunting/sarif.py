@@ -3,6 +3,7 @@ flow."""
 import json
 import os
 from typing import Any, Dict, Iterator, Optional, Sequence
+from urllib.parse import quote
 
 from rdbg.application import Application
 from rdbg.driving.parts import look_through
@@ -34,7 +35,7 @@ PASS, OPEN, FAIL = "pass", "open", "fail"
 
 def physical(path: str, place: Optional[Place]) -> Values:
     """A place in a file."""
-    uri = os.path.relpath(path).replace(os.sep, "/")
+    uri = quote(os.path.relpath(path).replace(os.sep, "/"))
     found: Values = {"artifactLocation": {"uri": uri}}
     if place is not None:
         found["region"] = {"startLine": place.line, "startColumn": place.column}

@@ -367,14 +367,8 @@ class Timeline {
     }
   }
 
-  // Flags, edits and trims, each a sign with its line where there is room. What goes on behind one is
-  // underlined.
+  // Flags, edits and trims, each a sign with its line where there is room.
   drawMarks(lane, y) {
-    const end = y + lane.height - 1;
-    for (const { place } of lane.marks.filter(({ goesOn }) => goesOn)) {
-      const x = Math.max(GUTTER, this.x(place));
-      this.painter.stroke(this.painter.accent, x, end, Math.max(x, this.width), end, [], 2);
-    }
     const marks = lane.marks.map(({ place }) => place);
     for (let at = lastUpTo(marks, Math.floor(this.left)); at < marks.length; at++) {
       const x = this.x(marks[at]);

@@ -1,44 +1,95 @@
-"""A question about a run that is traced, asked of the program that searches."""
-from typing import Optional, Sequence, Tuple
+"""A question about a run that is traced, asked of the program that searches: what a page has of the
+answer, and which row is that of the move that lost a goal."""
+import dataclasses
+from typing import List, NamedTuple, Optional, Sequence
 
 from rdbg import record
-from rdbg.driving.opening import as_read
-from rdbg.driving.parts import Told
+from rdbg.driving.parts import Told, move_to
 from rdbg.failure import Failure
 from rdbg.files.source import Source
 from rdbg.goals.reading import NoGoal
 from rdbg.goals.scope import Scope
 from rdbg.goals.words import for_search
-from rdbg.reaching.asking import LOST, QUESTIONS, REACH, Asker, Question
-from rdbg.reaching.handlers import handlers
+from rdbg.reaching import losing
+from rdbg.reaching.asking import LOST, QUESTIONS, REACH, Question
+from rdbg.reaching.behind import ask_behind
+from rdbg.reaching.said import Answer
 from rdbg.tracing.page.asked import Asked, asked
+from rdbg.tracing.table import Row
 
 
-def read(text: str, source: Source) -> Tuple[Question, str, str]:
-    """The question that words are, its goal as it is typed, and as the program has it. Raises
-    `Failure` where they are none."""
-    words = text.split()
-    question = QUESTIONS.get(words[0] if words else "", REACH)
+class Answered(NamedTuple):
+    """A question, its goal as it is typed, the answer, and the lines behind which it was asked."""
+
+    question: Question
+    goal: str
+    answer: Answer
+    lines: List[str]
+
+
+@dataclasses.dataclass(frozen=True)
+class Lost:
+    """What is answered of a goal that a run may have lost, in words; and the place of the move that
+    lost it, where one did."""
+
+    goal: str
+    said: str
+    place: Optional[int]
+
+    def mark(self, row: Row) -> Row:
+        """A row, or that of the move which lost it with this among its effects."""
+        if self.place is None or row.cells[0] != str(self.place) or record.TRIM in row.about:
+            return row
+        *cells, effects = row.cells
+        texts = [*([effects] if effects else []), f"loses '{self.goal}'"]
+        return dataclasses.replace(row, cells=(*cells, ", ".join(texts)))
+
+
+def question_of(text: str) -> Question:
+    """Which question these words are; `reach` where they are a goal alone."""
+    return QUESTIONS.get(text.partition(" ")[0], REACH)
+
+
+def option_of(text: str) -> str:
+    """By which option they are asked, in short."""
+    return f"--{LOST.word}" if question_of(text) is LOST else "--ask"
+
+
+def ask(text: str, source: Optional[Source], told: Sequence[Told]) -> Answered:
+    """The question that these words are, of a run or at its end, with the answer. Raises `Failure`
+    where it can't be asked."""
+    if source is None:
+        raise Failure(f"{option_of(text)} goes with a file: rdbg trace FILE", 2)
+    question, words = question_of(text), text.split()
     goal = words[words[:1] == [question.word] :]
     try:
-        return question, " ".join(goal), for_search(goal, Scope.of(source))[1]
+        _, words_asked = for_search(goal, Scope.of(source))
     except NoGoal as wrong:
-        raise Failure(f"--ask: {wrong}", 2) from None
-
-
-def ask(text: Optional[str], source: Optional[Source], told: Sequence[Told]) -> Optional[Asked]:
-    """The question that is asked of a run, or at its end, with the answer; none where none is.
-    Raises `Failure` where it can't be asked."""
-    if text is None:
-        return None
-    if source is None:
-        raise Failure("--ask goes with a file: rdbg trace FILE", 2)
-    question, goal, words = read(text, source)
+        raise Failure(f"{option_of(text)}: {wrong}", 2) from None
     # (`back` leads no further behind a trim, but what is there is the same)
     lines = [it.text for it in told if it.text.split(" ")[0] != record.TRIM]
-    more = [it.line() for it in handlers((), source.application)]
-    with as_read(source) as path:
-        answer = Asker(path).ask(words, begin=lines, more=more, question=question)
-    place = told[-1].place if told else 0
-    order = answer.order if question is LOST else answer.order[len(lines) :]
-    return asked(question, goal, answer, place, order)
+    return Answered(
+        question, " ".join(goal), ask_behind(source, lines, question, words_asked), lines
+    )
+
+
+def of_page(text: Optional[str], source: Optional[Source], told: Sequence[Told]) -> Optional[Asked]:
+    """The answer as a page has it; none where nothing is asked."""
+    if text is None:
+        return None
+    question, goal, answer, lines = ask(text, source, told)
+    is_whole = question is LOST and answer.order
+    order = (*lines, *answer.order) if is_whole else answer.order
+    return asked(question, goal, answer, told[-1].place if told else 0, order)
+
+
+def lost_in(text: Optional[str], source: Optional[Source], told: Sequence[Told]) -> Optional[Lost]:
+    """The answer to `lost GOAL` as rows have it; none where nothing is asked."""
+    if text is None:
+        return None
+    _, goal, answer, lines = ask(text, source, told)
+    assert source is not None
+    texts = losing.in_one(LOST, answer, lambda place: move_to(source, lines, place).row())
+    loss = losing.loss_of(answer)
+    said = f"{answer.head()}: {texts}" if texts else answer.head()
+    return Lost(goal, said, loss.place if loss is not None and loss.place else None)

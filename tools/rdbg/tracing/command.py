@@ -25,9 +25,8 @@ from rdbg.replies import Refused
 from rdbg.driving.opening import attach, builtin
 from rdbg.driving.target import Limits, Unable
 from rdbg.files.source import Source, standard_input
-from rdbg.tracing.asking import ask
+from rdbg.tracing.asking import lost_in, of_page
 from rdbg.tracing.events import Events
-from rdbg.tracing.losing import lost_in
 from rdbg.tracing.page import ways
 from rdbg.tracing.page.asked import Asked
 from rdbg.tracing.page.document import page
@@ -210,7 +209,6 @@ def trace_run(given: argparse.Namespace, source: Optional[Source]) -> None:
     whole = plan(run)
     tell_refused(whole, given.commands or STANDARD_INPUT)
     found = whole.within(given.first or 1, given.last)
-    lost = None if given.lost is None else lost_in(source, whole.told, given.lost)
     seen = with_progress(parts(run, found.pieces, processors()), found.count())
     if given.events:
         write_events(seen, found.trims, given.events)
@@ -218,14 +216,14 @@ def trace_run(given: argparse.Namespace, source: Optional[Source]) -> None:
     if given.page:
         way = ways.of_run(source, whole.told, given.moves, whole.base)
         seen = seen if found.pieces else iter([end_of(whole)])
-        asked = ask(given.ask, source, whole.told)
+        asked = of_page(given.ask, source, whole.told)
         beside = None if given.against is None else text_of(given.against)
         other = other_run(given, run, beside, application) if beside else None
         report = dataclasses.replace(report, asked=asked, source=source, lines=text, other=beside)
-        report = dataclasses.replace(report, lost=lost.values() if lost else None)
         recorder = Recorder(application)
         write_page(seen, found.trims, given.page, recorder, lambda _: way, report, other)
         return
+    lost = lost_in(given.ask, source, whole.told)
     told = [it.text for it in lines]
     table = Table.of(application, whole.done, whole.end.cores.tick, told)
     shown_rows = rows(moves_in(seen, goal), found.trims)

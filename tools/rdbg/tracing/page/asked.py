@@ -1,13 +1,11 @@
 """The question that a page answers: how it was asked, what was answered, in words, and where that is
 seen in the run."""
 import dataclasses
-import re
 from typing import Dict, Optional, Sequence, Tuple
 
 from rdbg.reaching.asking import DOOMED, LOST, Question
+from rdbg.reaching.losing import loss_of
 from rdbg.reaching.said import Answer, Kind
-
-LOST_AT = re.compile(r"lost at (\d+)", re.ASCII)
 
 
 @dataclasses.dataclass(frozen=True)
@@ -27,12 +25,6 @@ class Asked:
         return dataclasses.asdict(self)
 
 
-def lost_in(answer: Answer) -> Optional[int]:
-    """The place at which a run lost a goal, if it did."""
-    found = LOST_AT.fullmatch(answer.title)
-    return int(found[1]) if found else None
-
-
 def untold(answer: Answer) -> str:
     """What is said where it can't be told."""
     why = f": {answer.why}" if answer.why else ""
@@ -41,16 +33,16 @@ def untold(answer: Answer) -> str:
 
 def of_loss(answer: Answer) -> str:
     """What is said of a goal that a run may have lost."""
-    lost = lost_in(answer)
+    loss = loss_of(answer)
     if answer.kind is Kind.UNTOLD:
         return untold(answer)
-    if lost is None:
+    if loss is None:
         return "Still: from the last place of the run an order leads there."
     if not answer.order:
-        return f"From no place of the run an order, of whatever length, leads there: {lost} is its first."
+        return f"From no place of the run an order, of whatever length, leads there: {loss.place} is its first."
     return (
-        f"Lost at {lost}: from place {lost} on no order, of whatever length, leads there;"
-        f" from place {lost - 1} one does."
+        f"Lost at {loss.place}: from place {loss.place} on no order, of whatever length, leads there;"
+        f" from place {loss.before} one does."
     )
 
 
@@ -84,7 +76,8 @@ def asked(
     """A question about a goal, asked at a place, or of the run up to there, with what was answered.
     The order of the answer is shown where it isn't the run of the page, which leads to the place.
     """
-    lost = lost_in(answer) if question is LOST else None
+    loss = loss_of(answer) if question is LOST else None
+    lost = loss.place if loss else None
     shown = (
         f"an order from place {place}" if order else f"the order of this page, to place {place},"
     )

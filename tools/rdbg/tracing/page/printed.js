@@ -49,7 +49,7 @@ class Printed {
   // The places that are printed: those that are marked, else the one that is shown.
   places() {
     const { bookmarks, report, place } = this.page;
-    const marked = [...report.flags.map((it) => ({ place: it.place, word: "no return" }))];
+    const marked = report.lost === null ? [] : [{ place: report.lost, word: "no return" }];
     const all = [...marked, ...bookmarks.list].sort((one, other) => one.place - other.place);
     return all.length ? all : [{ place, word: "" }];
   }

@@ -34,7 +34,8 @@ class ReportPanel {
     offerText(byId("application"), `Application: ${application?.name}${given}`, application);
     offerText(byId("lines"), `Command lines: ${lines?.name}`, lines);
     offerText(byId("other-lines"), `Command lines of the other run: ${other?.name}`, other);
-    this.lost = asked ? asked.lost : null;
+    // (place 0 is of no move)
+    this.lost = asked?.lost || null;
     if (asked) this.showAsked(asked, go);
   }
 
@@ -60,11 +61,6 @@ class ReportPanel {
     });
     byId("order").hidden = !order.length;
     byId("order").querySelector("pre").textContent = order.join("\n");
-  }
-
-  // What lanes mark.
-  get flags() {
-    return this.lost === null ? [] : [{ place: this.lost, text: "x no return", goesOn: true }];
   }
 
   // What there is to say of a place besides.

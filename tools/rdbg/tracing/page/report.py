@@ -29,8 +29,8 @@ class Text:
 class Report:
     """What is said beside a run: a title and a note in Markdown by whoever makes the page, the place
     at which it opens, by number or as the first where a goal holds, the question that it answers,
-    the application, the lines, those of another run beside it, where `--lost` found that a goal was
-    lost, and the port at which it was done."""
+    the application, the lines, those of another run beside it, and the port at which it was done.
+    """
 
     title: str = ""
     note: str = ""
@@ -39,7 +39,6 @@ class Report:
     source: Optional[Source] = None
     lines: Optional[Text] = None
     other: Optional[Text] = None
-    lost: Optional[Dict[str, object]] = None
     port: Optional[int] = None
 
     def note_as_html(self) -> str:
@@ -60,7 +59,6 @@ class Report:
             "application": application,
             "consts": consts,
             "lines": named(self.lines, "run.commands") if self.lines else None,
-            "lost": self.lost,
             "other": named(self.other) if self.other else None,
         }
 

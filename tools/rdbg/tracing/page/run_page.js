@@ -21,7 +21,7 @@ class RunPage extends Viewer {
     byId("title").textContent = report.title || title;
     this.begin();
     if (report.title) byId("about").textContent = `${title}; ${byId("about").textContent}`;
-    if (report.lost) this.setLost(report.lost.place, report.lost.words);
+    this.setLost(this.report.lost, "");
     this.takeLink(report.at ?? shown.first);
   }
 
@@ -74,7 +74,7 @@ class RunPage extends Viewer {
 
   changeMarks() {
     const found = this.beside ? this.beside.flags : [];
-    const flags = [...this.report.flags, ...found, ...this.bookmarks.flags];
+    const flags = [...found, ...this.bookmarks.flags];
     this.timeline.setFlags(flags.sort((one, other) => one.place - other.place));
     this.again();
   }
