@@ -48,8 +48,9 @@ class Shell:
         self.displays: Dict[int, str] = {}
         self.temporary: Dict[int, str] = {}
         self._displayed: Optional[Tuple[Target, int]] = None
-        # Whether the last line was refused, the files that are at work, and whether a first one is.
-        self.is_refused = self.is_starting = False
+        # Whether the last line was refused, or stopped; the files that are at work, and whether one is
+        # with which a prompt begins.
+        self.is_refused = self.is_stopped = self.is_starting = False
         self.sourced: List[str] = []
         self.saved = Saved()
         # The pace of runs, and the interrupts that come in them by themselves.
@@ -128,6 +129,7 @@ class Shell:
 
     def stopped(self, where: str) -> None:
         """Says that Ctrl-C ended something, and where the target is."""
+        self.is_refused = self.is_stopped = True
         self._wipe()
         if self.is_terminal:
             print()  # (behind the ^C of the terminal)
@@ -183,7 +185,7 @@ class Shell:
     def do(self, stripped: str, words: Sequence[str]) -> None:
         """Does a line: one of rdbg's as it is, or a word of sh's own; and says what is displayed
         where that has moved the target."""
-        self.is_refused, self.asked = False, ""
+        self.is_refused, self.is_stopped, self.asked = False, False, ""
         there = self.target, self.target.place
         self._do(stripped, words)
         self.notice()
@@ -210,7 +212,6 @@ class Shell:
             self.is_refused = True
             self.say(self.in_its_names(str(unable)))
         except Interrupted:
-            self.is_refused = True
             self.stopped(f"at {self.target.place}")
         except Refused as refused:
             self.is_refused = True
@@ -246,7 +247,6 @@ class Shell:
         try:
             reply = self._reply(command, text)
         except Interrupted:
-            self.is_refused = True
             self.stopped(f"at {self.target.place}")
             self.after(place, before)
             return False
