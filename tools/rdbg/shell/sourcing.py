@@ -21,7 +21,7 @@ def source(shell: "Shell", words: Sequence[str]) -> None:
         raise Unable("source which file? `source lines.rdbg`; its name has no spaces")
     try:
         with trying(f"read {words[0]}"):
-            content = pathlib.Path(words[0]).read_bytes()
+            content = pathlib.Path(os.path.expanduser(words[0])).read_bytes()
     except (Failure, ValueError) as failure:
         raise Unable(str(failure)) from None
     do_all(shell, words[0], content)

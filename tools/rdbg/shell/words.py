@@ -76,7 +76,7 @@ EXPRESSIONS = (
     "EXPR is a part of a task (r0 to r7, pc, data, phase, notes), by itself of the tasks on the cores;\n"
     "a name; a goal, which holds or fails; or is computed: amounts as in conditions (count jobs), or\n"
     "short (jobs.count, worker.r0), and numbers, with + - * / % & | ^ << >> ( ) and = != < <= > >=.\n"
-    "Numbers are whole, below 0 too, and no size is too large."
+    "Numbers are whole, of any size, below 0 too."
 )
 SOURCE = (
     "It ends at the first line that is refused. Before the first line that is typed, the file\n"
