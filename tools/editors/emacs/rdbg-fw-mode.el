@@ -6,7 +6,6 @@
 ;;; Code:
 
 (require 'flymake)
-(require 'json)
 
 (defun rdbg--starts-p (path)
   "Say whether PATH is a file that can be started, and no folder."
@@ -19,7 +18,7 @@
     (cond ((rdbg--starts-p checkout) checkout)
           ((rdbg--starts-p installed) installed)
           (t "rdbg")))
-  "The file that starts rdbg: of the checkout or the installation that this one is of.")
+  "The file that starts rdbg: of the checkout or installation that this is of.")
 
 (defconst rdbg-fw-lines
   '("cores" "notes" "tick" "profile" "queue" "stream" "message" "group" "semaphore" "mutex" "task"
@@ -77,7 +76,7 @@
   "A const of C is no comment.")
 
 (defun rdbg-fw--depth ()
-  "How many blocks are open where point is, at the beginning of a line; nil outside of a task."
+  "How many blocks are open at this line; nil outside of a task."
   (save-excursion
     (let ((end (point)) (depth 0))
       (when (re-search-backward "^[ \t]*task\\_>" nil t)
