@@ -60,6 +60,14 @@
       (cl-letf (((symbol-function 'read-string) (lambda (&rest _) condition)))
         (dap-breakpoint-condition buffer-file-name (dap--get-breakpoint-at-point))))))
 
+(defun drive-log (text message)
+  "Set a log point where TEXT stands, which says MESSAGE."
+  (save-excursion
+    (drive-at text)
+    (dap-breakpoint-add)
+    (cl-letf (((symbol-function 'read-string) (lambda (&rest _) message)))
+      (dap-breakpoint-log-message buffer-file-name (dap--get-breakpoint-at-point)))))
+
 (defun drive-launch (&rest more)
   "Debug the file of this buffer, with MORE arguments of launch."
   (dap-debug (append more (list :type "rdbg" :request "launch" :name "rdbg")))
@@ -167,6 +175,14 @@
   "Print the output so far."
   (drive-say "%s" (with-current-buffer (dap--debug-session-output-buffer (drive-session))
                     (string-trim (buffer-string)))))
+
+(defun drive-marks ()
+  "Print the lines behind which tasks are shown, once they are."
+  (drive-until (lambda () rdbg-dap--marks))
+  (dolist (mark (seq-sort-by #'overlay-start #'< rdbg-dap--marks))
+    (with-current-buffer (overlay-buffer mark)
+      (drive-say "%s%s" (string-trim (buffer-substring (overlay-start mark) (overlay-end mark)))
+                 (overlay-get mark 'after-string)))))
 
 (defun drive-end ()
   "Disconnect, and wait for the end."

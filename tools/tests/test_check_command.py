@@ -1,6 +1,7 @@
 """`rdbg check`: its lines, its words and its status."""
 import contextlib
 import io
+import json
 import os
 import pathlib
 import subprocess
@@ -50,6 +51,24 @@ class Command(unittest.TestCase):
     def test_a_file_that_is_refused(self) -> None:
         last = "wrong.json: refused as L3 Limit; 2 faults"
         self.assertEqual((1, [FIRST, SECOND, last], []), self.run_on("wrong.json"))
+
+    def test_as_json(self) -> None:
+        twice = LOST.replace('"cores"', '"cores": 1, "cores"')
+        pathlib.Path("twice.json").write_text(twice)
+        status, output, errors = self.run_on("--json", "wrong.json", "none.json", "twice.json")
+        self.assertEqual((status, len(errors)), (2, 1))
+        wrong, accepted = json.loads("\n".join(output))["files"]
+        self.assertEqual(
+            [f"wrong.json:{it['line']}:{it['column']}: {it['message']}" for it in wrong["faults"]],
+            [FIRST, SECOND],
+        )
+        self.assertEqual([it["kind"] for it in wrong["faults"]], ["L3 Limit", "L5 Instr"])
+        self.assertEqual(wrong["verdict"], "refused as L3 Limit; 2 faults")
+        self.assertEqual((wrong["accepted"], accepted["accepted"]), (False, True))
+        self.assertEqual([it["severity"] for it in accepted["faults"]], ["note"])
+        self.assertTrue(accepted["faults"][0]["message"].startswith('the key "cores"'))
+        _, output, _ = self.run_on("--json", "--name", "a.fw", "-", given="cores 0\n")
+        self.assertEqual(json.loads("\n".join(output))["files"][0]["file"], "a.fw")
 
     def test_the_first_fault_alone(self) -> None:
         self.assertEqual((1, [FIRST], []), self.run_on("--first", "wrong.json"))

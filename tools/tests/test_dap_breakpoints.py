@@ -116,7 +116,8 @@ class Lines(Held):
                 ({"condition": "reg maker 9 = 1"}, "a register is wanted there, 0 to 7"),
                 ({"hitCondition": "often"}, "'often' is no number of hits"),
                 ({"hitCondition": "0"}, "'0' is no number of hits"),
-                ({"logMessage": "here"}, "log messages aren't done"),
+                ({"logMessage": "{maker.r9}"}, "{maker.r9} is no register, part of a task"),
+                ({"logMessage": "{count job + 1}"}, "the name of a queue is wanted there"),
             ):
                 found = client.lines(self.file, 14, **more)[0]
                 self.assertFalse(found["verified"])

@@ -12,6 +12,7 @@ from typing import List, Sequence, Tuple
 
 from rdbg.client import Session
 from tests.paths import EXAMPLES
+from tests.test_dap_breakpoints import LOOP
 from tests.test_shell_port import server
 
 DRIVER = pathlib.Path(__file__).with_name("dap_driver.el")
@@ -286,6 +287,27 @@ class Sessions(Emacs):
             "breakpoint | at 16: poller comes to 0, count jobs = 0",
             "entry | at 0: the start",
         )
+
+    def test_log_points_and_where_other_tasks_stand(self) -> None:
+        with tempfile.TemporaryDirectory() as folder:
+            file = pathlib.Path(folder) / "loop.fw"
+            file.write_text(LOOP)
+            said = driven(
+                """
+(drive-log "add r2 1" "log {r2} of {jobs.count + r2}")
+(drive-launch :limit 20)
+(drive-step "taker")
+(drive-step "maker")
+(drive-marks)
+(drive-continue)
+(drive-output)
+""",
+                str(file),
+            )
+        marks = [line for line in said if "  < " in line]
+        self.assertEqual(marks, ["recv(jobs, portMAX_DELAY);  < taker: waits recv:jobs"])
+        logs = [line for line in said if line.startswith("log")]
+        self.assertEqual(logs[:2], ["log 0 of 0", "log 1 of 1"])
 
 
 class Attached(Emacs):

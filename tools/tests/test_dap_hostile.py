@@ -306,7 +306,8 @@ class Arguments(Held):
         ]
         keys = ["threadId", "frameId", "variablesReference", "name", "value", "source", "line"]
         keys += ["breakpoints", "filters", "expression", "text", "column", "targetId", "start"]
-        commands = sorted(set(REQUESTS) - {"disconnect", "restart", "launch", "attach"})
+        ending = {"disconnect", "terminate", "restart", "launch", "attach"}
+        commands = sorted(set(REQUESTS) - ending)
         with editor() as client:
             client.begin(LOST, limit=50)
             for _ in range(250):

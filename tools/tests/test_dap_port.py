@@ -57,7 +57,9 @@ class Attached(Held):
             self.assertTrue(offered["supportsRestartRequest"])
             client.ask("attach", port=port, program=str(LOST))
             told = client.event("capabilities")["capabilities"]
-            self.assertEqual(told, {"supportsRestartRequest": False})
+            off = {"supportsRestartRequest": False, "supportsTerminateRequest": False}
+            self.assertEqual(told, off)
+            self.assertIn("at a port nothing is ended", client.refused("terminate"))
             client.stopped("configurationDone")
             other.tell("forward 5")
             arguments: List[Message] = [{}, {"arguments": {"program": str(LOST)}}]

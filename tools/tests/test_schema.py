@@ -4,14 +4,19 @@ as far as a schema can say.
 The validator is jsonschema, of Debian's package python3-jsonschema: where this interpreter hasn't
 got it, the tests are run by the one that Debian's packages are for.
 """
+import contextlib
 import importlib
+import io
 import json
 import os
+import pathlib
 import subprocess
+import tempfile
 import unittest
 from typing import Any, List
 
 from rdbg import schema
+from rdbg.companions import check
 from tests import broken
 from tests.paths import DOCS, TOP
 from tests.test_check_agrees import ACCEPTED, UNREADABLE, check_says
@@ -26,7 +31,7 @@ def module(name: str) -> Any:
 
 
 jsonschema = module("jsonschema")
-FILE = DOCS / "application.schema.json"
+FILE, CHECKED = DOCS / "application.schema.json", DOCS / "check.schema.json"
 DEBIAN = "/usr/bin/python3"
 OTHER = "RDBG_OTHER_PYTHON"
 COUNT = 800
@@ -90,6 +95,19 @@ class Validator(unittest.TestCase):
     def test_accepts_each_application(self) -> None:
         refused = [path.name for path in broken.sources() if not self.accepts(path.read_bytes())]
         self.assertEqual([], refused)
+
+    def test_what_check_prints(self) -> None:
+        found = json.loads(CHECKED.read_text())
+        jsonschema.Draft7Validator.check_schema(found)
+        said = io.StringIO()
+        with tempfile.TemporaryDirectory() as folder, contextlib.redirect_stdout(said):
+            paths = [os.path.join(folder, f"{at}.json") for at in range(COUNT // 10)]
+            for path, content in zip(paths, broken.files(len(paths))):
+                pathlib.Path(path).write_bytes(content)
+            check.main(["--json", *paths, *map(str, broken.sources())])
+        printed = json.loads(said.getvalue())
+        self.assertGreater(len(printed["files"]), COUNT // 10)
+        jsonschema.Draft7Validator(found).validate(printed)
 
     def test_says_what_rdbg_says_of_broken_files(self) -> None:
         wrong: List[bytes] = []

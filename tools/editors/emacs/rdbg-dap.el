@@ -7,6 +7,9 @@
 
 (require 'dap-mode)
 (require 'dap-ui)
+(require 'rdbg-fw-mode
+         (expand-file-name "rdbg-fw-mode.el"
+                           (file-name-directory (or load-file-name buffer-file-name))))
 
 ;; (lsp-treemacs asks for it, and the treemacs of some versions, as Debian's, doesn't have it)
 (defvar treemacs-text-scale nil)
@@ -14,19 +17,6 @@
 ;; (in a terminal dap-mode shows no breakpoints by itself)
 (face-spec-set 'dap-ui-verified-breakpoint-face '((((type tty)) :foreground "red")))
 (face-spec-set 'dap-ui-pending-breakpoint-face '((((type tty)) :foreground "red")))
-
-(defun rdbg-dap--starts-p (path)
-  "Say whether PATH is a file that can be started, and no folder."
-  (and (file-regular-p path) (file-executable-p path)))
-
-(defvar rdbg-program
-  (let* ((here (file-name-directory (file-truename (or load-file-name buffer-file-name))))
-         (checkout (expand-file-name "../../../rdbg" here))
-         (installed (expand-file-name "../../../../bin/rdbg" here)))
-    (cond ((rdbg-dap--starts-p checkout) checkout)
-          ((rdbg-dap--starts-p installed) installed)
-          (t "rdbg")))
-  "The file that starts rdbg: of the checkout or the installation that this one is of.")
 
 (defun rdbg-dap--populate (conf)
   "Fill in what CONF leaves open: how rdbg is started, and the file of this buffer."
@@ -49,6 +39,46 @@
 
 (dap-register-debug-template
  "rdbg: a port" (list :type "rdbg" :request "attach" :name "rdbg at a port"))
+
+(defvar rdbg-dap--marks nil "What says at which line each task stands.")
+
+(defun rdbg-dap--unmark (&rest _)
+  "Say no more where tasks stand."
+  (mapc #'delete-overlay rdbg-dap--marks)
+  (setq rdbg-dap--marks nil))
+
+(defun rdbg-dap--mark (session answer)
+  "Say behind lines which tasks stand there, by ANSWER to threads, but for the chosen one of SESSION."
+  (rdbg-dap--unmark)
+  (let* ((frame (dap--debug-session-active-frame session))
+         (source (and frame (gethash "source" frame)))
+         (path (and source (gethash "path" source)))
+         (buffer (and path (find-buffer-visiting path))))
+    (when buffer
+      (with-current-buffer buffer
+        (seq-doseq (thread (gethash "threads" (gethash "body" answer)))
+          (let ((name (gethash "name" thread)))
+            (when (and (not (eq (gethash "id" thread) (dap--debug-session-thread-id session)))
+                       (string-match "\\`\\(.*\\), line \\([0-9]+\\)\\'" name))
+              (save-excursion
+                (goto-char (point-min))
+                (forward-line (1- (string-to-number (match-string 2 name))))
+                (let ((mark (make-overlay (line-beginning-position) (line-end-position))))
+                  (overlay-put mark 'after-string
+                               (propertize (concat "  < " (match-string 1 name)) 'face 'shadow))
+                  (push mark rdbg-dap--marks))))))))))
+
+(defun rdbg-dap--ask-where (session)
+  "Ask where the tasks of SESSION stand, and show it."
+  (when (and (equal (plist-get (dap--debug-session-launch-args session) :type) "rdbg")
+             (dap--session-running session)
+             (dap--debug-session-active-frame session))
+    (dap--send-message (dap--make-request "threads")
+                       (lambda (answer) (rdbg-dap--mark session answer)) session)))
+
+(add-hook 'dap-stack-frame-changed-hook #'rdbg-dap--ask-where)
+(add-hook 'dap-continue-hook #'rdbg-dap--unmark)
+(add-hook 'dap-terminated-hook #'rdbg-dap--unmark)
 
 (defun rdbg-step-back ()
   "Take the last move back, and go to whose it was."
@@ -143,13 +173,8 @@
   :lighter " rdbg")
 
 (defun rdbg-maybe-keys ()
-  "Turn the keys on in a file that can be an application: .fw, or JSON that has tasks."
-  (when (and buffer-file-name
-             (or (string-suffix-p ".fw" buffer-file-name)
-                 (and (string-suffix-p ".json" buffer-file-name)
-                      (save-excursion
-                        (goto-char (point-min))
-                        (search-forward "\"tasks\"" nil t)))))
+  "Turn the keys on in a file that can be an application."
+  (when (rdbg-application-p)
     (rdbg-keys-mode 1)))
 
 (add-hook 'find-file-hook #'rdbg-maybe-keys)

@@ -4,11 +4,12 @@ import re
 from typing import Callable, Dict, List, Sequence, Tuple
 
 from rdbg import commands, instructions
+from rdbg.adapter import names
 from rdbg.adapter.losing import Loses
 from rdbg.adapter.messages import Arguments, Values, Wrong
 from rdbg.adapter.sources import Spot, Text
-from rdbg.adapter.stops import Amount, Becomes, Content, Counted, Stop, Where, becoming
-from rdbg.replies import Refused
+from rdbg.adapter.stops import Amount, Becomes, Content, Counted, Seat, Stop, Where, becoming
+from rdbg.replies import Cores, Refused
 from rdbg.shell import seek
 from rdbg.goals.conditions import Condition
 from rdbg.goals import reading, sought
@@ -46,13 +47,15 @@ MOST = 256
 @dataclasses.dataclass(frozen=True)
 class Breakpoint:
     """A breakpoint: its number, what kind a stop at it is, its stops, and what an editor is told
-    of it, and at an instruction the task of each stop. It has no stops where it can't be met."""
+    of it, and the instruction of each stop, where it is at one. It has no stops where it can't be met, and
+    stops nothing where it has a text to `log`."""
 
     number: int
     reason: str
     stops: Tuple[Stop, ...]
     value: Values
-    tasks: Tuple[str, ...] = ()
+    spots: Tuple[Spot, ...] = ()
+    log: str = ""
 
 
 def goal_in(shell: Shell, text: str) -> Goal:
@@ -157,6 +160,10 @@ class Breakpoints:
         """Those that can be met."""
         return [it for group in self._of.values() for it in group if it.stops]
 
+    def logs(self) -> List[Breakpoint]:
+        """Those that say something, and stop nothing."""
+        return [it for it in self.all() if it.log]
+
     def put(self, kind: str, shell: Shell, text: Text, asked: Sequence[Arguments]) -> List[Values]:
         """Sets all of a kind."""
         if len(asked) > MOST:
@@ -200,17 +207,18 @@ class Breakpoints:
 
 def at_line(shell: Shell, text: Text, given: Arguments, number: int) -> Breakpoint:
     """A breakpoint at a line, and a column where one is given."""
-    if given.text("logMessage", ""):
-        raise Wrong("log messages aren't done: a line of output comes with each stop")
+    log = given.text("logMessage", "").strip()
     spot = text.found(text.line_in(given), text.column_in(given))
     spots = text.same(spot)
+    for each in {it.task for it in spots}:
+        names.check(shell, log, each)
     stops = tuple(limited(shell, arrival(it), given) for it in spots)
     said = "; ".join(map(str, spots))[:1_000]
     value: Values = {"id": number, "verified": True, "message": said, **text.place(spot)}
     source = text.value()
     if source is not None:
         value["source"] = source
-    return Breakpoint(number, LINE, stops, value, tuple(it.task for it in spots))
+    return Breakpoint(number, LINE, stops, value, tuple(spots), log)
 
 
 def by_name(shell: Shell, text: Text, given: Arguments, number: int) -> Breakpoint:
@@ -229,6 +237,8 @@ def on_data(shell: Shell, text: Text, given: Arguments, number: int) -> Breakpoi
     words = watched.split()
     if words[:1] == ["changes"] and len(words) == 3:
         stop: Stop = of_move(shell, words)
+    elif words[:1] in (["core"], ["ready"]):
+        stop = seat(shell, watched)
     else:
         condition = f"{watched} run" if words[:1] == ["phase"] else f"{watched} = 0"
         goal_in(shell, condition)  # (what it names is there)
@@ -236,6 +246,14 @@ def on_data(shell: Shell, text: Text, given: Arguments, number: int) -> Breakpoi
     stop = limited(shell, stop, given)
     value: Values = {"id": number, "verified": True, "message": stop.text}
     return Breakpoint(number, DATA, (stop,), value)
+
+
+def seat(shell: Shell, watched: str) -> Stop:
+    """That who is on a core changes, or who is ready. Raises `Wrong`."""
+    cores = len(shell.target.ask("show cores", Cores).running)
+    if watched not in ("ready", *(f"core {core}" for core in range(cores))):
+        raise Wrong(f"'{watched[:100]}' is no core: core 0 to core {cores - 1}, or ready")
+    return Seat(watched)
 
 
 # What makes a breakpoint of each kind.

@@ -11,6 +11,7 @@ from rdbg.adapter.losing import Loses, listen
 from rdbg.adapter.messages import Arguments, Values, Wrong, event
 from rdbg.adapter.pausing import Pause
 from rdbg.adapter.paced import PacedRunner
+from rdbg.adapter.progress import Progress
 from rdbg.adapter.running import Outcome, Runner
 from rdbg.adapter.sources import Spot, Text
 from rdbg.adapter.stops import Becomes, Begins, Stop
@@ -38,7 +39,7 @@ class Debugger:
 
     def __init__(self, send: Callable[[Values], None]) -> None:
         self.send = send
-        self.pause = Pause()
+        self.pause, self.progress = Pause(), Progress(send)
         self.given = Arguments({}, "launch")
         self.text, self.threads = Text(None), Threads()
         self.references, self.breakpoints = References(), Breakpoints()
@@ -143,10 +144,14 @@ class Debugger:
 
     def say(self, text: str, move: Optional[Move] = None, category: str = "stdout") -> None:
         """A line of output, with the instruction that it is of."""
+        spot = None
+        if move is not None and move.task and move.pc is not None:
+            spot = self.text.of(move.task, move.pc)
+        self.say_at(text, spot, category)
+
+    def say_at(self, text: str, spot: Optional[Spot], category: str = "stdout") -> None:
+        """A line of output, with the place that it is of."""
         body: Values = {"category": category, "output": f"{text}\n"}
-        spot = (
-            self.text.of(move.task, move.pc) if move and move.task and move.pc is not None else None
-        )
         source = self.text.value()
         if spot is not None and source is not None:
             place = self.text.place(spot)
@@ -160,8 +165,12 @@ class Debugger:
         return Wrong(f"{said}: {hint}" if hint else said)
 
     def stops(self) -> List[Stop]:
+        """All at which a run stops, or says something."""
+        return [*self.halts(), *(stop for it in self.breakpoints.logs() for stop in it.stops)]
+
+    def halts(self) -> List[Stop]:
         """All at which a run stops."""
-        found = [stop for it in self.breakpoints.all() for stop in it.stops]
+        found = [stop for it in self.breakpoints.all() if not it.log for stop in it.stops]
         found += self._watched()
         return found + [self.begins[name] for name in self.breakpoints.failures]
 
@@ -169,7 +178,7 @@ class Debugger:
         """The session's watches, which were made by typing."""
         found: List[Stop] = []
         for number, text in sorted(self.shell.target.watches.items()):
-            key = f"w{number}, {text}"
+            key = watch_text(number, text)
             condition = conditions.read(text.split())
             if condition is not None:
                 found.append(self._watches.setdefault(key, Becomes(condition, key)))
@@ -186,6 +195,7 @@ class Debugger:
 
     def between(self) -> None:
         """Serves what the editor asks, and looks whether it asks for a pause."""
+        self.progress.show(f"at {self.shell.target.place}")
         self.serve()
         self.pause.check()
 
@@ -364,7 +374,8 @@ class Debugger:
     def _tell_met(self, met: Sequence[Stop]) -> None:
         """Stops at what was met."""
         failures = [name for name, stop in self.begins.items() if stop in met]
-        hit = [it for it in self.breakpoints.all() if any(stop in met for stop in it.stops)]
+        points = [it for it in self.breakpoints.all() if not it.log]
+        hit = [it for it in points if any(stop in met for stop in it.stops)]
         if failures and not hit:
             self.tell_failure(failures[0], self.mover())
             return
@@ -372,11 +383,21 @@ class Debugger:
         for stop in met:
             if isinstance(stop, Loses):
                 self.say(stop.way)
-        pairs = [pair for it in hit for pair in zip(it.stops, it.tasks)]
-        tasks = [task for stop, task in pairs if stop in met]
+        pairs = [pair for it in hit for pair in zip(it.stops, it.spots)]
+        tasks = [spot.task for stop, spot in pairs if stop in met]
         thread = self.threads.number(tasks[0]) if tasks else self.mover()
         reason = hit[0].reason if hit else "breakpoint"
         self.stopped(reason, f"at {self.shell.target.place}: {text}", thread, hit)
+        texts = {stop.text for stop in met}
+        watches = self.shell.target.watches.items()
+        self.shell.drop_temporary([it for it, goal in watches if watch_text(it, goal) in texts])
+
+    def end(self) -> None:
+        """Ends the program, and tells the editor so."""
+        status = self.close()
+        self.is_running = False
+        self.send(event("exited", {"exitCode": status or 0}))
+        self.send(event("terminated", {}))
 
     def close(self) -> Optional[int]:
         """Ends the session; the status of its program."""
@@ -384,3 +405,8 @@ class Debugger:
         if self.hearing is not None:
             self.hearing.end()
         return shell.target.session.close() if shell else None
+
+
+def watch_text(number: int, text: str) -> str:
+    """What a stop at a watch says."""
+    return f"w{number}, {text}"

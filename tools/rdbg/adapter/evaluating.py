@@ -50,6 +50,8 @@ def typed(it: Debugger, lines: List[str]) -> str:
     with gathered() as pieces:
         for line in lines:
             shell.line(line)
+            if shell.is_stopped:
+                break
     it.changed()
     if shell.lost is not None:
         it.say(f"lost at {shell.lost.place}: {shell.lost.text()}", shell.lost)

@@ -24,7 +24,7 @@ CAUSES: Dict[str, str] = {
 def threads(it: Debugger, given: Arguments) -> Optional[Values]:
     """`threads`: the time, and the tasks."""
     look = it.look() if it.has_shell and not it.is_running else None
-    return {"threads": it.threads.values(look)}
+    return {"threads": it.threads.values(look, it.text)}
 
 
 def stack(it: Debugger, given: Arguments) -> Optional[Values]:
@@ -105,11 +105,12 @@ def value_of(it: Debugger, given: Arguments) -> Values:
     """What an expression says, that changes nothing."""
     it.standing()
     text = given.text("expression").strip()
-    said = names.holds(it.shell, text) or names.view(it.shell, text)
+    said = names.view(it.shell, text)
     if said is not None:
         return {"result": said, "variablesReference": 0}
     shown = it.shown(is_hex(given))
-    found = expressed(shown, it.threads.task(given.number("frameId", it.focus)), text)
+    task = it.threads.task(given.number("frameId", it.focus))
+    found = names.value(it.shell, lambda: shown, task, text)
     value = it.references.value(found, shown)
     return {"result": found.value, "variablesReference": value["variablesReference"]}
 

@@ -4,6 +4,7 @@ import dataclasses
 from typing import Callable, Dict, List, Optional
 
 from rdbg import record, replies
+from rdbg.adapter import telling
 from rdbg.adapter.debugger import Debugger
 from rdbg.adapter.messages import Arguments, Values, Wrong
 from rdbg.adapter.running import Outcome, Runner
@@ -44,10 +45,12 @@ def begin_run(it: Debugger, going: Going) -> None:
 def end_run(it: Debugger, held: contextlib.ExitStack, going: Going) -> None:
     """Runs, gives the wheel back, and tells where that has ended."""
     it.is_held = True
+    it.progress.begin()
     try:
         with held:
             run_held(it, going)
     finally:
+        it.progress.end()
         it.is_held = False
         it.tell_waiting()
 
@@ -55,8 +58,13 @@ def end_run(it: Debugger, held: contextlib.ExitStack, going: Going) -> None:
 def run_held(it: Debugger, going: Going) -> None:
     """Runs, while nobody else may move the target."""
     start = it.shell.target.place
+    end = start + it.shell.target.places().undone
     try:
         outcome = going.run(it.runner(going.stops))
+        while outcome.how == "met" and telling.tell(it, outcome.met):
+            left = it.limit - max(0, it.shell.target.place - end)
+            runner = it.runner(going.stops)
+            outcome = runner.forwards(left) if left > 0 else Outcome("limit")
         it.serve()
         it.is_running = False
         it.pause.forget()
@@ -81,7 +89,7 @@ def go_on(it: Debugger, given: Arguments) -> Optional[Values]:
 def go_back(it: Debugger, given: Arguments) -> Optional[Values]:
     """`reverseContinue`."""
     it.threads.task(given.number("threadId", TIME))
-    begin_run(it, Going(lambda runner: runner.backwards(), it.stops))
+    begin_run(it, Going(lambda runner: runner.backwards(), it.halts))
     return None
 
 
@@ -95,6 +103,7 @@ def step(it: Debugger, given: Arguments) -> Optional[Values]:
             line = "tick" if task is None else f"step {core_of(it, task)}"
             move = it.make(line)
             after = it.look()
+            telling.tell_here(it)
     except Refused as refused:
         raise it.wrong("step 0", refused) from None
     failure = it.failed_here(before, after)
@@ -222,6 +231,13 @@ def pause(it: Debugger, given: Arguments) -> Optional[Values]:
     return None
 
 
+def cancel(it: Debugger, given: Arguments) -> Optional[Values]:
+    """`cancel`: what it names was told to end as the request came."""
+    given.number("requestId", 0)
+    given.text("progressId", "")
+    return None
+
+
 MOVING: Dict[str, Request] = {
     "continue": go_on,
     "reverseContinue": go_back,
@@ -231,4 +247,4 @@ MOVING: Dict[str, Request] = {
     "stepBack": step_back,
     "goto": goto,
 }
-OTHERS: Dict[str, Request] = {"gotoTargets": goto_targets, "pause": pause}
+OTHERS: Dict[str, Request] = {"gotoTargets": goto_targets, "pause": pause, "cancel": cancel}

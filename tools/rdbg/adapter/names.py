@@ -1,17 +1,23 @@
 """What an expression names: a register, a part of a task, an object, a condition."""
 import re
-from typing import Iterator, List, Optional
+from typing import Callable, Iterator, List, Optional
 
-from rdbg import commands, replies
+from rdbg import commands, kinds
 from rdbg.adapter import variables
 from rdbg.adapter.messages import Values, Wrong
 from rdbg.adapter.threads import state
 from rdbg.adapter.variables import Shown, Variable
-from rdbg.goals import reading
-from rdbg.goals import words as goal_words
-from rdbg.goals.ways import is_so
+from rdbg.goals.computed import Expression, Undefined, expression, is_meant
+from rdbg.goals.reading import NoGoal
+from rdbg.replies import Refused
 from rdbg.shell.completion import candidates
 from rdbg.shell.shell import Shell
+
+# What is computed within a text.
+BRACES = re.compile(r"\{([^{}]*)\}")
+# What names a variable by itself, and behind the name of a task or an object.
+ALONE = re.compile("r[0-7]|pc|phase|data|place|tick|turn|ready|core [0-9]+")
+PART = re.compile(f"r[0-7]|pc|phase|data|{'|'.join(kinds.OF_AMOUNT)}")
 
 
 def all_of(shown: Shown) -> Iterator[Variable]:
@@ -37,17 +43,45 @@ def found(shown: Shown, task: Optional[str], text: str) -> Optional[Variable]:
     return None
 
 
-def holds(shell: Shell, text: str) -> Optional[str]:
-    """Whether a goal holds; none where the text isn't meant to be one."""
-    words = reading.words_of(text)
-    if not words or words[0] not in (*reading.CLAIMS, reading.NOT, reading.OPEN):
+def computed(shell: Shell, task: Optional[str], text: str) -> Optional[Expression]:
+    """The goal or the expression that a text is meant to be; none where it names a thing. Raises
+    `Wrong`."""
+    scope = shell.scope()
+    if not is_meant(text, scope):
         return None
     try:
-        return "holds" if is_so(shell.target, goal_words.read(words, shell.scope())) else "fails"
-    except reading.NoGoal as wrong:
+        return expression(text, scope, task or "")
+    except NoGoal as wrong:
         raise Wrong(str(wrong)) from None
-    except (replies.Refused, IndexError):
+
+
+def value(shell: Shell, shown: Callable[[], Shown], task: Optional[str], text: str) -> Variable:
+    """What a text says: a variable, whether a goal holds, or what is computed. Raises `Wrong`."""
+    variable = found(shown(), task, text)
+    if variable is not None:
+        return variable
+    made = computed(shell, task, text)
+    if made is None:
+        raise Wrong(f"'{text[:100]}' is no register, part of a task, object or condition here")
+    try:
+        target = shell.target
+        look = shown().look if target.is_own else target.look(made.names(target.names))
+        return Variable(text, made.said(look))
+    except (Refused, IndexError):
         raise Wrong(f"'{text}' names what isn't there") from None
+    except Undefined as wrong:
+        raise Wrong(str(wrong)) from None
+
+
+def check(shell: Shell, text: str, task: str) -> None:
+    """Raises `Wrong` where what stands in braces in a text says nothing."""
+    for part in map(str.strip, BRACES.findall(text)):
+        name, _, last = part.rpartition(".")
+        is_there = bool(shell.target.names.kinds_of(name or part))
+        if ALONE.fullmatch(part) or (is_there and (not name or PART.fullmatch(last))):
+            continue
+        if computed(shell, task, part) is None:
+            raise Wrong(f"{{{part}}} is no register, part of a task, object or condition here")
 
 
 def view(shell: Shell, text: str) -> Optional[str]:

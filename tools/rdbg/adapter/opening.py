@@ -45,6 +45,7 @@ class EditorShell(Shell):
 
     def stopped(self, where: str) -> None:
         """Says that something was paused, and where the target is."""
+        self.is_refused = self.is_stopped = True
         self.say(f"paused, {where}")
 
 

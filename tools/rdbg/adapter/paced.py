@@ -25,7 +25,7 @@ class PacedRunner(Runner):
                     return Outcome("stuck")
                 if not walk.forward(1):
                     return Outcome("wall", wall=walk.wall)
-                found = self._met()
+                found = self.met()
             except Interrupted:
                 walk.goto(here)
                 return Outcome("paused")

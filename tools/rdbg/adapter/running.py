@@ -54,7 +54,7 @@ class Runner:
         self._between()
         return prepared(self.walk, self._ask())
 
-    def _met(self) -> Outcome:
+    def met(self) -> Outcome:
         """What is met here."""
         walk, facts, here = self.walk, self.facts, self.walk.place
         stops = prepared(walk, self._ask())
@@ -66,7 +66,7 @@ class Runner:
 
     def begin(self, limit: int) -> Outcome:
         """From the start on: to the first place where a stop is met, the start among them."""
-        found = self._met()
+        found = self.met()
         return found if found.met else self.forwards(limit)
 
     def forwards(self, limit: int) -> Outcome:
@@ -97,7 +97,7 @@ class Runner:
             found = first_of(stops, facts, low, sure)
             if found is not None:
                 walk.goto(found)
-                return self._met()
+                return self.met()
             walk.goto(sure)
             if sure > low:
                 low = sure
@@ -158,7 +158,7 @@ class Runner:
             if found is not None:
                 walk.settle(here, found)
                 self._keep()
-                return self._met()
+                return self.met()
             walk.wall = ""
             walk.reach(here + window)
             if walk.place < here + window:
@@ -228,7 +228,7 @@ class Runner:
             walk.goto(start)  # (what is in between may have been made by hand)
             raise
         walk.goto(walk.target.base if found is None else found)
-        return Outcome("start") if found is None else self._met()
+        return Outcome("start") if found is None else self.met()
 
     def _last(self, stop: Stop, start: int, least: Optional[int]) -> Optional[int]:
         """The last place before `start`, and behind `least`, where one stop is met."""

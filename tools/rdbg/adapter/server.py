@@ -1,8 +1,9 @@
 """A session with an editor: its requests in order, those that can't wait while something runs."""
+import contextlib
 import hmac
 import queue
 import threading
-from typing import IO, Callable, Dict, List, Optional
+from typing import IO, Callable, Dict, List, Optional, Set
 
 from rdbg.adapter.debugger import Debugger
 from rdbg.adapter.evaluating import Request, evaluate
@@ -29,11 +30,13 @@ REQUESTS: Dict[str, Request] = {
 }
 # What is answered while the target runs; all else waits for its stop.
 MEANWHILE = (
-    *"threads stackTrace scopes variables pause source loadedSources breakpointLocations".split(),
+    *"threads stackTrace scopes variables pause cancel source loadedSources".split(),
+    "breakpointLocations",
     *(name for name in SETTING if name.startswith("set")),
 )
-# What ends what runs.
-ENDING = ("pause", "disconnect")
+# What ends what runs; and what ends what it names, be it a run, or a request that is at work or waits.
+ENDING, CANCEL = ("pause", "terminate", "disconnect"), "cancel"
+CANCELLED = "cancelled"
 # What says a token, where one is asked for, and what is answered before.
 TELLING, BEFORE = ("launch", "attach"), "initialize"
 NO_TOKEN = "`launch` or `attach` says first, as token, what `rdbg dap` said at its start"
@@ -67,6 +70,9 @@ class Server:
         self.debugger.came = lambda: self._asked.put(HEARD)
         self._asked: "queue.Queue[Optional[Asked]]" = queue.Queue(MOST_WAITING)
         self._waiting: List[Optional[Asked]] = []
+        # The number of the request that is at work, and those of requests that won't be.
+        self._at_work = 0
+        self._cancelled: Set[int] = set()
 
     def serve(self) -> None:
         """Answers requests up to the end of the session."""
@@ -80,7 +86,10 @@ class Server:
                 if request is HEARD:
                     self._guarded(self.debugger.heard)
                 else:
+                    self._at_work = request.seq
                     self._answer(request)
+                    self._at_work = 0
+                    self.debugger.pause.forget()
         finally:
             self.debugger.close()
 
@@ -103,9 +112,21 @@ class Server:
             if request is None or request.command in ENDING:
                 if self.debugger.is_running:
                     self.debugger.pause.ask()
+            if request is not None and request.command == CANCEL:
+                self._cancel(request.arguments)
             self._asked.put(request)
             if request is None:
                 return
+
+    def _cancel(self, given: Arguments) -> None:
+        """Ends what a request to cancel names, or sees to it that it isn't begun."""
+        with contextlib.suppress(Wrong):
+            number, name = given.number("requestId", 0), given.text("progressId", "")
+            it = self.debugger
+            if number == self._at_work != 0 or (it.is_running and name == it.progress.name):
+                it.pause.ask()
+            elif number and len(self._cancelled) < MOST_WAITING:
+                self._cancelled.add(number)
 
     def _is_told(self, request: Asked) -> bool:
         """Whether a request is answered that comes before the token, or says it. Where it isn't
@@ -160,6 +181,8 @@ class Server:
     def _done(self, request: Asked) -> None:
         it = self.debugger
         try:
+            if request.seq in self._cancelled:
+                raise Wrong(CANCELLED)
             if request.command not in REQUESTS:
                 raise Wrong(f"rdbg answers no request '{request.command[:100]}'")
             if request.command in MOVING:
@@ -198,9 +221,5 @@ class Server:
 
     def _end(self, why: str) -> None:
         """Tells the editor that the program has ended."""
-        it = self.debugger
-        it.say(why, category="stderr")
-        status = it.close()
-        it.is_running = False
-        it.send(event("exited", {"exitCode": status or 0}))
-        it.send(event("terminated", {}))
+        self.debugger.say(why, category="stderr")
+        self.debugger.end()

@@ -14,13 +14,16 @@ AT_A_PORT = (
     "at a port nothing is started anew, since others have this target, too: Reverse goes back to"
     " its start, and who has started it starts it with another file"
 )
+NO_END = (
+    "at a port nothing is ended, since others have this target, too: Disconnect ends the session"
+)
 Request = Callable[[Debugger, Arguments], Optional[Values]]
 # What is supported, as the protocol has it behind that word.
 CAN = (
     "ConfigurationDoneRequest FunctionBreakpoints ConditionalBreakpoints HitConditionalBreakpoints"
     " EvaluateForHovers StepBack SetVariable SetExpression GotoTargetsRequest CompletionsRequest"
     " RestartRequest ValueFormattingOptions ExceptionInfoRequest LoadedSourcesRequest"
-    " DataBreakpoints BreakpointLocationsRequest"
+    " DataBreakpoints BreakpointLocationsRequest LogPoints TerminateRequest CancelRequest"
 ).split()
 
 
@@ -31,6 +34,7 @@ def initialize(it: Debugger, given: Arguments) -> Optional[Values]:
     line = int(given.flag("linesStartAt1", True))
     it.text.count_from(line, int(given.flag("columnsStartAt1", True)))
     it.shows_invalidated = given.flag("supportsInvalidatedEvent")
+    it.progress.is_asked_for = given.flag("supportsProgressReporting")
     body: Values = {f"supports{name}": True for name in CAN}
     body["completionTriggerCharacters"] = [" "]
     body["exceptionBreakpointFilters"] = [
@@ -64,7 +68,8 @@ def attach(it: Debugger, given: Arguments) -> Optional[Values]:
     opening.count(given, "limit", LIMIT)
     shell = opening.attach(given, it.pause, it.hear)
     it.is_attached = True
-    off = {"capabilities": {"supportsRestartRequest": False}}
+    names = ("supportsRestartRequest", "supportsTerminateRequest")
+    off = {"capabilities": {name: False for name in names}}
     it.later.append(lambda: it.send(event("capabilities", off)))
     started(it, given, shell)
     it.hearing = Hearing(it.shell.target.session, it.came)
@@ -115,6 +120,14 @@ def restarted(it: Debugger, where: str = "at 0: the start") -> None:
     it.stopped("entry", where, it.focus)
 
 
+def terminate(it: Debugger, given: Arguments) -> Optional[Values]:
+    """`terminate`: the end of the program; a target of others goes on."""
+    if it.is_attached:
+        raise Wrong(NO_END)
+    it.later.append(it.end)
+    return None
+
+
 def disconnect(it: Debugger, given: Arguments) -> Optional[Values]:
     """`disconnect`: the end of the session, and of its program; of a target of others, of the
     session alone."""
@@ -131,5 +144,6 @@ SETUP: Dict[str, Request] = {
     "attach": attach,
     "configurationDone": configured,
     "restart": restart,
+    "terminate": terminate,
     "disconnect": disconnect,
 }

@@ -15,7 +15,7 @@ from rdbg.looks import Key, Look, content_of
 from rdbg.goals.changes import HIDING, Changes
 from rdbg.goals.conditions import AMOUNTS, Condition
 from rdbg.goals.claims import Goal, Holds
-from rdbg.goals.ways import Search, To, is_so, latest, nearest
+from rdbg.goals.ways import Search, To, is_so, latest, nearest, otherwise
 from rdbg.driving.target import Target, read
 from rdbg.driving.walk import Walk
 
@@ -297,6 +297,33 @@ class Content(Stop):
 
     def _is_changed(self, walk: Walk, part: Stop) -> bool:
         return isinstance(part, Amount) or self.is_met(walk)
+
+
+class Seat(Stop):
+    """Who is on a core changes, or who is ready; `watched` is `core 0`, or `ready`."""
+
+    def __init__(self, watched: str) -> None:
+        self.text, self._watched = f"{watched} changes", watched
+
+    def views(self, target: Target) -> List[str]:
+        return ["show cores"]
+
+    def seen(self, answers: Sequence[Any]) -> Any:
+        _, _, core = self._watched.partition(" ")
+        return answers[0].running[int(core)] if core else answers[0].ready
+
+    def _otherwise(self, walk: Walk, end: int) -> Optional[int]:
+        return otherwise(walk, end, "show cores", lambda seen: self.seen([seen]))
+
+    def next(self, walk: Walk, limit: int) -> Optional[int]:
+        return self._otherwise(walk, walk.place + limit)
+
+    def last(self, walk: Walk) -> Optional[int]:
+        if walk.place <= walk.target.base:
+            return None
+        walk.goto(walk.place - 1)
+        place = self._otherwise(walk, walk.target.base)
+        return None if place is None else place + 1
 
 
 def parts_of(application: Application, kind: str, name: str) -> List[Stop]:

@@ -35,16 +35,18 @@ class Threads:
             raise Wrong(f"there is no thread {number}")
         return self.names[at]
 
-    def values(self, look: Optional[Look]) -> List[Values]:
-        """All of them, each with what it does where that is known."""
+    def values(self, look: Optional[Look], text: Text) -> List[Values]:
+        """All of them, each with what it does, and at which line, where that is known."""
         time = f"{TIME_NAME}: tick {look.cores.tick}" if look else TIME_NAME
         found: List[Values] = [{"id": TIME, "name": time}]
         for number, name in enumerate(self.names, TIME + 1):
             if look is None:
                 found.append({"id": number, "name": name})
             elif name in look.tasks:
-                text = f"{name}: {state(look.tasks[name])}"
-                found.append({"id": number, "name": text})
+                task = look.tasks[name]
+                spot = text.of(name, task.pc) if task.phase.word != "ended" else None
+                at = f", line {spot.line}" if spot else ""
+                found.append({"id": number, "name": f"{name}: {state(task)}{at}"})
         return found
 
 

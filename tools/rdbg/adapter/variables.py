@@ -107,11 +107,11 @@ def of_time(shown: Shown) -> List[Variable]:
         Variable("place", f"{shown.place}", expression="place"),
         Variable("undone", f"{shown.undone}"),
         Variable("tick", shown.number(cores.tick), watched="tick", expression="tick"),
-        Variable("turn", str(cores.turn)),
-        Variable("ready", values.names(cores.ready)),
+        Variable("turn", str(cores.turn), expression="turn"),
+        Variable("ready", values.names(cores.ready), watched="ready", expression="ready"),
     ]
-    running = enumerate(cores.running)
-    return found + [Variable(f"core {at}", name or "-") for at, name in running]
+    seats = [(f"core {at}", name or "-") for at, name in enumerate(cores.running)]
+    return found + [Variable(it, name, watched=it, expression=it) for it, name in seats]
 
 
 def objects(shown: Shown) -> List[Variable]:

@@ -1,8 +1,9 @@
 """Says of application files where they are wrong, and what would be right."""
 import argparse
+import json
 import re
 import sys
-from typing import List, Sequence
+from typing import Any, Dict, List, Sequence
 
 from rdbg import kinds
 from rdbg.checking.faults import MOST_FAULTS
@@ -15,7 +16,8 @@ from rdbg.files.definitions import take_definitions
 from rdbg.files.source import Given, Source, load, source, standard_input
 
 SUMMARY = "says of application files where they are wrong, and what would be right"
-STANDARD_INPUT = "-"
+STANDARD_INPUT, NOTE = "-", "note: "
+Values = Dict[str, Any]
 MOST = 100
 LARGEST = 999_999_999
 # How rdbg names a fault, as in "L3 Limit".
@@ -48,6 +50,9 @@ def parser() -> argparse.ArgumentParser:
         "--first", action="store_true", help="prints the first fault of each file, and nothing else"
     )
     made.add_argument(
+        "--json", action="store_true", help="prints it as JSON (docs/check.schema.json)"
+    )
+    made.add_argument(
         "--most",
         type=natural,
         default=MOST,
@@ -64,7 +69,11 @@ def parser() -> argparse.ArgumentParser:
 def main(words: Sequence[str]) -> int:
     """Checks the files; the status of the worst."""
     given = parser().parse_args(words)
-    return max(check(path, given) for path in given.files)
+    values: List[Values] = []
+    status = max(check(path, given, values) for path in given.files)
+    if given.json:
+        print(json.dumps({"files": values}, indent=1))
+    return status
 
 
 def read(path: str, name: str, consts: Given) -> Source:
@@ -74,8 +83,8 @@ def read(path: str, name: str, consts: Given) -> Source:
     return source(name or path, standard_input(), consts)
 
 
-def check(path: str, given: argparse.Namespace) -> int:
-    """Prints what there is to say of one file, and answers its status."""
+def check(path: str, given: argparse.Namespace, values: List[Values]) -> int:
+    """Prints what there is to say of one file, or puts it to `values`, and answers its status."""
     try:
         found = read(path, given.name, dict(given.consts))
     except Failure as failure:
@@ -84,16 +93,31 @@ def check(path: str, given: argparse.Namespace) -> int:
         print(f"rdbg check: {where}{failure}", file=sys.stderr)
         return failure.status
     apart = drifts(found)
-    lines = [f"{found.path}:{fault}" for fault in (*found.faults, *apart)]
-    if given.first:
-        lines = lines[:1]
+    faults = [*found.faults, *apart][: given.most]
+    remarks = [] if found.root is None else [*found.remarks, *remarks_of(found.root)]
+    verdict = f"{said(found, given.most)}{told_of(apart)}"
+    if given.json:
+        values.append(as_values(found, [*faults, *remarks[: given.most]], verdict))
+    elif given.first:
+        print("".join(f"{found.path}:{fault}\n" for fault in faults[:1]), end="")
     else:
-        remarks = [] if found.root is None else [*found.remarks, *remarks_of(found.root)]
-        lines = lines[: given.most] + [f"{found.path}:{remark}" for remark in remarks[: given.most]]
-        lines.append(f"{found.path}: {said(found, given.most)}{told_of(apart)}")
-    for line in lines:
-        print(line)
+        for fault in [*faults, *remarks[: given.most]]:
+            print(f"{found.path}:{fault}")
+        print(f"{found.path}: {verdict}")
     return 1 if found.faults or apart else 0
+
+
+def as_values(found: Source, faults: Sequence[Fault], verdict: str) -> Values:
+    """What there is to say of one file, as docs/check.schema.json has it."""
+    said_of: List[Values] = []
+    for it in faults:
+        is_note = it.message.startswith(NOTE)
+        value: Values = {"line": it.place.line, "column": it.place.column}
+        value["severity"] = "note" if is_note else "error"
+        value["message"] = it.message[len(NOTE) if is_note else 0 :]
+        said_of.append(value if is_note else {**value, "kind": it.kind})
+    is_accepted = found.application is not None
+    return {"file": found.path, "accepted": is_accepted, "verdict": verdict, "faults": said_of}
 
 
 def drifts(found: Source) -> List[Fault]:

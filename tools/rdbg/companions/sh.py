@@ -9,6 +9,7 @@ from rdbg.files.definitions import take_definitions
 from rdbg.files.source import accepted
 from rdbg.options import bounded, port
 from rdbg.shell import prompt
+from rdbg.shell.sourcing import START
 from rdbg.driving.interrupt import HardInterrupt, Interrupt
 from rdbg.driving.opening import attach, begin, close
 from rdbg.shell.shell import Shell
@@ -35,6 +36,9 @@ def parser() -> argparse.ArgumentParser:
     made.add_argument("--name", metavar="NAME", help="who one is at `rdbg room`")
     made.add_argument("--moves", type=bounded(1), metavar="N", help="how many moves may be done")
     made.add_argument("--history", type=bounded(2), metavar="N", help="entries of the history")
+    made.add_argument(
+        "--nx", action="store_true", help=f"leaves out the files {START} (see `help source`)"
+    )
     take_definitions(made)
     return made
 
@@ -56,10 +60,8 @@ def main(words: Sequence[str]) -> int:
         target = attach(given.port, source, given.name)
     shell = Shell(target, source, Interrupt())
     try:
-        if sys.stdin.isatty() and sys.stdout.isatty():
-            prompt.talk(shell)
-        else:
-            prompt.filter_lines(shell)
+        is_terminal = sys.stdin.isatty() and sys.stdout.isatty()
+        (prompt.talk if is_terminal else prompt.filter_lines)(shell, not given.nx)
     except HardInterrupt:
         sys.stdout.flush()
         os._exit(130)

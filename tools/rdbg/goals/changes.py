@@ -4,7 +4,7 @@ from typing import Dict, List, Optional, Tuple, cast
 from rdbg import kinds, replies
 from rdbg.looks import KINDS, Object, content_of
 from rdbg.goals.conditions import AMOUNTS, Condition
-from rdbg.goals.ways import FIRST_CHUNK, MOST_CHUNK, Way, latest, looked, nearest
+from rdbg.goals.ways import Way, latest, nearest, otherwise
 from rdbg.driving.target import Target, read
 from rdbg.driving.walk import Walk
 
@@ -59,16 +59,7 @@ class Changes(Way):
     def _scan(self, walk: Walk, end: int) -> Optional[int]:
         """The first place up to one, or back to one, where it isn't as it is here, by a look at
         each."""
-        content, chunk = content_of(self._look(walk)), FIRST_CHUNK
-        while True:
-            walk.interrupt.check()
-            start = walk.place
-            for place, (seen,) in looked(walk, end, chunk, [self.view]):
-                if content_of(self._known(seen)) != content:
-                    return place
-            if abs(walk.place - start) < chunk:
-                return None
-            chunk = min(2 * chunk, MOST_CHUNK)
+        return otherwise(walk, end, self.view, lambda seen: content_of(self._known(seen)))
 
     def _known(self, seen: replies.Reply) -> Object:
         if not isinstance(seen, REPLY_OF[self.kind]):

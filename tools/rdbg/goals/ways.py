@@ -4,7 +4,7 @@ A goal is found by small runs and looks between. A way says the place of the ver
 the target anywhere that a run from where it began came through.
 """
 import dataclasses
-from typing import Iterator, List, Optional, Sequence, Tuple
+from typing import Callable, Iterator, List, Optional, Sequence, Tuple
 
 from rdbg import record, replies
 from rdbg.by_hand import INTERRUPT
@@ -71,6 +71,23 @@ def looked(
             walk.wall = moved[3:]
             return
         yield start + (step + 1 if is_later else -step - 1), [read(each) for each in seen]
+
+
+def otherwise(
+    walk: Walk, end: int, view: str, of: Callable[[replies.Reply], object]
+) -> Optional[int]:
+    """The first place up to one, or back to one, where what a line shows isn't as it is here, by a
+    look at each."""
+    here, chunk = of(read(walk.target.tell(view))), FIRST_CHUNK
+    while True:
+        walk.interrupt.check()
+        start = walk.place
+        for place, (seen,) in looked(walk, end, chunk, [view]):
+            if of(seen) != here:
+                return place
+        if abs(walk.place - start) < chunk:
+            return None
+        chunk = min(2 * chunk, MOST_CHUNK)
 
 
 def is_so(target: Target, goal: Goal) -> bool:

@@ -11,6 +11,7 @@ from rdbg import own_file
 from rdbg.client import Incoming
 from rdbg.failure import Failure
 from rdbg.driving.interrupt import Woken
+from rdbg.shell import sourcing
 
 if TYPE_CHECKING:
     from rdbg.shell.shell import Shell
@@ -20,7 +21,7 @@ MOST_LINES = 2_000
 WIPE = "\r\x1b[K"
 # Lines with these words aren't repeated by Enter.
 ONCE = (
-    "watch", "unwatch", "break", "b", "delete", "d", "save", "save!", "reload", "reach", "lost", "doomed", "play", "again", "set", "help", "h", "?",
+    "watch", "unwatch", "break", "b", "tbreak", "tb", "display", "undisplay", "source", "delete", "d", "save", "save!", "reload", "reach", "lost", "doomed", "play", "again", "set", "help", "h", "?",
     "wheel", "poke", "isr", "goto", "g", "#",
 )  # fmt: skip
 
@@ -138,12 +139,15 @@ def greet(shell: "Shell") -> None:
     shell.line("where", is_typed=False)
 
 
-def talk(shell: "Shell") -> None:
-    """Does what is typed at a terminal, until it ends."""
+def talk(shell: "Shell", begins: bool) -> None:
+    """Does what is typed at a terminal, until it ends; first, if it `begins` so, the lines of the
+    files that are for that."""
     shell.is_terminal = shell.shows_moves = True
     shell.interrupt.install()
     lines = Lines(shell)
     greet(shell)
+    if begins:
+        sourcing.begin(shell)
     last = ""
     while not shell.is_done:
         try:
@@ -161,8 +165,12 @@ def talk(shell: "Shell") -> None:
             last = ""
 
 
-def filter_lines(shell: "Shell") -> None:
-    """Does each line of standard input; a room is heard between them."""
+def filter_lines(shell: "Shell", begins: bool) -> None:
+    """Does each line of standard input; a room is heard between them. It begins as `talk` does."""
+    if begins:
+        sourcing.begin(shell)
+        if shell.is_done:
+            return
     read = sys.stdin.buffer.readline
     if shell.notices.is_room:
         number = sys.stdin.fileno()

@@ -70,6 +70,8 @@ def lines_of(shell: "Shell") -> List[str]:
 def save(shell: "Shell", words: Sequence[str], is_anew: bool = False) -> None:
     """`save FILE`: the moves as lines that rdbg replays, and whether it does; `save! FILE`, onto a
     file that is there."""
+    if shell.is_starting:
+        raise Unable("a file that a prompt begins with saves nothing")
     if len(words) != 1:
         raise Unable("save to which file? `save found.commands`")
     file = words[0]

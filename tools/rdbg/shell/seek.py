@@ -115,6 +115,7 @@ def forwards(shell: "Shell", goal: Way, count: int) -> None:
         if place is not None:
             shell.tell_last()
             tell_why(shell, goal)
+            drop_met(shell, goal)
         elif ending(shell):
             text = ending(shell)
             shell.say(f"the target is {text}: `rc! {text}` goes back to where it became so")
@@ -143,6 +144,18 @@ def backwards(shell: "Shell", goal: Way) -> None:
             said(shell, goal, "none" if place is None else "met", start, lines)
         if place:
             shell.tell_last()
+        if place is not None:
+            drop_met(shell, goal)
+
+
+def drop_met(shell: "Shell", goal: Way) -> None:
+    """Drops the watches that were to be met once, and are, behind a run to any of them."""
+    there = shell.target.watches
+    once = [it for it, text in shell.temporary.items() if there.get(it) == text]
+    if isinstance(goal, AnyOf):
+        shell.drop_temporary(
+            it for it in once if became(shell, goal_of(shell, [f"w{it}"], True)[0])
+        )
 
 
 def became(shell: "Shell", goal: Way) -> bool:

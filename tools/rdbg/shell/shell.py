@@ -5,7 +5,7 @@ import re
 import shutil
 import sys
 import time
-from typing import Iterator, Optional, Sequence, Tuple
+from typing import Dict, Iterable, Iterator, List, Optional, Sequence, Tuple
 
 from rdbg import commands, kinds, record
 from rdbg.application import Interrupt as Handler
@@ -14,7 +14,7 @@ from rdbg.effects import Move
 from rdbg.looks import Look, Names
 from rdbg.replies import Cores, Refused
 from rdbg.goals.scope import Scope
-from rdbg.shell import hints, needs, views
+from rdbg.shell import displays, hints, needs, views
 from rdbg.driving import trail
 from rdbg.driving.interrupt import Interrupt, Interrupted
 from rdbg.shell.notices import Notices, is_remark
@@ -43,6 +43,15 @@ class Shell:
         self.asked = ""
         self.shows_moves = self.shows_lines = False
         self.is_terminal = self.told_of_breaks = self.is_done = False
+        # What is displayed behind moves, by numbers; and the watches that are dropped where they are
+        # met, with their conditions.
+        self.displays: Dict[int, str] = {}
+        self.temporary: Dict[int, str] = {}
+        self._displayed: Optional[Tuple[Target, int]] = None
+        # Whether the last line was refused, or stopped; the files that are at work, and whether one is
+        # with which a prompt begins.
+        self.is_refused = self.is_stopped = self.is_starting = False
+        self.sourced: List[str] = []
         self.saved = Saved()
         # The pace of runs, and the interrupts that come in them by themselves.
         self.pace: Optional[TickPace] = None
@@ -120,6 +129,7 @@ class Shell:
 
     def stopped(self, where: str) -> None:
         """Says that Ctrl-C ended something, and where the target is."""
+        self.is_refused = self.is_stopped = True
         self._wipe()
         if self.is_terminal:
             print()  # (behind the ^C of the terminal)
@@ -159,16 +169,33 @@ class Shell:
             self.target.session.remark(text.strip())
             sys.stdout.flush()
             return
-        stripped = without_comment(text.encode("utf-8", "replace").decode())
-        words = stripped.replace("\t", " ").split()
+        stripped, words = parted(text)
         if not words:
             return
         with self.notices.doing(stripped if is_typed else ""):
-            self._do(stripped, words)
+            self.do(stripped, words)
         sys.stdout.flush()
 
+    def do_plain(self, text: str) -> None:
+        """Does a line of a file."""
+        stripped, words = parted(text)
+        if words:
+            self.do(stripped, words)
+
+    def do(self, stripped: str, words: Sequence[str]) -> None:
+        """Does a line: one of rdbg's as it is, or a word of sh's own; and says what is displayed
+        where that has moved the target."""
+        self.is_refused, self.is_stopped, self.asked = False, False, ""
+        there = self.target, self.target.place
+        self._do(stripped, words)
+        self.notice()
+        here = self.target, self.target.place
+        if self.displays and here not in (there, self._displayed):
+            displays.show(self)
+            self._displayed = here
+        self._warn()
+
     def _do(self, stripped: str, words: Sequence[str]) -> None:
-        """Does a line: one of rdbg's as it is, or a word of sh's own."""
         from rdbg.shell.words import find
 
         names = self.target.names
@@ -182,14 +209,14 @@ class Shell:
             else:
                 word.run(self, words[1:])
         except Unable as unable:
+            self.is_refused = True
             self.say(self.in_its_names(str(unable)))
         except Interrupted:
             self.stopped(f"at {self.target.place}")
         except Refused as refused:
+            self.is_refused = True
             self.say(f"rdbg says: no {refused}")
             self.hint(hints.refusal(self, self.asked, refused))
-        self.notice()
-        self._warn()
 
     @contextlib.contextmanager
     def wheel(self) -> Iterator[None]:
@@ -228,6 +255,7 @@ class Shell:
             self.notice()
         self.answer(reply)
         if reply.startswith("no "):
+            self.is_refused = True
             self.hint_on(text, reply)
             if self.is_terminal and self.pieces.is_again:
                 self.say("nothing is made; what was tried, `redo` can make again")
@@ -246,6 +274,14 @@ class Shell:
         if command is None or not self.is_terminal:
             return self.target.tell(text)
         return self.pieces.tell(command, text)
+
+    def drop_temporary(self, numbers: Iterable[int]) -> None:
+        """Drops those of these watches that were to be met once."""
+        for number in numbers:
+            text = self.temporary.pop(number, "")
+            if text and self.target.watches.get(number) == text:
+                self.target.tell(f"unwatch {number}")
+                self.say(f"watch {number} was met, and is dropped: {text}")
 
     def look(self) -> Look:
         """A look at the target as it is, which isn't taken twice where nobody else moves it."""
@@ -384,6 +420,12 @@ class Shell:
             return
         self._warned += 1
         self.hint(f"the history has room for {left} more lines, looks among them: see help history")
+
+
+def parted(text: str) -> Tuple[str, List[str]]:
+    """A line without its comment, and its words."""
+    stripped = without_comment(text.encode("utf-8", "replace").decode())
+    return stripped, stripped.replace("\t", " ").split()
 
 
 def without_comment(line: str) -> str:

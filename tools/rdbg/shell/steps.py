@@ -166,6 +166,14 @@ def break_at(shell: "Shell", words: Sequence[str]) -> None:
         put_break(shell, words)
 
 
+def break_once(shell: "Shell", words: Sequence[str]) -> None:
+    """`tbreak`: the same, and the watch is dropped where `continue` or `rc` meets it."""
+    before = set(shell.target.watches)
+    break_at(shell, words)
+    new = {number: it for number, it in shell.target.watches.items() if number not in before}
+    shell.temporary.update(new)
+
+
 def check_goal(shell: "Shell", words: Sequence[str]) -> None:
     """Raises `Unable` where words are no goal of places, nor of a move, with what would be right."""
     if words[0] in reading.OF_MOVES:

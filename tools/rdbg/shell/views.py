@@ -13,6 +13,8 @@ if TYPE_CHECKING:
     from rdbg.shell.shell import Shell
 
 REGISTERS = tuple(f"r{number}" for number in range(8))
+# What sets a register in C, and in gdb's `print`.
+SETTING = re.compile(r"\$?(?:(\w+)\.)?r([0-7])\s*(?:\w+\s*)?=\s*(\w+)")
 
 
 def table(cells: Sequence[Sequence[str]]) -> List[str]:
@@ -175,20 +177,22 @@ def objects(shell: "Shell") -> None:
     shell.say("\n".join(fitted(rows, shell.width(), (2, 3))))
 
 
-def task(shell: "Shell", name: str) -> None:
-    """All of one task."""
+def task(shell: "Shell", name: str) -> List[str]:
+    """All of one task, as lines."""
     it = shell.look().tasks[name]
     application = shell.target.application
     known = application.task(name) if application else None
     rank = f", priority {known.priority}" if known else ""
     where = f"on core {it.core}" if it.core is not None else "on no core"
     where = "ready" if seat(it) == "ready" else where
-    shell.say(f"task {name}{rank}, {where}, {phase_text(it)}")
-    shell.say(f"pc {it.pc}  {written(shell, name, it.pc)}  {place_in_file(shell, name, it.pc)}")
     values = " ".join(f"{register}={value}" for register, value in zip(REGISTERS, it.registers))
-    shell.say(f"{values}  data {hexadecimal(it.data)}")
     entries = " ".join(f"{at}={note.value}:{note.state}" for at, note in enumerate(it.notes))
-    shell.say(f"notes {entries}")
+    return [
+        f"task {name}{rank}, {where}, {phase_text(it)}",
+        f"pc {it.pc}  {written(shell, name, it.pc)}  {place_in_file(shell, name, it.pc)}",
+        f"{values}  data {hexadecimal(it.data)}",
+        f"notes {entries}",
+    ]
 
 
 def where(shell: "Shell", words: Sequence[str]) -> None:
@@ -258,10 +262,10 @@ def check_name(shell: "Shell", name: str, kind: str = "") -> str:
     raise Unable(f"there is no {what} '{name}'" + (f"; near it is '{near}'" if near else ""))
 
 
-def values(shell: "Shell", words: Sequence[str]) -> None:
+def values(shell: "Shell", words: Sequence[str]) -> List[str]:
     """A register, the data, the pc, the phase or the notes of a task, or of those on the cores; or
     what an object has."""
-    given = re.fullmatch(r"\$?(?:(\w+)\.)?r([0-7])\s*(?:\w+\s*)?=\s*(\w+)", " ".join(words))
+    given = SETTING.fullmatch(" ".join(words))
     if given:
         raise Unable(
             f"`print` shows alone; `poke reg {given[1] or 'worker'} {given[2]} {given[3]}`"
@@ -274,16 +278,15 @@ def values(shell: "Shell", words: Sequence[str]) -> None:
     names = [part for part in parts if part not in wanted]
     look = shell.look()
     if not wanted and names:
-        for name in names:
-            about(shell, name)
-        return
+        return [line for name in names for line in about(shell, name)]
     if not wanted:
         raise Unable("print what? `print r0 worker`, `print data`, `print jobs`")
+    found = []
     for name in names or present(look.cores.running):
         check_name(shell, name, "task")
-        it = look.tasks[name]
-        texts = [f"{part} = {field(it, part)}" for part in wanted]
-        shell.say(f"{name}: {', '.join(texts)}")
+        texts = [f"{part} = {field(look.tasks[name], part)}" for part in wanted]
+        found.append(f"{name}: {', '.join(texts)}")
+    return found
 
 
 FIELDS = ("data", "pc", "phase", "notes")
@@ -303,15 +306,17 @@ def show(shell: "Shell", words: Sequence[str]) -> None:
         shell.command(f"show {kind} {words[0]}")
 
 
-def about(shell: "Shell", name: str, only: str = "") -> None:
-    """All of a task or of the objects of a name, or of the one of a kind."""
+def about(shell: "Shell", name: str, only: str = "") -> List[str]:
+    """All of a task or of the objects of a name, or of the one of a kind, as lines."""
     check_name(shell, name, only)
+    lines: List[str] = []
     for kind in [only] if only else shell.target.names.kinds_of(name):
         if kind == "task":
-            task(shell, name)
+            lines += task(shell, name)
         else:
             found = object_text((kind, name), shell.look().objects[(kind, name)])
-            shell.say(f"{found[0]}  {found[1]}  {found[2]}  waits: {found[3]}")
+            lines.append(f"{found[0]}  {found[1]}  {found[2]}  waits: {found[3]}")
+    return lines
 
 
 def watches(shell: "Shell") -> None:
@@ -341,15 +346,15 @@ def info(shell: "Shell", words: Sequence[str]) -> None:
     if word in TABLES and not (kind and len(words) == 2):
         TABLES[word](shell)
     elif word == "registers":
-        values(shell, [*REGISTERS, *words[1:]])
+        shell.say("\n".join(values(shell, [*REGISTERS, *words[1:]])))
     elif word == "line":
         where(shell, [])
     elif kind and len(words) == 2:
-        about(shell, words[1], kind)
+        shell.say("\n".join(about(shell, words[1], kind)))
     elif kind:
         (tasks if kind == "task" else objects)(shell)
     elif word:
-        about(shell, word)
+        shell.say("\n".join(about(shell, word)))
     else:
         raise Unable(f"info what? {', '.join(INFO_WORDS)}, or a task's or an object's name")
 

@@ -7,7 +7,7 @@ from rdbg import commands
 from rdbg.goals.scope import Scope
 from rdbg.looks import Names
 from rdbg.reaching import asking
-from rdbg.shell import basics, paces, reach, replay, seek, steps, views
+from rdbg.shell import basics, displays, paces, reach, replay, seek, sourcing, steps, views
 
 if TYPE_CHECKING:
     from rdbg.shell.shell import Shell
@@ -72,6 +72,18 @@ AGAIN = (
     "up to it aren't the same any more."
 )
 
+EXPRESSIONS = (
+    "EXPR is a part of a task (r0 to r7, pc, data, phase, notes), by itself of the tasks on the cores;\n"
+    "a name; a goal, which holds or fails; or is computed: amounts as in conditions (count jobs), or\n"
+    "short (jobs.count, worker.r0), and numbers, with + - * / % & | ^ << >> ( ) and = != < <= > >=.\n"
+    "Numbers are whole, of any size, below 0 too."
+)
+SOURCE = (
+    "It ends at the first line that is refused. Before the first line that is typed, the file\n"
+    ".rdbginit of your home and that of the application's folder are done so, where they are yours;\n"
+    "they write no file. `--nx` leaves them out."
+)
+
 SAVE_ANEW = functools.partial(replay.save, is_anew=True)
 WORDS: Tuple[Word, ...] = (
     Word("where", "each core's task, its instruction and line", views.where, ("w",)),
@@ -85,12 +97,22 @@ WORDS: Tuple[Word, ...] = (
     ),
     Word("list [TASK]", "a script, its place marked", views.listing, ("l",), ("K",)),
     Word(
-        "print rN [TASK]",
-        "a register, data, pc, phase or notes of a task",
-        views.values,
-        ("p",),
+        "print EXPR",
+        "r0 worker, worker.pc, jobs, count jobs + 1, or a goal",
+        displays.put,
+        ("p", "output", "inspect"),
         ("PART", "K"),
+        EXPRESSIONS,
     ),
+    Word(
+        "display [EXPR]",
+        "prints it now, and behind each line that moves the target",
+        displays.display,
+        (),
+        ("PART", "K"),
+        EXPRESSIONS,
+    ),
+    Word("undisplay [N ..]", "displays it no more; without N all", displays.undisplay),
     Word(
         "step TASK [COUNT]", "an instruction of a task, on whichever core", steps.step, (), ("K",)
     ),
@@ -147,12 +169,20 @@ WORDS: Tuple[Word, ...] = (
         ("b",),
         ("BREAK",),
     ),
+    Word(
+        "tbreak TASK PC",
+        "the same for one time: continue or rc drops it there",
+        steps.break_once,
+        ("tb",),
+        ("BREAK",),
+    ),
     Word("delete N", "drops a watch: unwatch N", steps.delete, ("d",)),
     Word("moves [COUNT|all]", "who did what, and what came of it", replay.moves, (), ("all",)),
     Word("goto PLACE", "to the place with so many moves done", steps.goto, ("g",)),
     Word("save FILE", "the moves as lines that rdbg replays", replay.save, (), ("FILE",), SAVE),
     Word("save! FILE", "the same, onto a file that is there", SAVE_ANEW, (), ("FILE",), SAVE),
     Word("reload", "the same moves on the edited file", replay.reload, more=RELOAD),
+    Word("source FILE", "does each line of a file", sourcing.source, (), ("FILE",), SOURCE),
     *(
         Word(f"{it.word} [GOAL]", it.asks, reach.asks(it), (), ("GOAL!",), QUESTION.format(it.more))
         for it in asking.QUESTIONS.values()
