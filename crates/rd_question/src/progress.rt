@@ -5,7 +5,7 @@ use rd_reach::answer::{SearchCounts, Watch};
 use std::io;
 use std::io::Write;
 
-/// Lets a search go on, and tells what it went through each time it is asked, where that is wanted.
+/// Tells what a search went through each time that it sees it, where that is wanted.
 #[derive(Drop)]
 pub(crate) struct Progress<'a, E: Write> {
     errors: &'a mut E,
@@ -25,12 +25,11 @@ impl<'a, E: Write> Progress<'a, E> {
 }
 
 impl<'a, E: Write> Watch for Progress<'a, E> {
-    fn goes_on(&mut self, counts: &SearchCounts) -> bool {
+    fn sees(&mut self, counts: &SearchCounts) {
         if self.is_told {
             // (Nobody is left to be told that the telling failed.)
             let _ = tell_progress(self.errors, self.surprises, counts);
         }
-        true
     }
 }
 

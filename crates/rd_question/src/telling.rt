@@ -105,7 +105,7 @@ pub(crate) fn told(cause: FullCause) -> &'static str {
         FullCause::States => "as many states as may be kept (--states)",
         FullCause::Bytes => "as much memory as may be taken (--memory)",
         FullCause::Memory => "there is no more memory",
-        FullCause::Stopped => "it was stopped",
+        FullCause::Turns => "it took as many turns as can be counted",
         FullCause::Limit => "the tick came to the last there is (--exact)",
     }
 }

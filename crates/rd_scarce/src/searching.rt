@@ -83,14 +83,12 @@ impl Sought {
     }
 }
 
-// Lets each search go on.
+// Looks on and says nothing.
 #[derive(Drop)]
 struct NoWatch;
 
 impl Watch for NoWatch {
-    fn goes_on(&mut self, _counts: &SearchCounts) -> bool {
-        true
-    }
+    fn sees(&mut self, _counts: &SearchCounts) {}
 }
 
 // What comes next: a move of a task that is on a core, or a tick.

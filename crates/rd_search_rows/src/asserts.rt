@@ -11,14 +11,12 @@ pub fn assert_same<T: PartialEq + Debug + Copy>(rt: &impl Abort, found: T, wante
     assert_eq!(rt; found, wanted);
 }
 
-/// Lets each search go on.
+/// Looks on and says nothing.
 #[derive(Drop)]
 pub struct Quiet;
 
 impl Watch for Quiet {
-    fn goes_on(&mut self, _counts: &SearchCounts) -> bool {
-        true
-    }
+    fn sees(&mut self, _counts: &SearchCounts) {}
 }
 
 impl Onlooker for Quiet {
