@@ -49,10 +49,9 @@ class Keys(OnPage):
             for _ in range(90):
                 self.browser.key("Tab")
                 seen.append(self.value(FOCUSED))
-            wanted = (
-                "tick count do-back do-redo do-forward keep do-trim condition most back-until watch"
-            )
-            wanted += " line take give wish name talk slider search lanes state theme help-button"
+            wanted = "tick count do-back do-redo do-forward keep do-trim goal most do-until becomes back-until"
+            wanted += " watch ask-reach line save reload take words whom save-talk name talk slider"
+            wanted += " search lanes state theme help-button"
             self.assertLessEqual(set(wanted.split()), set(seen))
             for text in ("until", "poke", "isr", "send", "rename"):
                 self.assertIn(text, seen)
@@ -93,13 +92,13 @@ class Keys(OnPage):
     def test_watches(self) -> None:
         with web_room() as room, session(room, "left") as left:
             self.visit(room)
-            self.fill("#condition", "count jobs > 0")
+            self.fill("#goal", "count jobs > 0")
             self.click("#watch")
             watch = "document.querySelector('#watches').textContent"
             self.browser.until(f"{watch}.startsWith('w0 count jobs > 0: fails')")
             left.tell("until count jobs > 0 50")
             self.browser.until(f"{watch}.startsWith('w0 count jobs > 0: holds')")
-            self.fill("#condition", "w0")
+            self.fill("#goal", "w0")
             self.click("#back-until")
             self.said("web: back until w0 -> ok at 0 start")
             self.browser.until(f"{watch}.startsWith('w0 count jobs > 0: fails')")
