@@ -53,7 +53,7 @@ class Keys(OnPage):
             wanted += " watch ask-reach line save reload take words whom save-talk name talk slider"
             wanted += " search lanes state theme help-button"
             self.assertLessEqual(set(wanted.split()), set(seen))
-            for text in ("until", "poke", "isr", "send", "rename"):
+            for text in ("poke", "isr", "send", "say", "rename"):
                 self.assertIn(text, seen)
             self.assertTrue(any(it.startswith("step 0: ") for it in seen), seen)
             self.value("document.activeElement.blur()")
@@ -72,9 +72,12 @@ class Keys(OnPage):
             for line, said in (
                 ("step 1", "web: step 1 -> ok at 1, producer 0 data 41"),
                 ("show queue jobs", "show queue jobs -> queue jobs 0/1 items - recv -"),
-                ("show queue job", "show queue job -> no NoSuch: there is no core, register"),
-                ("stepp 1", "stepp 1 -> no Syntax: the line is no command"),
-                ("back 7", "back 7 -> no TooFar 1: only so many moves can be taken back"),
+                (
+                    "show queue job",
+                    "show queue job -> no NoSuch: there is no queue 'job'; near it is `jobs`",
+                ),
+                ("stepp 1", "stepp 1 -> no Syntax: "),
+                ("back 7", "back 7 -> no TooFar 1: only 1 moves can be taken back: `goto 0`"),
                 ("# say <b>hello</b>", "web says: <b>hello</b>"),
                 ("# none", "no: a line that begins with #"),
             ):

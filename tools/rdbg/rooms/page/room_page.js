@@ -5,8 +5,6 @@ const SCALE = 64;
 const NARROW_SCALE = 40;
 // In a small window the lanes have so much of its height.
 const PART_SMALL = 0.3;
-// What was done, which all are told.
-const DONE = /^ok [^\n]*$/;
 // The goal of a line that asks for one or goes to one, or of its answer; one that tells of a move.
 const GOALS = [/^\s*(?:reach|lost|doomed|back until) (.+)$/, /^\s*until (.+) \d+$/];
 const MET = /^at \d+ met: (.+)$/;

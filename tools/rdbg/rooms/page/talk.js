@@ -2,6 +2,8 @@
 
 const MOST_SAID = 500;
 const MOST_KEPT = 10000;
+// A reply of which a notice tells.
+const DONE = /^ok [^\n]*$/;
 
 // What is marked of a notice: what was said to one alone, what was done here, what others did.
 function kindOf(text, me) {
