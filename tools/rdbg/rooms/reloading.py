@@ -54,3 +54,5 @@ def reload(room: "Room", member: "Member") -> None:
         room.take(member, lines, made_again(room.app_source, lines))
     except (Refusal, Failure) as why:
         member.hear(f"# no: {'; '.join(str(why).splitlines())}")
+    finally:
+        room.is_reloading = False

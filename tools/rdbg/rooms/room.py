@@ -55,7 +55,7 @@ class Room:
         self.when_over: Callable[[], None] = lambda: None
         # Is called once the room goes on with another source, and follows nothing any more.
         self.when_reloaded: Callable[[], None] = lambda: None
-        self.is_over = False
+        self.is_over = self.is_reloading = False
         # Who has said no line for so many seconds is idle.
         self.idle = IDLE
         self._program, self._seats = Program(host, source, limits), Seats(host.numbers())
@@ -374,6 +374,9 @@ class Room:
         """Begins to read the file anew, for who has the wheel. Raises `Refusal`."""
         if self._program.holder != member.session:
             raise Refusal("who has the wheel reads the file anew: `wheel take`")
+        if self.is_reloading:
+            raise Refusal("the file is read anew already")
+        self.is_reloading = True
         reloading.begin_reload(self, member)
         return "begun"
 

@@ -231,7 +231,7 @@ class Shell:
             self.stopped(f"at {self.target.place}")
         except Refused as refused:
             self.is_refused = True
-            self.say(f"rdbg says: no {refused}")
+            self.refuse(f"rdbg says: no {refused}")
             self.hint(hints.refusal(self, self.asked, refused))
 
     @contextlib.contextmanager
