@@ -66,6 +66,7 @@ class Typed(unittest.TestCase):
                 ("redo 1", "no NothingUndone: "),
                 ("unwatch 4", "no NoWatch: there is no such watch"),
                 ("save moves.commands", "no: `save` alone gives the moves to the browser"),
+                ("source /etc/passwd", "no: a page reads and writes no files"),
                 ("quit", "no: who closes the page is away"),
             ):
                 with self.subTest(line):

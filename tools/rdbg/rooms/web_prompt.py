@@ -7,6 +7,7 @@ from rdbg.commands import MOST_BYTES
 from rdbg.driving.target import Target
 from rdbg.rooms.quiet import Quiet
 from rdbg.rooms.room import Member, Room
+from rdbg.shell.words import BY_NAME
 
 # What a prompt does by itself, and a page has otherwise.
 ELSEWHERE: Dict[str, str] = {
@@ -58,8 +59,11 @@ class Prompt(Quiet):
 
     def said(self, line: str) -> str:
         words = line.split()
-        if words[:1] != [] and words[0] in ELSEWHERE:
+        word = BY_NAME.get(words[0]) if words else None
+        if words and words[0] in ELSEWHERE:
             return f"no: {ELSEWHERE[words[0]]}"
+        if word is not None and "FILE" in word.behind:
+            return f"no: a page reads and writes no files of the room's machine: `{words[0]}` is for `sh`"
         if "\n" in line or len(line.encode("utf-8", "replace")) > MOST_BYTES:
             return f"{self._member.ask(line)}: a line has at most {MOST_BYTES} bytes, and no other behind it"
         self.target.moved_by_others(self._room.place)
