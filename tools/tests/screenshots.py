@@ -55,7 +55,7 @@ def room_pictures(browser: Browser, folder: pathlib.Path) -> Iterator[pathlib.Pa
         ada.tell("wheel take")
         ada.tell("until count jobs > 0 50")
         browser.until(shown.format(5))
-        browser.value("document.querySelector('#condition').value = 'count jobs > 0'")
+        browser.value("document.querySelector('#goal').value = 'count jobs > 0'")
         for button in ("#watch", "#tick"):
             browser.click(*browser.middle(button))
         for line in ("step 1", "step 1", "step 1", "back 2"):

@@ -149,7 +149,7 @@ class AtOnce(OnPage):
 
     def ended(self, room: WebRoom, kept: pathlib.Path) -> None:
         """One audit is of all; the talk has what each said, refusals with it."""
-        self.assertRegex(room.end_well(), r"^closed \d+\n$")
+        self.assertRegex(room.end_well(), r"^(# .*\n)*closed \d+\n$")
         said = rows(kept)
         for name in ("right", "web", "editor"):
             self.assertIn(REFUSED, [reply for who, _, reply in said if who == name], name)

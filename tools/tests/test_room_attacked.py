@@ -32,7 +32,7 @@ class Attacked(unittest.TestCase):
         listening, replies, output, errors, status, found = json.loads(ran.stdout)
         self.assertEqual(listening, f"listening {PORT}\n", errors)
         self.assertEqual(replies, ["ok at 1", "ok at 0"] * (LINES // 2))
-        self.assertRegex(output, r"^(closed \d+\n){2,}$")
+        self.assertRegex(output, r"^(# .*\n)+(closed \d+\n){2,}$")
         self.assertEqual(status, 0, errors)
         return int(found)
 

@@ -39,6 +39,7 @@ class Together(unittest.TestCase):
         written = AUDIT.search(text)
         assert written is not None
         self.assertEqual(audit.text(), written[0])
+        self.assertIn("".join(f"# {row}\n" for row in room.counts.rows()) + written[0], text)
 
 
 if __name__ == "__main__":

@@ -54,10 +54,14 @@ class Ends(unittest.TestCase):
                         status = here.end(number)
                         # (2 sessions come and leave; a line and two looks at 5 things)
                         closed = f"closed {2 * 2 + 1 + 2 * 5}"
-                        self.assertEqual((status, here.output), (0, f"{closed}\n"))
-                        self.assertEqual(left.rest(), [f"# the room has ended: {closed}"])
+                        did = "left: 1 move"
+                        self.assertEqual((status, here.output), (0, f"# {did}\n{closed}\n"))
+                        self.assertEqual(
+                            left.rest()[-2:], [f"# {did}", f"# the room has ended: {closed}"]
+                        )
                 self.assertEqual(
-                    rows(file)[-2:], [["left", "tick", "ok at 1"], ["room", "#", closed]]
+                    rows(file)[-3:],
+                    [["left", "tick", "ok at 1"], ["room", "#", did], ["room", "#", closed]],
                 )
 
     def test_a_signal_that_another_thread_gets(self) -> None:
@@ -122,7 +126,7 @@ class Ends(unittest.TestCase):
                 left.send("# who")
                 left.expect("# here: left")
             self.assertEqual(here.end(), 1)
-            self.assertRegex(here.output, r"^closed \d+\n$")
+            self.assertRegex(here.output, r"^(# .*\n)*closed \d+\n$")
             self.assertEqual(here.errors, f"rdbg room: {file} isn't complete: File too large\n")
             kept = rows(file)
             self.assertGreater(len(kept), 20)

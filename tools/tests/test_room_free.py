@@ -91,7 +91,7 @@ class Free(unittest.TestCase):
             time.sleep(0.2)
             self.assertEqual(ada.ask("tick"), "ok at 1")
             self.assertEqual(here.end(), 0)
-            self.assertRegex(here.output, r"^closed \d+\n$")
+            self.assertRegex(here.output, r"^(# .*\n)*closed \d+\n$")
 
     def test_no_standard_input(self) -> None:
         for instead in ("&-", "/dev/null", LOST):

@@ -73,7 +73,7 @@ class Goals(unittest.TestCase):
             ("until! asleap", "no Syntax: word 1, 'asleap': .*; `asleep` would be right"),
             ("rc! sleeps nobody", "no Syntax: word 2, 'nobody': the name of a task is wanted"),
             ("rc", "no Syntax: to what. a goal, as `rc asleep`"),
-            ("fly", "no Syntax$"),
+            ("fly", "no Syntax: .fly. is no word"),
         ):
             with self.subTest(line):
                 self.assertRegex(self.said(LOST, line)[0], f"^{why}")

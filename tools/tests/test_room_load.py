@@ -63,7 +63,7 @@ class Load(unittest.TestCase):
             self.assertEqual(wrong, [])
             self.assertLess(time.monotonic() - began, BOUND)
             self.assertEqual(here.end(), 0, here.errors)
-            self.assertRegex(here.output, r"^closed \d+\n$")
+            self.assertRegex(here.output, r"^(# .*\n)*closed \d+\n$")
             kept: Dict[str, List[Tuple[str, str]]] = {name: [] for name in found}
             for who, line, reply in rows(file):
                 if not line.startswith("#"):

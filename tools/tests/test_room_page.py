@@ -50,8 +50,8 @@ class Moving(OnPage):
             self.fill("#count", "2")
             self.click("#do-redo")
             self.at(4)
-            self.fill("#condition", "tick > 3")
-            self.click("#until button[type=submit]")
+            self.fill("#goal", "tick > 3")
+            self.click("#do-until")
             self.browser.until(
                 "document.querySelector('#state-title').textContent.includes('tick 4')"
             )

@@ -49,12 +49,11 @@ class Keys(OnPage):
             for _ in range(90):
                 self.browser.key("Tab")
                 seen.append(self.value(FOCUSED))
-            wanted = (
-                "tick count do-back do-redo do-forward keep do-trim condition most back-until watch"
-            )
-            wanted += " line take give wish name talk slider search lanes state theme help-button"
+            wanted = "tick count do-back do-redo do-forward keep do-trim goal most do-until becomes back-until"
+            wanted += " watch ask-reach line save reload take words whom save-talk name talk slider"
+            wanted += " search lanes state theme help-button"
             self.assertLessEqual(set(wanted.split()), set(seen))
-            for text in ("until", "poke", "isr", "send", "rename"):
+            for text in ("poke", "isr", "send", "say", "rename"):
                 self.assertIn(text, seen)
             self.assertTrue(any(it.startswith("step 0: ") for it in seen), seen)
             self.value("document.activeElement.blur()")
@@ -73,9 +72,12 @@ class Keys(OnPage):
             for line, said in (
                 ("step 1", "web: step 1 -> ok at 1, producer 0 data 41"),
                 ("show queue jobs", "show queue jobs -> queue jobs 0/1 items - recv -"),
-                ("show queue job", "show queue job -> no NoSuch: there is no core, register"),
-                ("stepp 1", "stepp 1 -> no Syntax: the line is no command"),
-                ("back 7", "back 7 -> no TooFar 1: only so many moves can be taken back"),
+                (
+                    "show queue job",
+                    "show queue job -> no NoSuch: there is no queue 'job'; near it is `jobs`",
+                ),
+                ("stepp 1", "stepp 1 -> no Syntax: "),
+                ("back 7", "back 7 -> no TooFar 1: only 1 moves can be taken back: `goto 0`"),
                 ("# say <b>hello</b>", "web says: <b>hello</b>"),
                 ("# none", "no: a line that begins with #"),
             ):
@@ -93,13 +95,13 @@ class Keys(OnPage):
     def test_watches(self) -> None:
         with web_room() as room, session(room, "left") as left:
             self.visit(room)
-            self.fill("#condition", "count jobs > 0")
+            self.fill("#goal", "count jobs > 0")
             self.click("#watch")
             watch = "document.querySelector('#watches').textContent"
             self.browser.until(f"{watch}.startsWith('w0 count jobs > 0: fails')")
             left.tell("until count jobs > 0 50")
             self.browser.until(f"{watch}.startsWith('w0 count jobs > 0: holds')")
-            self.fill("#condition", "w0")
+            self.fill("#goal", "w0")
             self.click("#back-until")
             self.said("web: back until w0 -> ok at 0 start")
             self.browser.until(f"{watch}.startsWith('w0 count jobs > 0: fails')")

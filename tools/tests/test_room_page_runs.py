@@ -69,7 +69,7 @@ class People(OnPage):
             self.visit(room, "ada")
             self.click("#take")
             self.browser.until("document.querySelector('#wheel').textContent.startsWith('You')")
-            self.fill("#condition", "tick > 0")
+            self.fill("#goal", "tick > 0")
             self.click("#watch")
             self.browser.until("document.querySelector('#watches').textContent !== ''")
             self.browser.visit("about:blank")

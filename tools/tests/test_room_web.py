@@ -313,12 +313,14 @@ class Lines(unittest.TestCase):
                 ("step 0\nstep 1", "no Syntax"),
                 ("x" * 1_025, "no LineTooLong"),
                 ("\u20ac" * 500, "no LineTooLong"),
-                ("", "no Syntax"),
+                ("", ""),
                 ("st\u00e4p 0", "no Syntax"),
                 ("step 0\x00", "no Syntax"),
-                ("step 9", "no NoSuch"),
+                ("tick 2\ntick 2", "no Syntax"),
+                ("step 9", "no NoSuch: there are 2 cores, from 0 on"),
             ):
-                self.assertEqual(reply, said(here, "line", page=key, line=line)["reply"], line[:9])
+                found = said(here, "line", page=key, line=line)["reply"]
+                self.assertTrue(found.startswith(reply), f"{line[:9]}: {found}")
             self.assertEqual(1, here.room.place)
             for other in ("", key[:-1], f"{key}x"):
                 answer = said(here, "line", page=other, line="step 0")
@@ -363,7 +365,8 @@ class Lines(unittest.TestCase):
                 who = raw.expect("who")
                 self.assertEqual(("web2", {}), (who["name"], who["watches"]))
                 self.assertEqual(
-                    {"reply": "no Held 2"}, said(here, "line", page=key, line="step 0")
+                    {"reply": "no Held 2: web has the wheel: `# wheel` asks for it"},
+                    said(here, "line", page=key, line="step 0"),
                 )
                 self.assertEqual(
                     {"reply": "watches -"}, said(here, "line", page=key, line="show watches")

@@ -12,11 +12,11 @@ from rdbg.options import bounded, port
 from rdbg.door import TOKEN, Door
 from rdbg.ending import Terminated
 from rdbg.failure import Failure
-from rdbg.rooms import keys, web, web_address
+from rdbg.rooms import keys, remarks, web, web_address
 from rdbg.rooms.host import MOST_SESSIONS, Hindered
 from rdbg.rooms.program import HISTORY
 from rdbg.rooms.port import Port, listening
-from rdbg.rooms.room import Room
+from rdbg.rooms.room import IDLE, Room
 from rdbg.rooms.talk import Talk, opened
 from rdbg.rooms.web import Served
 from rdbg.driving.target import Limits
@@ -25,8 +25,7 @@ from rdbg.files.source import Source
 SUMMARY = "a room for several at one target, by names: what anyone does, all are told"
 EPILOG = (
     "`rdbg sh --port P --name NAME` attaches to it, or any program that opens a connection, as nc."
-    " Lines that begin with # are for the room: `# name NAME`, `# who`, `# say TEXT`,"
-    " `# moves COUNT`, `# wheel`. Typed at the room itself, `free` gives back the wheel of who is idle."
+    f" Lines that begin with # are for the room: {remarks.WORDS}. Typed at the room itself, `free` gives back the wheel of who is idle."
     " Ctrl-C, or SIGTERM, ends it with rdbg's own audit. The status is"
     " 0; 1 where the application is refused, rdbg ends before, its audit finds something, or the"
     " talk couldn't be kept; 2 where a file or a port can't be had."
@@ -77,9 +76,9 @@ def parser() -> argparse.ArgumentParser:
     made.add_argument(
         "--idle",
         type=bounded(1),
-        default=keys.IDLE,
+        default=IDLE,
         metavar="S",
-        help=f"seconds without a line after which the wheel can be freed, else {keys.IDLE}",
+        help=f"seconds without a line after which the wheel can be freed, else {IDLE}",
     )
     made.add_argument("--moves", type=bounded(1), metavar="N", help="how many moves may be done")
     made.add_argument(
@@ -149,6 +148,8 @@ def serve(room: Room, port: Port, talk: Optional[Talk], pages: Optional[Served])
     port.close()
     if pages is not None:
         pages.close()
+    for row in room.counts.rows():
+        print(f"# {row}")
     for audit in audits:
         print(audit.text(), file=sys.stdout if audit.is_good else sys.stderr)
     if talk is not None and talk.fault:
@@ -187,5 +188,6 @@ def open_and_serve(given: argparse.Namespace, ends: contextlib.ExitStack) -> int
         print(f"web {where}", flush=True)
     if sys.stdout.isatty():
         print(f"# rdbg sh --port {given.port} --name NAME {given.file}: a prompt in it", flush=True)
-    keys.listen(room, given.idle)
+    room.idle = given.idle
+    keys.listen(room)
     return serve(room, port, talk, pages)

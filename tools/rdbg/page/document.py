@@ -21,6 +21,7 @@ SCRIPTS = tuple(
         "painter.js",
         "timeline.js",
         "tables.js",
+        "folds.js",
         "panels.js",
         "search.js",
         "lane_panel.js",

@@ -141,8 +141,8 @@ class ScriptPanel {
   show(place) {
     const move = this.run.move(place);
     if (move && move.task !== null) this.moved = move.task;
-    const chosen = this.choice.value === "" ? this.moved : Number(this.choice.value);
-    const task = this.run.tasks[chosen];
+    this.chosen = this.choice.value === "" ? this.moved : Number(this.choice.value);
+    const task = this.run.tasks[this.chosen];
     if (!task) return;
     const pc = this.run.value(task.tracks.pc, place);
     const lines = scriptLines(task.code);

@@ -13,7 +13,7 @@ const MOVING_KEYS = [
   ["/", "search; Enter finds the next, Escape leaves it"],
   ["n and N", "the next that was found, the one before"],
   ["g", "go to a place by its number"],
-  ["+ and -, 0", "fewer moves, more, all; so does the wheel over the ruler, or with Ctrl"],
+  ["+ and -, a", "fewer moves, more, all; so does the wheel over the ruler, or with Ctrl"],
   ["p, v", "pins the lane that is chosen, or lets it go; pins what this move was of, whom it woke too"],
   ["o, y", "chooses a lane; leaves out all but some"],
   ["Up, Down", "scrolls lanes or state, where the focus is (Tab)"],
@@ -76,6 +76,7 @@ class Viewer {
     new Table(byId("help"), ["", ""]).show([...MOVING_KEYS, ...this.moreKeys, ...LAST_KEYS]);
     new Table(byId("signs"), ["", ""]).show([...SIGNS, ...this.moreSigns]);
     byId("legend").textContent = LEGEND;
+    foldAway();
     this.say();
     this.listen();
   }
@@ -219,18 +220,19 @@ class Viewer {
       e: () => this.next(this.hands),
       E: () => this.before(this.hands),
       x: () => this.goLost(),
-      "/": () => byId("search").select(),
+      "/": () => unfolded("search").select(),
       n: () => this.goFound(true),
       N: () => this.goFound(false),
-      g: () => byId("place").select(),
+      g: () => unfolded("place").select(),
       "+": () => this.zoom(timeline.scale * 1.5),
       "=": () => this.zoom(timeline.scale * 1.5),
       "-": () => this.zoom(timeline.scale / 1.5),
       0: () => this.zoom(timeline.whole()),
+      a: () => this.zoom(timeline.whole()),
       p: () => this.lanePanel.pin(byId("lane").value),
       v: () => this.lanePanel.pinMoved(run, run.move(this.place)),
-      o: () => byId("lane").focus(),
-      y: () => byId("lane-filter").select(),
+      o: () => unfolded("lane").focus(),
+      y: () => unfolded("lane-filter").select(),
       t: () => this.changeTheme(),
       "?": () => byId("help").showModal(),
     };
@@ -275,7 +277,7 @@ class Viewer {
   listenToButtons() {
     const keys = this.keys();
     const buttons = { first: "Home", back: "ArrowLeft", forward: "ArrowRight", last: "End" };
-    Object.assign(buttons, { out: "-", in: "+", whole: "0", theme: "t", "help-button": "?" });
+    Object.assign(buttons, { out: "-", in: "+", whole: "a", theme: "t", "help-button": "?" });
     Object.assign(buttons, { "previous-found": "N", "next-found": "n", "to-loss": "x" });
     for (const id in buttons) byId(id).addEventListener("click", () => keys[buttons[id]]());
   }
@@ -286,6 +288,8 @@ class Viewer {
     this.dragging = new Dragging(this, byId("canvas"), lanes);
     new ResizeObserver(() => {
       timeline.fit();
+      timeline.keepInside();
+      timeline.follow(this.place);
       this.again();
     }).observe(lanes);
   }

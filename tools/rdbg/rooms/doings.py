@@ -11,10 +11,15 @@ class Doing:
     """What was typed, and what the lines that it took have done so far that others weren't told.
     Without a text it is a program that looks for itself."""
 
-    def __init__(self, text: str) -> None:
+    def __init__(self, text: str, place: int) -> None:
         self.text = text
         self._done: List[List[str]] = []
-        self._place = 0
+        self._from = self._place = place
+
+    @property
+    def moved(self) -> int:
+        """By how much its lines have moved the target, back where that is negative."""
+        return self._place - self._from
 
     def has(self, command: Optional[Command]) -> bool:
         """Whether a line is but a part of it. What changes something by hand, and a trim, are told

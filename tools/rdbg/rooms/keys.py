@@ -14,8 +14,6 @@ from rdbg.rooms.seats import Refusal
 from rdbg.wording import counted
 
 FREE = "free"
-# So many seconds without a line make who has the wheel idle, unless it is said otherwise.
-IDLE = 60
 # So many seconds pass until a terminal is read again that is another program's for now.
 AGAIN = 1.0
 # So many seconds it rests between two pieces of what comes.
@@ -47,39 +45,40 @@ def lines_of(number: int) -> Iterator[str]:
         time.sleep(BREATH)
 
 
-def usage(idle: int) -> str:
+def usage(room: Room) -> str:
     """What can be typed."""
-    return f"`{FREE}` gives back the wheel of who is away, or idle for {counted(idle, 'second')}"
+    idle = counted(room.idle, "second")
+    return f"`{FREE}` gives back the wheel of who is away, or idle for {idle}"
 
 
-def do(room: Room, line: str, idle: int) -> str:
+def do(room: Room, line: str) -> str:
     """Does a line, and answers what is to be said of it."""
     if line.lstrip("# ") != FREE:
-        return usage(idle)
+        return usage(room)
     try:
-        return room.free_wheel(idle)
+        return room.free_wheel()
     except Refusal as refusal:
         return f"no: {refusal}"
 
 
-def hear(room: Room, number: int, idle: int) -> None:
+def hear(room: Room, number: int) -> None:
     """Does what comes by standard input, up to its end. Only at a terminal it is said what a line
     that is none could be: what else comes by a pipe is for somebody else."""
     for line in lines_of(number):
         if line.lstrip("# ") == FREE or line and os.isatty(number):
             try:
-                print(f"# {do(room, line, idle)}", flush=True)
+                print(f"# {do(room, line)}", flush=True)
             except (Failure, OSError):
                 return  # (the program has ended, or nobody reads what is said)
 
 
-def listen(room: Room, idle: int) -> None:
+def listen(room: Room) -> None:
     """Begins to hear standard input, where there is one. At a terminal it says what for."""
     if sys.stdin is None:
         return
     if sys.stdin.isatty() and sys.stdout.isatty():
-        print(f"# {usage(idle)}", flush=True)
+        print(f"# {usage(room)}", flush=True)
     # (who reads a terminal from the background would be stopped)
     signal.signal(signal.SIGTTIN, signal.SIG_IGN)
-    words = (room, sys.stdin.fileno(), idle)
+    words = (room, sys.stdin.fileno())
     threading.Thread(target=hear, args=words, daemon=True).start()

@@ -75,13 +75,17 @@ class Program:
         except Ended as ended:
             self.when_over(str(ended))
             raise
+        self._take(seat, lines, answers)
+        return answers
+
+    def _take(self, seat: Seat, lines: Sequence[str], answers: Sequence[str]) -> None:
+        """Takes note of what was answered to lines."""
         for line, reply in zip(lines, answers):
             self._used += reply[len("no ") :] not in UNCOUNTED
             command = read_line(line)
             if command is not None:
                 self.memory.keep(seat.number, command, reply)
                 self._learn(seat, command, reply)
-        return answers
 
     def _learn(self, seat: Seat, command: Command, reply: str) -> None:
         """Keeps account of moves, the wheel and watches."""
@@ -174,11 +178,47 @@ class Program:
         if host is None:
             self._again = time.monotonic() + AGAIN
             return False
-        old, self._host, self._used = self._host, host, used
+        self._go_on_with(host, ended)
+        self._used = used
+        return True
+
+    def _go_on_with(self, host: Host, ended: Callable[[Audit], None]) -> None:
+        """Goes on with a new program; the old one ends meanwhile."""
+        old, self._host = self._host, host
         thread = threading.Thread(target=lambda: ended(old.close()))
         self._ending.append(thread)
         thread.start()
-        return True
+
+    def reload(
+        self,
+        source: Source,
+        lines: List[str],
+        seats: Sequence[Seat],
+        ended: Callable[[Audit], None],
+    ) -> List[str]:
+        """Goes on with a new program that has another source, where these lines lead, and answers
+        the watches that it refuses, which are dropped. The old one ends as by `renew`. Raises
+        `Failure` where the new one can't be had."""
+        assert source.application is not None
+        host = Host.start(source, self.limits, len(seats), TRIES)
+        try:
+            answers = host.tell_all(seats[0].number, lines)
+            refused = next((it for it in answers if it.startswith("no ")), None)
+            if refused is not None:
+                raise Failure(f"the new rdbg answered {refused}")
+            used = sum(2 * len(it.watches) + len(it.watch_lines()) for it in seats)
+            dropped = [it for seat in seats for it in watch_again(host, seat)]
+            if self.holder is not None:
+                host.tell_all(self.holder, ["wheel take"])
+        except BaseException:
+            host.kill()
+            raise
+        self._go_on_with(host, ended)
+        self.source, self.sight = source, Sight(source.application)
+        self.journal, self.memory, self._used = Journal(), Memory(), 2 * len(seats) + used + 1
+        self._rows.clear()
+        self._take(seats[0], lines, answers)
+        return dropped
 
     def _bring_here(
         self, host: Host, lines: List[str], seats: Sequence[Seat], was: Dict[str, str]
@@ -210,3 +250,16 @@ class Program:
     def close(self) -> Audit:
         """Ends it, and answers its audit."""
         return self._host.close()
+
+
+def watch_again(host: Host, seat: Seat) -> List[str]:
+    """Has a new program keep the watches of a session, under the same numbers. Answers those that it
+    refuses, which are none any more."""
+    dropped = []
+    for number, condition in sorted(seat.watches.items()):
+        reply, _ = host.tell_all(seat.number, [f"watch {condition}", "unwatch 0"])
+        if reply.startswith("no "):
+            dropped.append(f"w{number} of {seat.name}, {condition}, is dropped: {reply}")
+            del seat.watches[number]
+    host.tell_all(seat.number, seat.watch_lines())
+    return dropped

@@ -1,5 +1,5 @@
 """Lines that begin with `#`: they are for the room, and are answered by notices."""
-from typing import TYPE_CHECKING, Callable, Dict, Optional
+from typing import TYPE_CHECKING, Callable, Dict, Optional, Tuple
 
 from rdbg.commands import is_count
 from rdbg.rooms.seats import Refusal
@@ -7,8 +7,7 @@ from rdbg.rooms.seats import Refusal
 if TYPE_CHECKING:
     from rdbg.rooms.room import Member, Room
 
-WORDS = "`# name NAME`, `# who`, `# say TEXT`, `# moves COUNT` or `# wheel`"
-# So many moves are told to who asks, or fewer.
+# So many moves, or rows of the talk, are told to who asks, or fewer.
 MOST = 20
 
 
@@ -34,18 +33,54 @@ def say(room: "Room", member: "Member", rest: str) -> str:
     return text
 
 
-def moves(room: "Room", member: "Member", rest: str) -> Optional[str]:
-    """`# moves [COUNT]`."""
+def to(room: "Room", member: "Member", rest: str) -> str:
+    """`# to NAME: TEXT`."""
+    name, _, text = rest.partition(" ")
+    name, text = name.rstrip(":"), text.strip()
+    if not text:
+        raise Refusal("`# to NAME: TEXT`: say what to whom?")
+    room.tell_one(member, name, text)
+    return f"told {name}"
+
+
+def count_of(rest: str, form: str) -> int:
+    """The COUNT behind a word, or as many as there are told at the most."""
     count = int(rest) if is_count(rest) else 0 if rest else MOST
     if not 0 < count <= MOST:
-        raise Refusal(f"`# moves COUNT`: 1 to {MOST}")
-    text = room.tell_moves(member, count)
+        raise Refusal(f"`# {form}`: 1 to {MOST}")
+    return count
+
+
+def talk(room: "Room", member: "Member", rest: str) -> str:
+    """`# talk [COUNT]`."""
+    return room.tell_talk(member, count_of(rest, "talk COUNT"))
+
+
+def moves(room: "Room", member: "Member", rest: str) -> Optional[str]:
+    """`# moves [COUNT]`."""
+    text = room.tell_moves(member, count_of(rest, "moves COUNT"))
     return text if member.doing is None else None  # (then it is a part of something)
 
 
 def wheel(room: "Room", member: "Member", rest: str) -> str:
     """`# wheel`."""
     return room.wheel_wanted(member)
+
+
+def reload(room: "Room", member: "Member", rest: str) -> str:
+    """`# reload`."""
+    return room.begin_reload(member)
+
+
+def help_on(room: "Room", member: "Member", rest: str) -> str:
+    """`# help`."""
+    width = max(len(form) for form in FORMS)
+    for form, (does, _) in FORMS.items():
+        member.hear(f"# # {form.ljust(width)}  {does}")
+    member.hear(
+        "# all other lines are rdbg's: `step 0`, `tick`, `back 1`, `show cores`, `wheel take`"
+    )
+    return room.tell_place(member)
 
 
 def does(room: "Room", member: "Member", rest: str) -> None:
@@ -58,15 +93,23 @@ def did(room: "Room", member: "Member", rest: str) -> None:
     room.end(member, rest)
 
 
-DO: Dict[str, Callable[["Room", "Member", str], Optional[str]]] = {
-    "name": name,
-    "who": who,
-    "say": say,
-    "moves": moves,
-    "wheel": wheel,
-    "does": does,
-    "did": did,
+Do = Callable[["Room", "Member", str], Optional[str]]
+# The lines, each with what is said of it, and what it does.
+FORMS: Dict[str, Tuple[str, Do]] = {
+    "name NAME": ("you are NAME from now on", name),
+    "who": ("who is here, away and idle, and who has the wheel", who),
+    "say TEXT": ("is told to all", say),
+    "to NAME: TEXT": ("is told to NAME alone", to),
+    "talk COUNT": (f"what all were told, the last {MOST} or fewer", talk),
+    "moves COUNT": (f"what the last moves did, {MOST} or fewer", moves),
+    "wheel": ("asks for the wheel", wheel),
+    "reload": ("makes the same moves on the edited file; for who has the wheel", reload),
+    "help": ("these lines", help_on),
 }
+DO: Dict[str, Do] = {form.split(" ")[0]: do for form, (_, do) in FORMS.items()}
+DO.update(does=does, did=did)
+*OTHERS, LAST = (f"`# {form}`" for form in FORMS)
+WORDS = f"{', '.join(OTHERS)} or {LAST}"
 # What a program says of the lines around it, as often as it likes.
 AROUND = (does, did)
 

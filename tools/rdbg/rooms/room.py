@@ -1,15 +1,16 @@
 """Several, each by a name, at one program that serves: what each of them asks, and what all are
 told."""
-import collections
-import time
-from typing import Callable, Deque, Dict, List, NamedTuple, Optional, Set
+from typing import Callable, Dict, List, NamedTuple, Optional, Set
 
 from rdbg import record
 from rdbg.commands import MOST_BYTES, TARGET, Command
 from rdbg.failure import Failure
-from rdbg.rooms import remarks
+from rdbg.rooms import reloading, remarks
+from rdbg.rooms.counts import Counts
 from rdbg.rooms.doings import Doing
+from rdbg.rooms.heard import Heard
 from rdbg.rooms.host import MOST_SESSIONS, Audit, Ended, Host
+from rdbg.rooms.member import Hear, Member
 from rdbg.rooms.program import FULL, HISTORY, SCARCE, Program
 from rdbg.rooms.seats import Refusal, Seat, Seats, check
 from rdbg.rooms.sight import is_single
@@ -22,15 +23,12 @@ from rdbg.wording import counted
 
 __all__ = ["Ended", "Member", "Refusal", "Room"]
 
-# Is called with each notice, without its line end, while the room has its turn: it must not block,
-# nor ask the room anything.
-Hear = Callable[[str], None]
 TOO_LONG, NO_COMMAND = "no LineTooLong", "no Syntax"
 HELD = "no Held"
 # Of a run the last so many moves are told.
 FEW = 5
-# So many remarks of one are answered in a second.
-MOST_TOLD = 20
+# So many seconds without a line make somebody idle, unless it is said otherwise.
+IDLE = 60
 # It is said when so little of the history is left, one part of so many.
 NEARLY = (SCARCE, 100)
 
@@ -42,66 +40,8 @@ class Person(NamedTuple):
     session: int
     is_here: bool
     has_wheel: bool
-
-
-class Member:
-    """Somebody at a room, with a session of the program."""
-
-    def __init__(self, room: "Room", seat: Seat, hear: Hear, is_told: bool) -> None:
-        self._room, self.seat, self.hear, self.is_told = room, seat, hear, is_told
-        self.is_here = True
-        # What it is in the midst of, by several lines.
-        self.doing: Optional[Doing] = None
-        # (when it last said something to the room, and when it last said a line of any kind)
-        self._told_at: Deque[float] = collections.deque(maxlen=MOST_TOLD)
-        self._said_at = time.monotonic()
-
-    @property
-    def name(self) -> str:
-        """The name."""
-        return self.seat.name
-
-    @property
-    def session(self) -> int:
-        """The number of the session."""
-        return self.seat.number
-
-    def ask(self, line: str) -> str:
-        """The reply to a line of rdbg. Raises `Refusal` for who has left, `Ended` where the program
-        has ended."""
-        return self._room.ask(self, line)
-
-    def remark(self, line: str) -> None:
-        """Does a line that begins with `#`, which is answered by notices."""
-        self._room.remark(self, line)
-
-    def rename(self, name: str) -> None:
-        """Goes on by another name. Raises `Refusal` where that is here already, or no name."""
-        self._room.rename(self, name)
-
-    def announce(self) -> None:
-        """Tells the others who has come, where they weren't told yet."""
-        self._room.announce(self)
-
-    def check_pace(self) -> None:
-        """Raises `Refusal` where it has said too much to the room within a second."""
-        now = time.monotonic()
-        if len(self._told_at) == MOST_TOLD and now - self._told_at[0] < 1:
-            raise Refusal(f"{MOST_TOLD} remarks of one are answered in a second, and no more")
-        self._told_at.append(now)
-
-    def says(self) -> None:
-        """It says a line, or its program does for it: what that looks at by itself is none."""
-        if self.doing is None or self.doing.text:
-            self._said_at = time.monotonic()
-
-    def silence(self) -> int:
-        """For how many seconds it has said nothing."""
-        return int(time.monotonic() - self._said_at)
-
-    def leave(self, why: str = "") -> None:
-        """Is away: the session stays for who comes by this name."""
-        self._room.leave(self, why)
+    # For how many seconds it has said nothing; 0 of who is away.
+    silence: int
 
 
 class Room:
@@ -113,9 +53,13 @@ class Room:
         self.app_source = source
         # Is called once the program has ended by itself. Nothing is answered then, nor at the end.
         self.when_over: Callable[[], None] = lambda: None
-        self.is_over = False
+        # Is called once the room goes on with another source, and follows nothing any more.
+        self.when_reloaded: Callable[[], None] = lambda: None
+        self.is_over = self.is_reloading = False
+        # Who has said no line for so many seconds is idle.
+        self.idle = IDLE
         self._program, self._seats = Program(host, source, limits), Seats(host.numbers())
-        self._talk = talk
+        self._talk, self._heard, self.counts = talk, Heard(), Counts()
         self._program.when_over = self._is_over
         self._members: Dict[int, Member] = {}
         self._turns = Turns()
@@ -159,6 +103,7 @@ class Room:
             if seat.name and (name is None or seat.name != name):
                 self._hand_over(seat)
             member = Member(self, seat, hear, False)
+            member.before = self._heard.last()
             self._seats.sit(seat, called)
             self._members[seat.number] = member
             self._asked.clear()
@@ -219,6 +164,7 @@ class Room:
         if not member.is_told:
             self._announce(member)
         elif name != old:
+            self.counts.rename(old, name)
             self._keep(old, "#", f"is {name} now, session {member.session}")
             self.tell(f"{old} is {name} now, session {member.session}", but=member)
 
@@ -248,21 +194,24 @@ class Room:
             if self.is_over:
                 raise Ended("the room has ended")
             member.says()
+            place = self.place
             try:
                 reply = self._answer(member, line)
             except Ended:
                 self._keep(member.name, line, "")
                 raise
-            is_part = member.doing is not None and member.doing.has(command_of(line))
+            command = command_of(line)
+            is_part = member.doing is not None and member.doing.has(command)
             if line.strip() and not is_part:
                 self._keep(member.name, line, reply)
+                self.counts.line(member.name, command, reply, self.place - place)
             self._warn(member, reply)
             return reply
 
     def begin(self, member: Member, text: str) -> None:
         """Somebody begins what takes several lines; without a text to look for itself."""
         self.end(member, "")
-        member.doing = Doing(text)
+        member.doing = Doing(text, self.place)
 
     def end(self, member: Member, came_to: str) -> None:
         """What somebody was in the midst of has come to an end: that is told and kept."""
@@ -272,6 +221,7 @@ class Room:
             member.doing = None
             if doing.text:
                 self._keep(member.name, doing.text, came_to)
+                self.counts.way(member.name, doing.moved)
 
     def _tell_doing(self, member: Member, came_to: str = "") -> None:
         """Tells the others what somebody has done so far of what takes several lines."""
@@ -348,6 +298,7 @@ class Room:
     def tell(self, text: str, but: Optional[Member] = None) -> None:
         """Tells all who are here, but for one."""
         notice = f"# {shown(text)}"
+        self._heard.keep(shown(text))
         # (others may come and go meanwhile)
         for member in list(self._members.values()):
             if member is not but:
@@ -419,18 +370,56 @@ class Room:
         with self._turns:
             return self._program.journal.lines()
 
+    def begin_reload(self, member: Member) -> str:
+        """Begins to read the file anew, for who has the wheel. Raises `Refusal`."""
+        if self._program.holder != member.session:
+            raise Refusal("who has the wheel reads the file anew: `wheel take`")
+        if self.is_reloading:
+            raise Refusal("the file is read anew already")
+        self.is_reloading = True
+        reloading.begin_reload(self, member)
+        return "begun"
+
+    def take(self, member: Member, was: List[str], new: reloading.Reloaded) -> None:
+        """Goes on with a source that somebody had read anew while these lines led here. Raises
+        `Refusal`, and `Failure` where no new program can be had."""
+        with self._turns:
+            if self.is_over or not member.is_here or self._program.holder != member.session:
+                raise Refusal("the wheel was given back, or the room has ended, before it was read")
+            if self._program.journal.lines() != was:
+                raise Refusal("the target was moved before it was read: once more")
+            seats = self._seats.all
+            dropped = self._program.reload(new.source, new.lines, seats, self._has_ended)
+            self.app_source = new.source
+            self._followers.clear()
+            first, *rows = [*new.said, *dropped]
+            self._keep("room", "#", f"opens {new.source.path}")
+            self.tell(f"{member.name} has the file read anew: {first}")
+            for row in rows:
+                self.tell(row)
+        self.when_reloaded()
+
     def people(self) -> List[Person]:
         """Who has a session, here or away."""
         seats = self._seats.by_name().items()
         holder = self._program.holder
-        return [Person(name, it.number, it.is_here, it.number == holder) for name, it in seats]
+        return [
+            Person(name, it.number, it.is_here, it.number == holder, self._silence(it))
+            for name, it in seats
+        ]
+
+    def _silence(self, seat: Seat) -> int:
+        """For how many seconds who has a session has said nothing."""
+        member = self._members.get(seat.number)
+        return member.silence() if member is not None else 0
 
     def who(self) -> str:
-        """Who is here, who is away, and who has the wheel."""
+        """Who is here and who of them is idle, who is away, and who has the wheel."""
         texts: Dict[bool, List[str]] = {True: [], False: []}
-        for name, seat in self._seats.by_name().items():
-            has = ", has the wheel" if seat.number == self._program.holder else ""
-            texts[seat.is_here].append(f"{name} (session {seat.number}{has})")
+        for it in self.people():
+            has = ", has the wheel" if it.has_wheel else ""
+            idle = f", idle for {counted(it.silence, 'second')}" if it.silence >= self.idle else ""
+            texts[it.is_here].append(f"{it.name} (session {it.session}{has}{idle})")
         away = f"; away: {', '.join(texts[False])}" if texts[False] else ""
         return f"here: {', '.join(texts[True])}{away}"
 
@@ -440,9 +429,29 @@ class Room:
         seat = member.seat if program.holder is None else self._seats.of_number(program.holder)
         for row in program.last_rows(seat, count):
             member.hear(f"# {row}")
-        text = record.at(self.place, program.journal.undone)
+        return self.tell_place(member)
+
+    def tell_place(self, member: Member) -> str:
+        """Tells somebody where the target stands."""
+        text = record.at(self.place, self._program.journal.undone)
         member.hear(f"# {text}")
         return text
+
+    def tell_talk(self, member: Member, count: int) -> str:
+        """Tells somebody the last that all were told."""
+        for it in self._heard.last(count):
+            member.hear(f"# {it.row()}")
+        return self.tell_place(member)
+
+    def tell_one(self, member: Member, name: str, text: str) -> None:
+        """Somebody has a word for another one. Raises `Refusal` where that one isn't here."""
+        found = next((it for it in self._members.values() if it.name == name), None)
+        if found is None:
+            away = f"{name} is away" if name in self._seats.by_name() else "nobody has this name"
+            raise Refusal(f"{away}; {self.who()}")
+        found.hear(f"# {member.name} to you: {shown(text)}")
+        if found is not member:
+            member.hear(f"# {member.name} to {name}: {shown(text)}")
 
     def wheel_wanted(self, member: Member) -> str:
         """Somebody asks for the wheel. Who has it is told; where that one is away, it is given up
@@ -462,12 +471,12 @@ class Room:
         self.tell(text)
         return text
 
-    def free_wheel(self, idle: int) -> str:
-        """Has the wheel given back by who has it, and is away, or has said nothing for so many
-        seconds. Answers what all are told. Raises `Refusal`."""
+    def free_wheel(self) -> str:
+        """Has the wheel given back by who has it, and is away or idle. Answers what all are told.
+        Raises `Refusal`."""
         with self._turns:
             try:
-                text = self._freed(idle)
+                text = self._freed()
             except Refusal as refusal:
                 self._keep("room", "# free", f"no: {refusal}")
                 raise
@@ -475,18 +484,18 @@ class Room:
             self.tell(text)
             return text
 
-    def _freed(self, idle: int) -> str:
+    def _freed(self) -> str:
         holder = self._program.holder
         if self.is_over:
             raise Refusal("the room has ended")
         if holder is None:
             raise Refusal("nobody has the wheel")
         seat, member = self._seats.of_number(holder), self._members.get(holder)
-        silence = member.silence() if member else 0
-        if member is not None and silence < idle:
+        silence = self._silence(seat)
+        if member is not None and silence < self.idle:
             raise Refusal(
                 f"{seat.name} has the wheel and isn't idle: {counted(silence, 'second')} without a line,"
-                f" {counted(idle, 'second')} would do"
+                f" {counted(self.idle, 'second')} would do"
             )
         self._program.ask(seat, "wheel give")
         why = f"idle for {counted(silence, 'second')}" if member else "away"
@@ -504,12 +513,16 @@ class Room:
     def close(self) -> List[Audit]:
         """Ends the program, tells all its audit, and answers it, behind those of the programs
         before it whose history was full."""
-        self._program.wait()
         with self._turns:
             self.is_over = True
+        self._program.wait()
+        with self._turns:
             for member in self._members.values():
                 self.end(member, f"broken off, at {self.place}")
             audit = self._program.close()
+            for row in self.counts.rows():
+                self._keep("room", "#", row)
+                self.tell(row)
             self._keep("room", "#", audit.text())
             self.tell(f"the room has ended: {audit.text()}")
             if self._talk is not None:

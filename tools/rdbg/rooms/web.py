@@ -33,6 +33,8 @@ SAID: Dict[str, Callable[[Page, str], Dict[str, str]]] = {
     "line": lambda page, line: {"reply": page.ask(line)},
     "name": lambda page, name: page.rename(name),
     "run": lambda page, _: page.begin_anew(),
+    "save": lambda page, _: {"reply": page.moves()},
+    "watches": lambda page, _: {"reply": page.watches()},
 }
 # For which moves it can ask, by the place at which those begin or end that it has.
 MOVES: Dict[str, Callable[[Follower, int], Values]] = {
@@ -193,6 +195,7 @@ class Served(ThreadingMixIn, HTTPServer):
         self.unread, self.pages = guard.Unread(), Pages(room)
         self.page = web_document.page()
         self.of_room = as_json(web_document.of_room(room.app_source))
+        room.when_reloaded = self._reload
         self.has_ended = False
         super().__init__((LOCAL, port), Handler)
         self.port: int = self.server_address[1]
@@ -203,6 +206,20 @@ class Served(ThreadingMixIn, HTTPServer):
             raise
         self._thread = threading.Thread(target=self.serve_forever, daemon=True)
         self._thread.start()
+
+    def _reload(self) -> None:
+        """The room has another source: it is followed anew, and all pages are to be loaded anew."""
+        self.of_room = as_json(web_document.of_room(self.room.app_source))
+        self.pages.end_all()
+        old = self.follower
+        try:
+            self.follower = Follower(self.room, self.pages.tell)
+        except Failure as failure:
+            with old.guard:
+                old.lose(failure)
+        else:
+            old.close()
+        self.pages.end_all()  # (those that came meanwhile, too)
 
     @property
     def address(self) -> str:

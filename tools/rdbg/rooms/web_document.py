@@ -8,14 +8,14 @@ from rdbg.files.source import Source
 
 HERE = pathlib.Path(__file__).resolve().parent / "page"
 SCRIPTS = tuple(
-    HERE / name for name in ("way.js", "live_run.js", "acts.js", "talk.js", "room_page.js")
+    HERE / name
+    for name in ("way.js", "coming.js", "live_run.js", "acts.js", "talk.js", "room_page.js")
 )
 STYLES = (HERE / "room.css",)
 # The page speaks with who has served it, and with nobody else.
 SPEAKS = f"{POLICY}; connect-src 'self'; base-uri 'none'; form-action 'none'"
 # What a policy can't say in the page itself.
 FRAMES = "frame-ancestors 'none'"
-NOW = '<button id="now" type="button" title="to where the target is (.)" hidden>now</button>'
 WITH_INTERRUPTS = 2
 
 
@@ -34,4 +34,4 @@ def of_room(source: Source) -> Dict[str, object]:
 
 def page() -> str:
     """The page of every room."""
-    return document("a room", body_of(HERE / "room.html", {}, NOW), SCRIPTS, STYLES, SPEAKS)
+    return document("a room", body_of(HERE / "room.html", {}), SCRIPTS, STYLES, SPEAKS)

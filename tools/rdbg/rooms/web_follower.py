@@ -40,7 +40,7 @@ class Follower:
         lines = room.follow(self.told)
         self._mirror = Mirror(source, lines)
         self._known = Known(source.application, self._mirror.newest(LAST))
-        self._past = Past(source, lines, self.guard, self._wanted, self._found, self._lose)
+        self._past = Past(source, lines, self.guard, self._wanted, self._found, self.lose)
         self._thread = threading.Thread(target=self._follow, daemon=True)
         self._thread.start()
 
@@ -100,8 +100,8 @@ class Follower:
         behind = self._known.put(piece, part)
         self._tell("more" if behind else "now", {**(behind or {}), **self._now()})
 
-    def _lose(self, why: Exception) -> None:
-        """It can't go on."""
+    def lose(self, why: Exception) -> None:
+        """It can't go on, for who holds the guard."""
         self.lost = self.lost or f"the lanes don't follow any more: {why}"
         self._tell("now", self._now())
 
@@ -111,7 +111,7 @@ class Follower:
                 pass
         except WRONG as wrong:
             with self.guard:
-                self._lose(wrong)
+                self.lose(wrong)
         finally:
             self._mirror.close()
 

@@ -4,11 +4,11 @@ on; and why words are none. Runs to them are in `web_ways`."""
 import time
 from typing import Sequence
 
-from rdbg import commands, record
+from rdbg import record
 from rdbg.driving.parts import move_to
 from rdbg.failure import Failure
 from rdbg.goals.reading import NoGoal
-from rdbg.goals.words import counted, for_search
+from rdbg.goals.words import for_search
 from rdbg.goals.scope import Scope
 from rdbg.reaching import losing
 from rdbg.reaching.asking import QUESTIONS, Asker
@@ -17,8 +17,6 @@ from rdbg.rooms.room import Room
 
 # A search ends after so many seconds, or with so many mebibytes.
 SECONDS, MEBIBYTES = 20.0, 256
-# How lines begin behind which a condition stands.
-WITH_A_CONDITION = (["until"], ["watch"], [record.BACK, "until"])
 
 
 def is_question(words: Sequence[str]) -> bool:
@@ -39,20 +37,6 @@ def goal_in(line: str, reply: str) -> Sequence[str]:
     behind = words[2:] if words[:2] == [record.BACK, "until"] else words[1:-1]
     is_run = words[:1] == ["until"] or words[:2] == [record.BACK, "until"]
     return behind if is_run and reply.startswith("ok ") else ()
-
-
-def told(room: Room, line: str, reply: str) -> str:
-    """A reply to a line; of one with a condition that is refused with what would be right."""
-    words = line.split()
-    behind = next((words[len(it) :] for it in WITH_A_CONDITION if words[: len(it)] == it), None)
-    if behind is None or not reply.startswith("no "):
-        return reply
-    try:
-        counted(behind, Scope.of(room.app_source))
-    except NoGoal as wrong:
-        is_watch = commands.is_watch(behind[0]) if behind else True
-        return reply if is_watch else f"{reply}: {wrong}"
-    return reply
 
 
 def answered(room: Room, words: Sequence[str]) -> str:

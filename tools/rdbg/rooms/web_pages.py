@@ -12,6 +12,7 @@ from typing import Callable, Deque, Dict, List, Optional, Sequence, Tuple
 from rdbg.rooms import web_goals, web_ways
 from rdbg.rooms.room import Member, Refusal, Room
 from rdbg.rooms.web_follower import Follower, Values
+from rdbg.rooms.web_prompt import Prompt
 
 # So many pages can be open.
 MOST_PAGES = 16
@@ -41,10 +42,11 @@ class Page:
         self._waiting = 0
         self._notices: Deque[str] = collections.deque()
         self._dropped = 0
-        self._needs_run = True
+        self._needs_run, self._is_old = True, False
         self._who = ""
         # The goal that was asked for or gone to last.
         self._goal: Sequence[str] = ()
+        self._prompt: Optional[Prompt] = None
         self._lines = threading.Semaphore(MOST_LINES)
         self._turn = threading.Lock()
         self._waking, self.woken = socket.socketpair()
@@ -87,9 +89,17 @@ class Page:
                 self._waiting += len(text)
             self._wake()
 
+    def end(self) -> None:
+        """It is told nothing any more, but that it is to be loaded anew."""
+        with self._guard:
+            self._is_old = True
+            self._wake()
+
     def take(self, room: Room, follower: Follower) -> List[Event]:
         """What waits, in order, and not any more then."""
-        found: List[Event] = []
+        if self._is_old:
+            return [("anew", "null")]
+        found = self._past()
         with self._guard:
             needs_run = self._needs_run
         if needs_run:
@@ -110,11 +120,24 @@ class Page:
         found += [("notice", as_json(it)) for it in notices]
         return found + self._who_is_here(room)
 
+    def _past(self) -> List[Event]:
+        """What all were told before this page came, once."""
+        assert self.member is not None
+        before, self.member.before = self.member.before, ()
+        told = [[int(1_000 * it.when), it.text] for it in before]
+        return [("past", as_json(told))] if told else []
+
     def _who_is_here(self, room: Room) -> List[Event]:
         """Who this page is, and who else is here, where that isn't as it was."""
         assert self.member is not None
         people = [
-            {"name": it.name, "session": it.session, "isHere": it.is_here, "hasWheel": it.has_wheel}
+            {
+                "name": it.name,
+                "session": it.session,
+                "isHere": it.is_here,
+                "hasWheel": it.has_wheel,
+                "idle": it.silence // 60 if it.silence >= room.idle else None,
+            }
             for it in room.people()
         ]
         watches = dict(self.member.seat.watches)
@@ -134,17 +157,26 @@ class Page:
                 assert self.member is not None
                 if web_goals.is_question(line.split()):
                     return self._answered(line.split())
+                if line.split() == ["reload"]:
+                    line = "# reload"
                 if line.lstrip(" ").startswith("#"):
                     self.member.remark(line)
                     return ""
                 way = web_ways.typed(line)
                 if way is not None:
                     return self._gone(line, way)
-                reply = self.member.ask(line)
-                self._goal = web_goals.goal_in(line, reply) or self._goal
-                return web_goals.told(self._room, line, reply)
+                return self._said(line)
         finally:
             self._lines.release()
+
+    def _said(self, line: str) -> str:
+        """What is said to a line of rdbg's, or to a word of `sh`; of what is refused with what would
+        be right."""
+        assert self.member is not None
+        self._prompt = self._prompt or Prompt(self._room, self.member)
+        said = self._prompt.said(line)
+        self._goal = web_goals.goal_in(line, said) or self._goal
+        return said
 
     def _gone(self, line: str, way: web_ways.Typed) -> str:
         """Goes to a goal for which rdbg has no line."""
@@ -163,6 +195,20 @@ class Page:
         if not reply.startswith("no: "):
             self._goal = asked[1:]
         return reply
+
+    def watches(self) -> str:
+        """Which watches hold now, which nobody has asked for."""
+        assert self.member is not None
+        with self._turn:
+            self.member.remark("# does")
+            try:
+                return self.member.ask("show watches")
+            finally:
+                self.member.remark("# did")
+
+    def moves(self) -> str:
+        """The lines that lead to where the target stands, as a file of commands."""
+        return "".join(f"{line}\n" for line in self._room.lines())
 
     def begin_anew(self) -> Dict[str, str]:
         """Is told all anew: it isn't shown where the target is."""
@@ -192,6 +238,13 @@ class Pages:
             text = as_json(values)
             for page in pages:
                 page.tell(kind, text)
+
+    def end_all(self) -> None:
+        """All pages are to be loaded anew."""
+        with self._guard:
+            pages = list(self._open.values())
+        for page in pages:
+            page.end()
 
     def open(self, name: Optional[str]) -> Page:
         """A page comes, by a name, or by one that nobody has. Raises `Refusal`."""

@@ -2,11 +2,10 @@
 of `until` and `back until` for which rdbg has no line. The place is found in a program of the page's
 own, and gone to by one line of rdbg's."""
 import dataclasses
-import time
 from typing import NamedTuple, Optional, Sequence, Tuple
 
 from rdbg import commands, record
-from rdbg.driving.interrupt import Interrupt, Interrupted
+from rdbg.driving.interrupt import Interrupted
 from rdbg.driving.opening import begin
 from rdbg.driving.target import Limits, Target, Unable
 from rdbg.driving.walk import Walk
@@ -15,10 +14,11 @@ from rdbg.goals import sought
 from rdbg.goals.reading import NoGoal
 from rdbg.goals.scope import Scope
 from rdbg.replies import Refused
+from rdbg.rooms.quiet import SECONDS, Patience
 from rdbg.rooms.room import Member, Room
 
-# So many moves a run makes at the most, where no COUNT is said; a place is looked for so many seconds.
-MOST, SECONDS = 10_000, 20.0
+# So many moves a run makes at the most, where no COUNT is said.
+MOST = 10_000
 SYNTAX = "no Syntax"
 
 
@@ -29,18 +29,6 @@ class Typed(NamedTuple):
     is_forwards: bool
     becoming: bool
     goal: Sequence[str]
-
-
-class Patience(Interrupt):
-    """Ends what takes too long."""
-
-    def __init__(self) -> None:
-        super().__init__()
-        self._end = time.monotonic() + SECONDS
-
-    def check(self) -> None:
-        if time.monotonic() >= self._end:
-            raise Interrupted
 
 
 def typed(line: str) -> Optional[Typed]:

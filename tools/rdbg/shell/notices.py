@@ -14,7 +14,11 @@ from rdbg.failure import Failure
 ROW = re.compile(r"# ([0-9]+(\.\.[0-9]+)?  |\.\. [0-9]+ moves )")
 # What others did, and the place behind it.
 MOVED = re.compile(r"# \w+: .* -> ok at ([0-9]{1,10})\b")
-REMARK = re.compile(r"# *(who|wheel|name +\S+|say +\S.*|moves( +[0-9]+)?)$")
+REMARK = re.compile(
+    r"# *(who|wheel|help|reload|name +\S+|say +\S.*|to +\w+: *\S.*|(moves|talk)( +[0-9]+)?)$"
+)
+# That a room goes on with its file as it is now.
+READ_ANEW = re.compile(r"# \w+ has the file read anew: ")
 # So many moves a room tells at the most.
 MOST_MOVES = 20
 # Between the lines of what something came to.

@@ -109,10 +109,13 @@ def in_chunks(shell: "Shell", target: Target, lines: Sequence[str], done: str) -
 
 def reload(shell: "Shell", words: Sequence[str]) -> None:
     """`reload`: the same moves on the file as it is now, up to the first difference."""
+    if shell.notices.is_room:
+        shell.target.session.remark("# reload")
+        return
     if shell.source is None or shell.target.limits is None:
         raise Unable("`reload` is for a file that is debugged here: `rdbg sh FILE`")
     try:
-        source = load(shell.source.path)
+        source = load(shell.source.path, shell.source.given)
     except Failure as failure:
         raise Unable(f"{failure}; the target stays as it is") from None
     if source.faults or source.application is None:

@@ -11,20 +11,21 @@ from rdbg import commands, kinds, record
 from rdbg.application import Interrupt as Handler
 from rdbg.client import ROOM_ENDED
 from rdbg.effects import Move
+from rdbg.failure import Failure
 from rdbg.looks import Look, Names
 from rdbg.replies import Cores, Refused
 from rdbg.goals.scope import Scope
 from rdbg.shell import displays, hints, needs, views
 from rdbg.driving import trail
 from rdbg.driving.interrupt import Interrupt, Interrupted
-from rdbg.shell.notices import Notices, is_remark
+from rdbg.shell.notices import READ_ANEW, Notices, is_remark
 from rdbg.shell.reach import Order, Reached
 from rdbg.shell.saved import Saved
 from rdbg.driving.target import SINGLE, Target, Unable, read
 from rdbg.driving.walk import Pieces, Walk
 from rdbg.driving.pacing import TickPace
 from rdbg.goals.paced import PacedWalk
-from rdbg.files.source import Source
+from rdbg.files.source import Source, load
 
 # Of a run of more moves than these the last few are shown.
 MANY, FEW = 20, 5
@@ -90,6 +91,10 @@ class Shell:
             print(f"# {line}".rstrip())
             self.notices.said(line.strip())
 
+    def refuse(self, why: str) -> None:
+        """Says why a word of sh's own isn't done."""
+        self.say(why)
+
     def answer(self, reply: str) -> None:
         """Prints a reply of rdbg's."""
         print(reply)
@@ -97,9 +102,20 @@ class Shell:
 
     def _notice(self, notice: str) -> None:
         """Prints a notice of a room; its last one is said at the end of all."""
+        if READ_ANEW.match(notice):
+            self._read_anew()
         if not notice.startswith(ROOM_ENDED):
             self._wipe()
             print(notice, flush=True)
+
+    def _read_anew(self) -> None:
+        """Takes the file as it is now, where one is known."""
+        with contextlib.suppress(Failure):
+            source = load(self.source.path, self.source.given) if self.source else None
+            if source is not None and source.application is not None:
+                self.source, self.target.application = source, source.application
+                self.target.names = Names.of(source.application)
+                self._named = self._seen = self._last = None
 
     def scope(self) -> Scope:
         """What goals can name."""
@@ -210,12 +226,12 @@ class Shell:
                 word.run(self, words[1:])
         except Unable as unable:
             self.is_refused = True
-            self.say(self.in_its_names(str(unable)))
+            self.refuse(self.in_its_names(str(unable)))
         except Interrupted:
             self.stopped(f"at {self.target.place}")
         except Refused as refused:
             self.is_refused = True
-            self.say(f"rdbg says: no {refused}")
+            self.refuse(f"rdbg says: no {refused}")
             self.hint(hints.refusal(self, self.asked, refused))
 
     @contextlib.contextmanager

@@ -51,8 +51,8 @@ test("keys that zoom", () => {
   const it = viewer(2);
   const scales = [];
   it.zoom = (scale) => scales.push(scale);
-  for (const key of ["+", "=", "-", "0"]) it.keys()[key]();
-  assert.deepEqual(scales, [90, 90, 40, 20]);
+  for (const key of ["+", "=", "-", "0", "a"]) it.keys()[key]();
+  assert.deepEqual(scales, [90, 90, 40, 20, 20]);
 });
 
 test("what was found, forward and back, around the ends", () => {

@@ -4,8 +4,11 @@ const assert = require("assert");
 const test = require("node:test");
 const { SENT, namesOf, valuesOf } = require("./page.js");
 
-const { LiveRun, choicesOf, coreInTurn, nextWords, wheelWords } = namesOf("room", [
-  "LiveRun", "choicesOf", "coreInTurn", "nextWords", "wheelWords",
+const {
+  DONE, LiveRun, Watches, breakWords, choicesOf, coreInTurn, idleWords, kindOf, nextWords, wheelWords,
+} = namesOf("room", [
+  "DONE", "LiveRun", "Watches", "breakWords", "choicesOf", "coreInTurn", "idleWords", "kindOf",
+  "nextWords", "wheelWords",
 ]);
 
 // A run that was followed from a place on, where the target is at `done`.
@@ -108,4 +111,36 @@ test("who has the wheel", () => {
   assert.equal(wheelWords("ann", { name: "ann" }), "You have the wheel: nobody else moves.");
   const away = "bob has the wheel, and is away: your moves are refused.";
   assert.equal(wheelWords("ann", { name: "bob", isHere: false }), away);
+});
+
+test("how a notice is marked", () => {
+  const kinds = {
+    "ann: step 0 -> ok at 1": "mine",
+    "bob: step 0 -> ok at 1": "others",
+    "bob says: step 0": "said",
+    "bob to you: look": "private",
+    "ann to bob: look": "private",
+    "no: bob is away; here: ann (session 1)": "refused",
+    "bob is away, with the wheel": "others",
+  };
+  for (const text in kinds) assert.equal(kindOf(text, "ann"), kinds[text], text);
+});
+
+test("who is idle, and for how long", () => {
+  assert.deepEqual([0, 1, 75].map(idleWords), ["idle", "idle for 1 min", "idle for 75 min"]);
+});
+
+test("the watch of a breakpoint", () => {
+  const watches = Object.create(Watches.prototype);
+  watches.conditions = { 0: "count jobs > 0", 3: "pc worker = 2" };
+  assert.equal(watches.numberOf(breakWords({ task: "worker", number: "2" })), "3");
+  assert.equal(watches.numberOf(breakWords({ task: "worker", number: "20" })), undefined);
+});
+
+test("which replies a notice tells already", () => {
+  const told = ["ok at 5", "ok at 5 met", "ok wheel"];
+  const replies = ["at 5 met: asleep", "ok watch 0\n`continue` runs there", "queue jobs 0/1"];
+  assert.deepEqual([...told, ...replies].map((it) => DONE.test(it)), [
+    true, true, true, false, false, false,
+  ]);
 });

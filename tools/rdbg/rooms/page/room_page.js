@@ -1,144 +1,14 @@
 // The page of a room: what all do moves it, and its buttons do the same as lines do.
 
-const AGAIN_AFTER = 1000;
-const MOST_PATIENCE = 30000;
-// A name that was kept is tried so often, each time after so long, before another one is asked for.
-const MOST_REFUSALS = 10;
-const BETWEEN = 250;
 // At first a move is so wide, that one sees those that come, and some before.
 const SCALE = 64;
-const LOOKS = /^\s*(show|reach|lost|doomed)(\s|$)/;
+const NARROW_SCALE = 40;
+// In a small window the lanes have so much of its height.
+const PART_SMALL = 0.3;
 // The goal of a line that asks for one or goes to one, or of its answer; one that tells of a move.
 const GOALS = [/^\s*(?:reach|lost|doomed|back until) (.+)$/, /^\s*until (.+) \d+$/];
 const MET = /^at \d+ met: (.+)$/;
 const LOST_AT = /^lost at (\d+): (.*)$/;
-const MOVES = ["run", "more", "now", "trims"];
-
-// The name by which this page was here before it was loaded anew, or by which somebody was in this
-// browser before; none where there is none, or where the browser keeps nothing.
-function keptName() {
-  try {
-    return sessionStorage.getItem("name") || localStorage.getItem("name");
-  } catch (error) {
-    return null;
-  }
-}
-
-function keepName(name) {
-  try {
-    sessionStorage.setItem("name", name);
-    localStorage.setItem("name", name);
-  } catch (error) {
-    // (then the page asks for a name once it is loaded anew)
-  }
-}
-
-// Asks who comes.
-class Coming {
-  constructor(dialog, come) {
-    this.dialog = dialog;
-    this.input = dialog.querySelector("input");
-    this.isAsking = false;
-    dialog.querySelector("form").addEventListener("submit", (event) => {
-      event.preventDefault();
-      if (!this.isWaiting) come(this.input.value.trim());
-      this.isWaiting = true;
-    });
-    // (Escape closes it, but nobody is here without a name)
-    dialog.addEventListener("close", () => this.isAsking && dialog.showModal());
-  }
-
-  // Asks, and says why the last name isn't let in, if one was said.
-  ask(why) {
-    this.dialog.querySelector(".why").textContent = why;
-    this.isAsking = true;
-    this.isWaiting = false;
-    if (!this.dialog.open) this.dialog.showModal();
-    this.input.select();
-  }
-
-  end() {
-    this.isAsking = false;
-    this.dialog.close();
-  }
-}
-
-// The room as it is served: what comes, and what is said there.
-class Line {
-  constructor(way, hear) {
-    this.way = way;
-    this.hear = hear;
-    this.name = keptName();
-    this.refusals = 0;
-    this.patience = AGAIN_AFTER;
-  }
-
-  // Comes by the name that was kept; false where there is none.
-  begin() {
-    if (this.name) this.open();
-    return Boolean(this.name);
-  }
-
-  // Comes by a name that was typed.
-  come(name) {
-    this.name = name;
-    this.refusals = MOST_REFUSALS;
-    this.open();
-  }
-
-  open() {
-    this.events = new EventSource(`${this.way}events?name=${encodeURIComponent(this.name)}`);
-    for (const kind of ["you", "who", "notice", "refused", "end", ...MOVES]) {
-      this.events.addEventListener(kind, ({ data }) => this.take(kind, JSON.parse(data)));
-    }
-    this.events.addEventListener("error", () => this.fail());
-  }
-
-  take(kind, values) {
-    if (kind === "you") this.beThere(values);
-    if (kind === "who") keepName((this.name = values.name));
-    if (kind === "end" || kind === "refused") this.close();
-    if (kind === "refused" && this.refusals < MOST_REFUSALS) this.comeAgain();
-    else this.hear(kind, values);
-  }
-
-  beThere(key) {
-    this.key = key;
-    this.refusals = 0;
-    this.patience = AGAIN_AFTER;
-  }
-
-  // The name that was kept may be that of this page before it was loaded anew, which goes in a
-  // moment.
-  comeAgain() {
-    this.refusals += 1;
-    setTimeout(() => this.open(), BETWEEN);
-  }
-
-  close() {
-    this.events.close();
-    this.key = null;
-  }
-
-  // The connection has gone, or can't be had: it is tried again, later and later.
-  fail() {
-    this.close();
-    this.hear("lost", null);
-    setTimeout(() => this.open(), this.patience);
-    this.patience = Math.min(2 * this.patience, MOST_PATIENCE);
-  }
-
-  // What is answered to something that is said: a reply, or why there is none.
-  async say(what, text) {
-    const told = toldAs({ page: this.key ?? "", [what]: text });
-    try {
-      const answer = await fetch(this.way + what, told);
-      return answer.ok ? await answer.json() : { refused: (await answer.text()).trim() };
-    } catch (error) {
-      return { refused: "the room can't be reached" };
-    }
-  }
-}
 
 class RoomPage extends Viewer {
   constructor(room, line, values) {
@@ -148,10 +18,20 @@ class RoomPage extends Viewer {
     this.line = line;
     this.follows = true;
     this.steps = new StepButtons(byId("steps"), room.cores, (text) => room.tell(text));
-    this.timeline.zoomTo(SCALE);
+    this.shareHeight();
+    addEventListener("resize", () => this.shareHeight());
+    this.timeline.zoomTo(this.timeline.width < 600 ? NARROW_SCALE : SCALE);
     this.begin();
     this.go(run.done);
     this.fill();
+  }
+
+  // In a small window the lanes leave room for the state.
+  shareHeight() {
+    const { timeline } = this;
+    timeline.part = matchMedia(SMALL).matches ? PART_SMALL : PART;
+    timeline.height = 0;
+    timeline.layOut();
   }
 
   get moreKeys() {
@@ -159,8 +39,11 @@ class RoomPage extends Viewer {
       ["all these", "for yourself alone: the target stays where it is"],
       [".", "to where the target is, and with it from there on"],
       ["s, k", "a step of the core in turn, a tick"],
+      ["0 to 9", "a step of this core"],
       ["b, r, f", "moves back, again, forward, as many as stand beside"],
-      ["l", "to the line, to type one"],
+      ["u, U", "until the goal that stands there, back until it; without one to the field"],
+      ["h", "takes the wheel, gives it back, or asks for it"],
+      ["l, c", "to the line, to type one; to what one says"],
     ];
   }
 
@@ -173,21 +56,59 @@ class RoomPage extends Viewer {
 
   keys() {
     const press = (id) => () => byId(id).click();
+    const steps = Array.from({ length: 10 }, (_, core) => [core, () => this.step(core)]);
     return {
       ...super.keys(),
+      ...Object.fromEntries(steps),
       ".": () => this.goNow(),
       s: () => this.room.tell(`step ${coreInTurn(this.run)}`),
       k: press("tick"),
       b: press("do-back"),
       r: press("do-redo"),
       f: press("do-forward"),
-      l: () => byId("line").select(),
+      u: press("do-until"),
+      U: press("back-until"),
+      h: () => ["take", "give", "wish"].map(byId).find((it) => !it.hidden).click(),
+      l: () => unfolded("line").select(),
+      c: () => unfolded("words").select(),
     };
+  }
+
+  // A step of a core, where there is one.
+  step(core) {
+    if (core < this.room.cores) this.room.tell(`step ${core}`);
   }
 
   listenToButtons() {
     super.listenToButtons();
     byId("now").addEventListener("click", () => this.goNow());
+    this.script.table.body.addEventListener("click", ({ target }) => {
+      const row = target.closest("tr");
+      if (row) this.breakAt(row);
+    });
+  }
+
+  // Where a row of the script begins; none where it has no instruction.
+  placeOf(row) {
+    const [number] = row.cells[1].textContent.split("-");
+    return number && { task: this.run.tasks[this.script.chosen].name, number };
+  }
+
+  // Watches an instruction of the script, or drops the watch.
+  breakAt(row) {
+    const at = this.placeOf(row);
+    if (!at) return;
+    const watch = this.room.watches.numberOf(breakWords(at));
+    const { task, number } = at;
+    this.room.tell(watch === undefined ? `break ${task} ${number}` : `unwatch ${watch}`);
+  }
+
+  showBreaks() {
+    for (const { row } of this.script.table.rows) {
+      const at = !row.hidden && this.placeOf(row);
+      const isWatched = Boolean(at) && this.room.watches.numberOf(breakWords(at)) !== undefined;
+      row.classList.toggle("watched", isWatched);
+    }
   }
 
   goNow() {
@@ -278,6 +199,7 @@ class RoomPage extends Viewer {
   show() {
     super.show();
     this.steps.show(this.run);
+    this.showBreaks();
     byId("now").hidden = this.place === this.run.done;
     byId("now").textContent = `now: ${this.run.done}`;
   }
@@ -296,8 +218,8 @@ class RoomOnPage {
     Object.assign(this, values);
     document.title = `${this.file}: a room`;
     byId("title").textContent = document.title;
-    this.talk = new Talk(byId("talk"));
-    this.people = new People(byId("people"), byId("wheel"));
+    this.talk = new Talk(byId("talk"), byId("unread"));
+    this.people = new People(byId("people"), byId("wheel"), byId("whom"));
     this.watches = new Watches(byId("watches"), (text) => this.tell(text));
     this.line = new Line(way, (kind, it) => this.hear(kind, it));
     this.coming = new Coming(byId("come"), (name) => this.line.come(name));
@@ -309,7 +231,9 @@ class RoomOnPage {
   hear(kind, values) {
     if (MOVES.includes(kind)) this.takeMoves(kind, values);
     if (kind === "who") this.takeWho(values);
-    if (kind === "notice") this.takeNotice(values);
+    if (kind === "past") for (const [when, text] of values) this.takeNotice(text, when);
+    if (kind === "notice") this.takeNotice(values.replace(/^# /, ""));
+    if (kind === "anew") location.reload();
     if (kind === "you") this.coming.end();
     if (kind === "refused") this.coming.ask(values);
     const texts = {
@@ -347,32 +271,40 @@ class RoomOnPage {
     this.name = name;
     if (JSON.stringify(watches) !== JSON.stringify(this.watches.conditions)) {
       this.watches.take(watches);
+      this.page?.again();
       if (this.watches.areThere) this.lookAtWatches();
     }
     if (document.activeElement !== byId("name")) byId("name").value = name;
     this.people.show(name, people);
   }
 
-  takeNotice(notice) {
-    const text = notice.replace(/^# /, "");
-    const isMine = text.startsWith(`${this.name}: `);
-    this.talk.say(text.startsWith("no: ") ? "refused" : isMine ? "mine" : "others", text);
+  // Takes what was told, just now or before this page came.
+  takeNotice(text, when) {
+    this.talk.say(kindOf(text, this.name), text, when);
   }
 
   // Says a line, and what is answered; of one that all are told, the notice tells it.
   async tell(line) {
     if (!this.isHere) return;
+    if (/^\s*save!?(\s|$)/.test(line)) return this.save();
     const changes = this.page?.run.changes;
     const { reply, refused, ended } = await this.line.say("line", line);
-    const no = refused ?? ended ?? (/^no:? /.test(reply) ? this.refusalWords(reply) : null);
+    const no = refused ?? ended ?? (/^no:? /.test(reply) ? reply : null);
     if (no !== null) return this.talk.say("refused", `${line} -> ${no}`);
-    if (LOOKS.test(line) || MET.test(reply)) this.talk.say("reply", `${line} -> ${reply}`);
+    if (reply && !DONE.test(reply)) this.talk.say("reply", `${line} -> ${reply}`);
     const [goal] = [MET.exec(reply), ...GOALS.map((it) => it.exec(line))]
       .filter(Boolean)
       .map((it) => it[1]);
     if (goal) byId("goal").value = goal.trim();
     // (where moves have become others meanwhile, it was said of those before)
     if (/^\s*lost\b/.test(line) && changes === this.page?.run.changes) this.mark(reply);
+  }
+
+  // Offers the moves so far as a file of commands.
+  async save() {
+    const { reply, refused, ended } = await this.line.say("save", "");
+    if (reply === undefined) return this.talk.say("refused", `save -> ${refused ?? ended}`);
+    saveText(`${this.file.replace(/\.[^.]*$/, "")}.commands`, reply);
   }
 
   // Marks the move that an answer tells of.
@@ -385,15 +317,14 @@ class RoomOnPage {
   // Asks a question of the goal that stands in the field, or of the one before.
   ask(word) {
     this.tell(`${word} ${byId("goal").value.trim()}`.trim());
-    if (!byId("goal").value.trim()) byId("goal").focus();
+    if (!byId("goal").value.trim()) unfolded("goal").focus();
   }
 
-  // A refusal with what it means; of the wheel with who has it.
-  refusalWords(reply) {
-    const holder = this.people.holder;
-    if (reply.startsWith("no Held") && holder) return `${reply}: ${holder} has the wheel`;
-    const words = REFUSALS[reply.split(" ")[1]];
-    return words ? `${reply}: ${words}` : reply;
+  // Says a line with the goal that stands in the field, where one does.
+  withGoal(word, behind = "") {
+    const goal = byId("goal").value.trim();
+    if (goal) this.tell(`${word} ${goal} ${behind}`.trim());
+    else unfolded("goal").focus();
   }
 
   // Asks which watches hold now; once more where something has come meanwhile.
@@ -403,7 +334,7 @@ class RoomOnPage {
     this.isLooking = true;
     while (this.isWanted) {
       this.isWanted = false;
-      const { reply } = await this.line.say("line", "show watches");
+      const { reply } = await this.line.say("watches", "");
       if (reply) this.watches.takeStates(reply);
     }
     this.isLooking = false;
@@ -418,31 +349,42 @@ class RoomOnPage {
       "do-redo": () => `redo ${value("count")}`,
       "do-forward": () => `forward ${value("count")}`,
       "do-trim": () => `trim ${value("keep")}`,
-      "back-until": () => `back until ${value("condition")}`,
-      watch: () => `watch ${value("condition")}`,
+      reload: () => "# reload",
       take: () => "wheel take",
       give: () => "wheel give",
       wish: () => "# wheel",
     };
-    byId("ask-lost").addEventListener("click", () => this.ask("lost"));
-    byId("ask-doomed").addEventListener("click", () => this.ask("doomed"));
-    byId("ask").addEventListener("submit", (event) => {
-      event.preventDefault();
-      this.ask("reach");
-    });
     for (const id in acts) byId(id).addEventListener("click", () => tell(acts[id]()));
-    byId("until").addEventListener("submit", (event) => {
-      event.preventDefault();
-      tell(`until ${value("condition")} ${value("most")}`);
-    });
-    byId("rename").addEventListener("submit", (event) => {
-      event.preventDefault();
-      this.rename(value("name"));
-    });
+    const others = { save: () => this.save(), "save-talk": () => this.talk.save(this.file) };
+    for (const word of ["reach", "lost", "doomed"]) others[`ask-${word}`] = () => this.ask(word);
+    others.becomes = () => this.withGoal("until!", value("most"));
+    others["back-until"] = () => this.withGoal("back until");
+    others.watch = () => this.withGoal("watch");
+    for (const id in others) byId(id).addEventListener("click", others[id]);
+    const forms = {
+      until: () => this.withGoal("until", value("most")),
+      rename: () => this.rename(value("name")),
+      say: () => this.sayWords(),
+    };
+    for (const id in forms) {
+      byId(id).addEventListener("submit", (event) => {
+        event.preventDefault();
+        forms[id]();
+      });
+    }
     new LineForm(byId("edit"), this, EDITS, tell);
     byId("interrupt").hidden = !this.hasInterrupts;
     if (this.hasInterrupts) new LineForm(byId("interrupt"), this, INTERRUPTS, tell);
     new TypedLine(byId("typed"), tell);
+  }
+
+  // Says what stands in the field, to all or to one.
+  sayWords() {
+    const field = byId("words");
+    const words = field.value.trim();
+    const whom = byId("whom").value;
+    if (words) this.tell(whom ? `# to ${whom}: ${words}` : `# say ${words}`);
+    field.value = "";
   }
 
   async rename(name) {

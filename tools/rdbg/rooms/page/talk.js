@@ -1,40 +1,59 @@
 // What was said: lines and replies, what others did, who is here, and who has the wheel.
 
 const MOST_SAID = 500;
+const MOST_KEPT = 10000;
+// A reply of which a notice tells.
+const DONE = /^ok [^\n]*$/;
 
-// What a refusal means.
-const REFUSALS = {
-  NoTask: "the core is idle",
-  TickLimit: "the tick can't grow any more",
-  TooFar: "only so many moves can be taken back",
-  NothingUndone: "fewer moves are taken back than are to be made again",
-  MovesFull: "the moves done are at their limit: go back",
-  Held: "another has the wheel",
-  NoSuch: "there is no core, register, entry or name like this",
-  BadEdit: "the edit can't be made",
-  NoIsr: "the application has profile 1, which has no interrupts",
-  WatchesFull: "there are 16 watches",
-  NoWatch: "there is no watch of this number",
-  NotHolder: "you don't have the wheel",
-  HistoryFull: "the history has no place for more lines",
-  NoMemory: "there is no memory for it",
-  Syntax: "the line is no command",
-  LineTooLong: "a line has at most 1024 bytes",
-};
+// What is marked of a notice: what was said to one alone, what was done here, what others did.
+function kindOf(text, me) {
+  if (text.startsWith("no: ")) return "refused";
+  if (/^\w+ to \w+: /.test(text)) return "private";
+  if (/^\w+ says: /.test(text)) return "said";
+  return text.startsWith(`${me}: `) ? "mine" : "others";
+}
+
+function clock(when) {
+  const two = (number) => String(number).padStart(2, "0");
+  return `${two(when.getHours())}:${two(when.getMinutes())}`;
+}
 
 class Talk {
-  constructor(list) {
+  constructor(list, unread) {
     this.list = list;
+    this.unread = unread;
+    this.kept = [];
+    this.count = 0;
+    this.fold = list.closest("details");
+    this.fold.addEventListener("toggle", () => this.see());
   }
 
-  // Says a line; `kind` is `mine`, `reply`, `refused`, `others` or `room`.
-  say(kind, text) {
+  // Says a line, at a time; `kind` is `mine`, `reply`, `refused`, `others`, `said` or `private`.
+  say(kind, text, at = Date.now()) {
     const { list } = this;
+    const when = new Date(at);
+    this.kept = [...this.kept.slice(1 - MOST_KEPT), `${when.toISOString()}\t${text}`];
     const isAtEnd = list.scrollTop + list.clientHeight >= list.scrollHeight - 4;
-    const item = list.appendChild(made("li", text));
+    const item = list.appendChild(made("li"));
     item.className = kind;
+    item.appendChild(made("time", clock(when))).dateTime = when.toISOString();
+    item.append(text);
     while (list.children.length > MOST_SAID) list.firstChild.remove();
     if (isAtEnd) list.scrollTop = list.scrollHeight;
+    if (kind === "said" || kind === "private") this.count += 1;
+    this.see();
+  }
+
+  // Says how much was said to somebody while it was folded away.
+  see() {
+    if (this.fold.open) this.count = 0;
+    this.unread.textContent = this.count ? ` (${this.count} new)` : "";
+    if (this.fold.open) this.list.scrollTop = this.list.scrollHeight;
+  }
+
+  // Offers all of it as a file.
+  save(file) {
+    saveText(`${file.replace(/\.[^.]*$/, "")}.talk.txt`, `${this.kept.join("\n")}\n`);
   }
 }
 
@@ -45,11 +64,22 @@ function wheelWords(me, holder) {
   return `${holder.name} has the wheel${away}: your moves are refused.`;
 }
 
+// For how many minutes somebody has said nothing.
+function idleWords(minutes) {
+  return minutes ? `idle for ${minutes} min` : "idle";
+}
+
+// How a watch says that a task is at an instruction.
+function breakWords({ task, number }) {
+  return `pc ${task} = ${number}`;
+}
+
 // Who is here and away, and who has the wheel.
 class People {
-  constructor(element, wheel) {
+  constructor(element, wheel, whom) {
     this.element = element;
     this.wheel = wheel;
+    this.whom = whom;
   }
 
   show(me, people) {
@@ -57,14 +87,30 @@ class People {
     const holder = people.find(({ hasWheel }) => hasWheel);
     this.holder = holder?.name;
     this.wheel.textContent = wheelWords(me, holder);
+    byId("take").hidden = Boolean(holder);
+    byId("give").hidden = this.holder !== me;
+    byId("wish").hidden = !holder || this.holder === me;
+    this.offer(["", ...people.filter((it) => it.isHere && it.name !== me).map((it) => it.name)]);
   }
 
-  item(me, { name, session, isHere, hasWheel }) {
-    const texts = [`${name} (session ${session})`];
+  // Offers to whom something can be said.
+  offer(names) {
+    const chosen = this.whom.value;
+    const options = names.map((name) => made("option", name || "all"));
+    options.forEach((it, at) => (it.value = names[at]));
+    this.whom.replaceChildren(...options);
+    if (names.includes(chosen)) this.whom.value = chosen;
+  }
+
+  item(me, { name, session, isHere, hasWheel, idle }) {
+    const texts = [""];
     if (name === me) texts.push("you");
     if (!isHere) texts.push("away");
+    if (isHere && Number.isInteger(idle)) texts.push(idleWords(idle));
     if (hasWheel) texts.push("has the wheel");
-    const item = made("li", texts.join(", "));
+    const item = made("li", name);
+    item.appendChild(made("span", ` (session ${session})`)).className = "session";
+    item.append(texts.join(", "));
     item.classList.toggle("away", !isHere);
     item.classList.toggle("holder", hasWheel);
     return item;
@@ -88,6 +134,11 @@ class Watches {
   take(conditions) {
     this.conditions = conditions;
     this.show();
+  }
+
+  // The number of the watch of a condition, if there is one.
+  numberOf(condition) {
+    return Object.keys(this.conditions).find((it) => this.conditions[it] === condition);
   }
 
   // Takes the reply to `show watches`.

@@ -1,14 +1,5 @@
 // What the page says beside its run: the question that it answers, and what it was made of.
 
-// Offers a text as a file of this name.
-function saveText(name, text) {
-  const link = made("a");
-  link.href = URL.createObjectURL(new Blob([text], { type: "text/plain" }));
-  link.download = name;
-  link.click();
-  setTimeout(() => URL.revokeObjectURL(link.href), 1000);
-}
-
 // Shows a text below its summary, once somebody looks; nothing where there is none.
 function offerText(details, what, it) {
   details.hidden = !it;

@@ -1,0 +1,70 @@
+"""The words of `sh` at a room's page."""
+import io
+from typing import Dict, Iterable, Iterator
+
+from rdbg.client import Session
+from rdbg.commands import MOST_BYTES
+from rdbg.driving.target import Target
+from rdbg.rooms.quiet import Quiet
+from rdbg.rooms.room import Member, Room
+from rdbg.shell.words import BY_NAME
+
+# What a prompt does by itself, and a page has otherwise.
+ELSEWHERE: Dict[str, str] = {
+    **dict.fromkeys(("save", "save!"), "`save` alone gives the moves to the browser"),
+    **dict.fromkeys(("quit", "q", "exit"), "who closes the page is away"),
+    **dict.fromkeys(("reload", "again"), "`# reload` reads the file anew; then `reach GOAL`"),
+    "play": "the moves of an order are lines: type them",
+}
+
+
+class Seated(Session):
+    """The session of a member of a room, in this process."""
+
+    def __init__(self, member: Member) -> None:
+        super().__init__(io.BytesIO(), io.BytesIO(), "the room")
+        self._member, self.name = member, member.name
+
+    def tell_all(self, lines: Iterable[str]) -> Iterator[str]:
+        batch = list(lines)
+        if self.on_ask is not None:
+            self.on_ask(batch)
+        for line in batch:
+            reply = self._member.ask(line)
+            if self.on_line is not None:
+                self.on_line(line, reply)
+            yield reply
+
+    def remark(self, line: str) -> None:
+        self._member.remark(line)
+
+    note = remark
+
+
+class Prompt(Quiet):
+    """The prompt of a page, which is a member of a room."""
+
+    def __init__(self, room: Room, member: Member) -> None:
+        self._room, self._member = room, member
+        source = room.app_source
+        super().__init__(Target(Seated(member), source.application, None), source)
+
+    def hint_on(self, line: str, reply: str) -> None:
+        """Says of a refusal what would be right, and of the wheel who has it."""
+        holder = next((it.name for it in self._room.people() if it.has_wheel), None)
+        if reply.startswith("no Held") and holder is not None:
+            self.hint(f"{holder} has the wheel: `# wheel` asks for it")
+        else:
+            super().hint_on(line, reply)
+
+    def said(self, line: str) -> str:
+        words = line.split()
+        word = BY_NAME.get(words[0]) if words else None
+        if words and words[0] in ELSEWHERE:
+            return f"no: {ELSEWHERE[words[0]]}"
+        if word is not None and "FILE" in word.behind:
+            return f"no: a page reads and writes no files of the room's machine: `{words[0]}` is for `sh`"
+        if "\n" in line or len(line.encode("utf-8", "replace")) > MOST_BYTES:
+            return f"{self._member.ask(line)}: a line has at most {MOST_BYTES} bytes, and no other behind it"
+        self.target.moved_by_others(self._room.place)
+        return super().said(line)

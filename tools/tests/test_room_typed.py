@@ -1,0 +1,201 @@
+"""The words of `sh` at a room's page, what is said of what is refused, and the file read anew."""
+import contextlib
+import json
+import pathlib
+import shutil
+import tempfile
+import time
+import unittest
+from typing import Iterator, List, Tuple
+
+from rdbg.files.source import load
+from rdbg.rooms import web
+from rdbg.rooms.room import Member, Room
+from rdbg.rooms.web_pages import Page, Pages
+from tests.rooms import LOST, until
+
+
+@contextlib.contextmanager
+def page_of(path: str = LOST) -> Iterator[Tuple[Room, Page, Member, List[str]]]:
+    """A room with a page, and somebody beside it with what that one hears."""
+    room, heard = Room.open(load(path), sessions=4), []  # type: Tuple[Room, List[str]]
+    try:
+        other = room.join("bo", heard.append)
+        pages = Pages(room)
+        page = pages.open("ada")
+        try:
+            yield room, page, other, heard
+        finally:
+            pages.close(page)
+    finally:
+        room.close()
+
+
+class Typed(unittest.TestCase):
+    """What is typed there."""
+
+    def test_words(self) -> None:
+        with page_of() as (_, page, _, heard):
+            for line, said in (
+                ("step producer", "ok at 1"),
+                ("tick 2", "ok at 3"),
+                ("goto 1", "ok at 1"),
+                ("break worker 1", "ok watch 0\n`continue` runs to where a watch becomes so"),
+                ("break jobs > 0", "no: word 1, 'jobs': "),
+                ("continue", "at 9 met: w0, pc worker = 1 ("),
+                ("delete 0", "ok watch 0\nwatch 0 is dropped: pc worker = 1"),
+                ("where", "core 0  "),
+                ("print r0 worker", "worker: r0 = 1"),
+                ("help break", "break TASK PC: "),
+            ):
+                with self.subTest(line):
+                    reply = page.ask(line)
+                    self.assertTrue(reply.startswith(said), reply)
+            told = [it for it in heard if it.startswith("# ada: ")]
+            self.assertEqual("# ada: step 1 -> ok at 1, producer 0 data 41", told[0])
+            self.assertEqual("# ada: tick 2 -> ok at 3", told[1])
+
+    def test_what_is_refused_says_what_would_be_right(self) -> None:
+        with page_of() as (_, page, other, _):
+            for line, why in (
+                ("step 7", "no NoSuch: there are 2 cores, from 0 on"),
+                ("step workr", "no: there is no task 'workr'"),
+                ("show queue job", "no NoSuch: there is no queue 'job'; near it is `jobs`"),
+                ("stepp 1", "no Syntax: "),
+                ("back 7", "no TooFar 0: no move is done: this is boot"),
+                ("redo 1", "no NothingUndone: "),
+                ("unwatch 4", "no NoWatch: there is no such watch"),
+                ("save moves.commands", "no: `save` alone gives the moves to the browser"),
+                ("source /etc/passwd", "no: a page reads and writes no files"),
+                ("quit", "no: who closes the page is away"),
+            ):
+                with self.subTest(line):
+                    reply = page.ask(line)
+                    self.assertTrue(reply.startswith(why), reply)
+            other.ask("wheel take")
+            held = "no Held 1: bo has the wheel: `# wheel` asks for it"
+            self.assertEqual(held, page.ask("step 0"))
+            self.assertEqual(held, page.ask("step producer"))
+
+    def test_the_moves_as_commands(self) -> None:
+        with page_of() as (_, page, _, _):
+            for line in ("step 1", "forward 3", "poke reg worker 3 7", "back 1"):
+                page.ask(line)
+            self.assertEqual("step 1\nforward 3\npoke reg worker 3 7\nback 1\n", page.moves())
+
+    def test_watches_that_a_page_looks_at_are_nothing_said(self) -> None:
+        with page_of() as (room, page, _, _):
+            page.ask("watch tick = 0")
+            assert page.member is not None
+            page.member._said_at -= 100
+            self.assertEqual("watches 0:holds", page.watches())
+            self.assertGreaterEqual(page.member.silence(), 100)
+            self.assertEqual([], room.counts.rows())
+
+
+class Reloaded(unittest.TestCase):
+    """The file read anew, by who has the wheel."""
+
+    def setUp(self) -> None:
+        folder = tempfile.TemporaryDirectory()
+        self.addCleanup(folder.cleanup)
+        self.path = pathlib.Path(folder.name) / "app.json"
+        shutil.copy(LOST, self.path)
+
+    def edit(self, old: str, new: str) -> None:
+        """Edits the file."""
+        text = self.path.read_text()
+        self.assertIn(old, text)
+        self.path.write_text(text.replace(old, new))
+
+    def told(self, heard: List[str], text: str) -> str:
+        """Waits for a notice with this text."""
+        until(lambda: any(text in it for it in heard))
+        return next(it for it in heard if text in it)
+
+    def test_the_same_moves_and_watches(self) -> None:
+        with page_of(str(self.path)) as (room, page, other, heard):
+            other.ask("watch tick = 9")
+            for line in ("until count jobs > 0 50", "step 1", "back 1", "watch count jobs = 0"):
+                page.ask(line)
+            self.assertEqual("", page.ask("reload"))
+            self.assertNotIn("anew", " ".join(heard))
+            page.ask("wheel take")
+            self.edit('"data 41"', '"data 42"')
+            page.ask("reload")
+            said = self.told(heard, "anew")
+            self.assertEqual(
+                f"# ada has the file read anew: all 5 moves are the same on {self.path}, at 5", said
+            )
+            self.assertEqual(
+                "queue jobs 1/1 items 42 recv - send - set -", other.ask("show queue jobs")
+            )
+            self.assertEqual("watches 0:fails", other.ask("show watches"))
+            self.assertEqual("no Held 2", other.ask("tick"))
+            self.assertTrue(page.ask("back 1").startswith("ok at 4"))
+            self.told(heard, "the history before: closed ")
+
+    def test_the_first_that_differs(self) -> None:
+        with page_of(str(self.path)) as (room, page, other, heard):
+            other.ask("watch count jobs > 0")
+            for line in ("step 0", "step 1", "step 1", "tick", "wheel take"):
+                page.ask(line)
+            text = json.loads(self.path.read_text())
+            text["queues"][0]["name"] = "work"
+            for task in text["tasks"]:
+                task["code"] = [it.replace("jobs", "work") for it in task["code"]]
+            self.path.write_text(json.dumps(text))
+            page.ask("reload")
+            said = self.told(heard, "anew")
+            self.assertIn("read anew: 0 of 4 moves are the same on", said)
+            self.told(heard, "w0 of bo, count jobs > 0, is dropped: no NoSuch")
+            self.assertEqual("moves 0 undone 0 kept 0", other.ask("show moves"))
+            self.assertEqual("watches -", other.ask("show watches"))
+            self.assertEqual(["0"], [it.split()[1] for it in [other.ask("show moves")]])
+
+    def test_what_is_no_application(self) -> None:
+        with page_of(str(self.path)) as (room, page, other, heard):
+            own: List[str] = []
+            assert page.member is not None
+            page.member.hear = own.append
+            page.ask("tick")
+            page.ask("wheel take")
+            self.path.write_text("{}")
+            page.ask("reload")
+            self.told(own, "no: ")
+            self.assertTrue(own[-1].endswith("the target stays as it is"), own)
+            self.assertTrue(page.ask("back 1").startswith("ok at 0"))
+            self.assertEqual([], [it for it in heard if "anew" in it])
+
+    def test_pages_are_loaded_anew(self) -> None:
+        room = Room.open(load(str(self.path)), sessions=6)
+        served = web.serve(room, 0)
+        try:
+            page = served.pages.open("ada")
+            page.ask("step 1")
+            page.take(room, served.follower)
+            page.ask("wheel take")
+            self.edit('"name": "poller"', '"name": "polls"')
+            page.ask("reload")
+            old = served.follower
+            until(lambda: served.follower is not old)
+            self.assertEqual([("anew", "null")], page.take(room, served.follower))
+            self.assertIn('"polls"', served.of_room)
+            served.pages.close(page)
+            again = served.pages.open("ada")
+            again.ask("step 0")
+            end = time.monotonic() + 20
+            while served.follower.count_done < 1 and time.monotonic() < end:
+                time.sleep(0.01)
+            kinds = dict(again.take(room, served.follower))
+            self.assertIn('"done":2', kinds["run"])
+            self.assertIn("polls", kinds["run"])
+            self.assertIn("has the file read anew", kinds["past"])
+        finally:
+            audits = room.close()
+            served.close()
+        self.assertEqual([True, True], [it.is_good for it in audits])
+
+
+if __name__ == "__main__":
+    unittest.main()
