@@ -123,9 +123,9 @@ class Come(InFolder):
         self.assertIn(f"({WITH})", pathlib.Path(page).read_text())
 
     def test_a_stop_where_a_goal_is_lost(self) -> None:
-        for words, wanted in (({}, "found"), ({"interrupts": ["none"]}, "never")):
+        for coming, wanted in (([], "found"), (["none"], "never")):
             with editor() as client:
-                client.begin(pathlib.Path(self.file), **words)
+                client.begin(pathlib.Path(self.file), interrupts=coming)
                 self.assertIn(wanted, client.typed(f"reach {GOAL}"))
 
 

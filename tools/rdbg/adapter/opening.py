@@ -69,7 +69,7 @@ def read(path: str, given: Arguments) -> Source:
         raise Wrong(str(failure)) from None
     if source.application is None:
         faults = [f"{path}:{fault}" for fault in source.faults[:MOST_FAULTS]]
-        raise Wrong("\n".join([f"the application is refused as {source.faults[0].kind}", *faults]))
+        raise Wrong("\n".join([f"the application {source.refused()}", *faults]))
     return source
 
 

@@ -156,7 +156,7 @@ def in_its_words(asked: Words) -> Iterator[Tuple[List[str], Optional[Source], st
         return
     if source.application is None:
         if is_in_lines(file):
-            raise Failure(f"{file}:{source.faults[0]}", UNTOLD)
+            raise Failure(f"{file}:{source.faults[0]}; {file} {source.refused()}", UNTOLD)
         yield asked.program, None, ""
         return
     try:
