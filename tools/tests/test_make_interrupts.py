@@ -290,6 +290,11 @@ class AtThePrompt(unittest.TestCase):
             path.write_text(text + "interrupt go: notify t 0 0 inc\n")
             with shell_talk.opened(load(str(path))) as shell:
                 said = shell_talk.said(shell, "reach at t 1", "isr go", "reach ended t")
+                lost = shell_talk.said(shell, "lost ended t")
+        # (of a run it is asked from each place on)
+        self.assertEqual("# still", lost[0])
+        note = "#   note: from each place on interrupts may come as if none had come yet"
+        self.assertEqual(note, lost[-1])
         self.assertEqual(
             ["# found", "# never"], [it for it in said if it in ("# found", "# never")]
         )

@@ -79,6 +79,9 @@ TERMS: Dict[str, str] = {
     "room": "at `rdbg room` what others do is told in lines that begin with #; `# who` says who is"
     " here, `# say TEXT` is told to all, `moves` says what was done, `# wheel` asks for the wheel,"
     " `# name NAME` takes a name",
+    "deepest": "the longest order that a search went through has so many moves",
+    "within": "`within 9 moves it comes from anywhere`: from each place that an order leads to, an"
+    " order of at most so many leads to the goal",
     "lines": "`(22 lines asked)`: so many lines of rdbg's it took to find a place",
     "echo": "`set echo on` shows each line that goes to rdbg, behind >",
 }

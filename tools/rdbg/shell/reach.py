@@ -9,8 +9,9 @@ from rdbg.effects import Move
 from rdbg.failure import Failure
 from rdbg.goals import words as goal_words
 from rdbg.reaching import beside, losing
-from rdbg.reaching.asking import Question
+from rdbg.reaching.asking import LOST, Question
 from rdbg.reaching.behind import ask_behind
+from rdbg.reaching.handlers import WORD
 from rdbg.reaching.said import Answer, Kind
 from rdbg.shell import replay
 
@@ -94,7 +95,9 @@ def asked(shell: "Shell", question: Question, goal: str, lines: List[str]) -> Sa
             answer = ask_behind(source, lines, question, words, names, pace)
     except Failure as failure:
         raise Unable(str(failure)) from None
-    more = beside.remarks(answer, source, names, words, bool(pace), "pace")
+    more = [*beside.remarks(answer, source, names, words, bool(pace), "pace")]
+    if question is LOST and any(line.split(" ")[0] == WORD for line in lines):
+        more.append("note: from each place on interrupts may come as if none had come yet")
     return Said(answer, [*beside.missed(answer, source), *more])
 
 
