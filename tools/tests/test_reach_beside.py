@@ -122,7 +122,7 @@ class Come(InFolder):
         self.assertEqual(1, self.said("reach", self.file, GOAL, "--page", page)[0])
         self.assertIn(f"({WITH})", pathlib.Path(page).read_text())
 
-    def test_a_stop_where_a_goal_is_lost(self) -> None:
+    def test_an_editor(self) -> None:
         for coming, wanted in (([], "found"), (["none"], "never")):
             with editor() as client:
                 client.begin(pathlib.Path(self.file), interrupts=coming)
