@@ -71,14 +71,16 @@ def save(path: str, answered: str) -> None:
 def with_remarks(asked: Words, output: str, source: Optional[Source], goal: str) -> str:
     """An answer of the program's as it is told: of a text in lines the instructions that no order came
     to stand there with their lines, and behind it what there is to say of it."""
-    if source is None or not is_in_lines(source.path) or not output:
+    lines = output.splitlines()
+    is_answer = any(map(said.COUNTS.fullmatch, lines))
+    if source is None or not is_in_lines(source.path) or not is_answer:
         return output
-    answer = said.read(output.splitlines())
-    kept = [it for it in output.splitlines() if not said.MISSED.fullmatch(it)]
+    answer = said.read(lines)
+    kept = [it for it in lines if not said.MISSED.fullmatch(it)]
     texts, has_pace = asked.interrupts(), asked.value(PACE) is not None
     more = beside.remarks(answer, source, texts, goal, has_pace, PACE)
-    lines = (*kept, *beside.missed(answer, source), *more)
-    return "".join(f"{line}\n" for line in lines)
+    told = (*kept, *beside.missed(answer, source), *more)
+    return "".join(f"{line}\n" for line in told)
 
 
 def say(asked: Words, outcome: running.Outcome, source: Optional[Source], goal: str) -> int:
