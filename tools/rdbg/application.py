@@ -98,6 +98,8 @@ class Group:
     place: Place
 
 
+# The word that leaves out all interrupts of a text, of which none has this name.
+NO_INTERRUPT = "none"
 # How often an interrupt comes that comes any number of times, and how often others may.
 ANY, MOST_TIMES, MOST_APART = 0, 255, 255
 
@@ -145,6 +147,10 @@ class Application:
     def interrupt(self, name: str) -> Optional[Interrupt]:
         """The interrupt of this name."""
         return next((it for it in self.interrupts if it.name == name), None)
+
+    def declared(self) -> List[str]:
+        """The names of the interrupts that a text has lines for."""
+        return [it.name for it in self.interrupts if not it.is_of_wait]
 
     def task(self, name: str) -> Optional[Task]:
         """The task of this name."""

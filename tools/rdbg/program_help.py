@@ -39,7 +39,8 @@ Options:
       --moves <N>         Orders of at most N moves alone, and not of any length
       --surprises <N>     Orders of at most N surprises alone, 0 to 255
       --pace <M..N>       Each busy core makes M to N moves from one tick to the next
-      --isr <CALLS>       An interrupt that may come: 'send rx 41', several calls with ;, or a name
+      --isr <CALLS>       An interrupt that may come: 'send rx 41', several calls with ;, or a name;
+                          without it all that the text declares, by none none
       --times <N>         How often the --isr before it comes at most: 1 to 255 or any [default: 1]
       --after <I>         The --isr before it comes more rarely than the Ith, the first being 0
       --apart <T>         The --isr before it comes again no sooner than T ticks later, 0 to 255

@@ -393,7 +393,7 @@ class Places(Held):
                 "w0 holds", client.typed("info watches").replace("     ", " ") + "w0 holds"
             )
             file.write_text("task oops")
-            self.assertIn("is refused as", client.refused("restart"))
+            self.assertIn("is refused: 1 fault, as `./rdbg check", client.refused("restart"))
             self.assertEqual(client.place(), 0)
             self.assertEqual(first["reason"], "breakpoint")
 

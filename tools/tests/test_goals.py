@@ -112,6 +112,29 @@ class Refusals(unittest.TestCase):
             self.assertEqual("the goal is too long", str(refused.exception))
 
 
+class Labels(unittest.TestCase):
+    """Labels of a text in lines, where an instruction is wanted."""
+
+    TEXT = "cores 1\ntask t priority 1\nlost: add r1 1\nlate: end\ntask u priority 1\nend\n"
+
+    def test_which_there_are(self) -> None:
+        scope = Scope.of(source("x.fw", self.TEXT.encode()))
+        wanted = "the number of an instruction of the task is wanted there"
+        for goal, said in (
+            ("at t lsot", f"word 3, 'lsot': {wanted}; `at t lost` would be right"),
+            (
+                "failed or at t lsot",
+                f"word 5, 'lsot': {wanted}; `failed or at t lost` would be right",
+            ),
+            ("at t elsewhere", f"word 3, 'elsewhere': {wanted}, or a label: lost, late"),
+            ("at t", f"it ends too early: {wanted}, or a label: lost, late"),
+            ("at u lost", f"word 3, 'lost': {wanted}"),
+        ):
+            with self.subTest(goal), self.assertRaises(NoGoal) as caught:
+                goal_words.read(goal.split(), scope)
+            self.assertEqual(said, str(caught.exception))
+
+
 class Truth(unittest.TestCase):
     """What goals say of places."""
 

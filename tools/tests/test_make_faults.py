@@ -212,9 +212,13 @@ class Instructions(unittest.TestCase):
         ("data 4", ":6: {}: 4 is no bytes: each byte has two digits"),
         ("data 41 0x1 2", ":9: {}: 0x1 is no bytes: each byte has two digits"),
         (
-            "data RX",
-            ":6: {}: RX is no bytes: they are written as hexadecimal digits, two a byte,"
-            " or as a text in double quotes",
+            "data RXX",
+            ":6: {}: RXX is no bytes: they are written as hexadecimal digits, two a byte,"
+            " as a text in double quotes, or as consts; RX is near",
+        ),
+        (
+            "data portMAX_DELAY",
+            ":6: {}: portMAX_DELAY is 4294967295, and a byte is 0 to 255",
         ),
         (r'data "a\q"', r":8: {}: the escapes are \n, \r, \t, \0, \\, \" and two digits behind \x"),
     )

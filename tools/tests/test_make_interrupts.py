@@ -10,7 +10,7 @@ from typing import List, Tuple
 from rdbg.application import ANY, Interrupt
 from rdbg.failure import Failure
 from rdbg.files.source import load, source
-from rdbg.reaching.handlers import handlers
+from rdbg.reaching.handlers import handlers, left
 from tests import shell_talk
 from tests.paths import COMPANION
 from tests.test_make_faults import faults
@@ -107,6 +107,14 @@ class Reads(unittest.TestCase):
             said += " give NAME: let a task of the highest priority play it, with wait for its time"
             self.assertEqual([f"{said} (docs/FROM_C.md)"], self.told(f"ping: {call}"))
 
+    def test_the_word_that_leaves_them_out_names_none(self) -> None:
+        text = (
+            TEXT.split("interrupt ping")[0]
+            + "task dsp priority 2\nend\ninterrupt none: send rx 41\n"
+        )
+        said = "none is what leaves interrupts out, and the name of none"
+        self.assertEqual([f"9:11: {said}"], faults(text.encode()))
+
     def test_names_and_a_profile(self) -> None:
         again = TEXT + "interrupt ping: send rx 41\n"
         self.assertEqual(["14:11: interrupt ping stands in line 7 already"], faults(again.encode()))
@@ -169,14 +177,58 @@ class Searched(unittest.TestCase):
         self.assertGreaterEqual(said.count("tick"), 20)
         status, said, _ = self.reach("reg dsp 2 = 4", "--isr", "ping")
         self.assertEqual((0, "never"), (status, said[0]))
-        self.assertEqual("never", self.reach("reg dsp 2 = 1")[1][0])
+
+    def test_where_none_is_named_all_come(self) -> None:
+        for words, wanted, beside in (
+            ((), "found", "with interrupts ping, pong"),
+            (("--isr", "none"), "never", "without interrupts ping, pong"),
+            (("--isr", "pong none"), "", ""),
+            (("--isr", "send rx 41"), "never", "without interrupts ping, pong"),
+            (("--isr", "ping"), "found", "without interrupt pong"),
+            (("--isr", "ping", "--isr", "pong"), "found", ""),
+        ):
+            with self.subTest(words):
+                status, said, _ = self.reach("reg dsp 2 = 1", *words)
+                self.assertEqual({"found": 1, "never": 0}.get(wanted, 2), status)
+                self.assertEqual(wanted, said[0])
+                self.assertEqual([beside] if beside else [], [it for it in said if "with" in it])
+
+    def test_a_task_named_none(self) -> None:
+        text = "cores 1\ntask none priority 1\ntake 0 clear max\nend\ninterrupt go: notify none 0 0 inc\n"
+        pathlib.Path(self.path).write_text(text)
+        self.assertEqual("found", self.reach("ended none")[1][0])
+        self.assertEqual("never", self.reach("ended none", "--isr=none")[1][0])
+        self.assertEqual("found", self.reach("ended none", "--isr", "notify none 0 0 inc")[1][0])
+
+    def test_what_the_command_line_says_counts(self) -> None:
+        goal = ("reg dsp 2 = 4", "--isr", "ping")
+        self.assertEqual("never", self.reach(*goal)[1][0])
+        for words in (("--times", "4"), ("--times=any", "--apart=0")):
+            status, said, errors = self.reach(*goal, *words)
+            self.assertEqual((1, "found", [""]), (status, said[0], errors))
+        said = self.reach(*goal, "--apart", "0", "--times", "4")[1]
+        self.assertLess(said.count("tick"), 20)
+
+    def test_those_that_have_come(self) -> None:
+        (ping,) = handlers(["ping"], application(TEXT))
+        lines = ["isr notify dsp 0 1 set", "step 0"] * 2
+        self.assertEqual(
+            ["isr notify dsp 0 1 set times 1 apart 10"], [it.line() for it in left([ping], lines)]
+        )
+        self.assertEqual([], left([ping], lines * 2))
+        (both,) = handlers(["go"], application(TEXT + "interrupt go: send rx 41; send rx 42\n"))
+        self.assertEqual([both], left([both], ["isr send rx 41", "step 0", "isr send rx 42"]))
+        self.assertEqual([], left([both], ["isr send rx 41", "isr send rx 42"]))
+        # (where one comes after another both are counted from where it begins)
+        named = handlers([], application(TEXT))
+        self.assertEqual(named, left(named, lines))
 
     def test_faults_and_consts(self) -> None:
         status, _, errors = self.reach("stuck", "-D", "BITT=3")
         self.assertEqual(
             (2, "rdbg reach: -D BITT: no line has a const BITT; BIT is near"), (status, errors[0])
         )
-        self.assertEqual(0, self.reach("reg dsp 2 = 1", "-DBIT=8")[0])
+        self.assertEqual(1, self.reach("reg dsp 2 = 1", "-DBIT=8")[0])
         pathlib.Path(self.path).write_text(TEXT.replace("nwait", "nwiat"))
         status, _, errors = self.reach("stuck")
         self.assertEqual(2, status)
@@ -188,6 +240,16 @@ class Searched(unittest.TestCase):
             words, input=b"reach reg dsp 2 = 1\n", stdout=subprocess.PIPE, timeout=100
         )
         self.assertEqual((0, b"found"), (done.returncode, done.stdout.split(b"\n")[0]))
+        done = subprocess.run(
+            words[:-2],
+            input=b"reach reg dsp 2 = 1\nisr none\nreach reg dsp 2 = 1\n",
+            stdout=subprocess.PIPE,
+            stderr=subprocess.PIPE,
+            timeout=100,
+        )
+        replies = [it.split(b"\n")[0] for it in done.stdout.split(b"\n\n")]
+        self.assertEqual([b"found", b"ok", b"never"], replies[:3])
+        self.assertEqual(b"rdbg reach: with interrupts ping, pong\n", done.stderr)
 
 
 class AtThePrompt(unittest.TestCase):
@@ -205,6 +267,37 @@ class AtThePrompt(unittest.TestCase):
         said, _ = self.said("isr pong", "show queue rx", "show moves")
         self.assertEqual(["ok at 1 isr 1", "ok at 2 isr 1", "ok at 3 isr 1"], said[:3])
         self.assertEqual("queue rx 1/2 items 41 recv - send - set -", said[3])
+
+    def test_searches_let_them_come(self) -> None:
+        said, _ = self.said(
+            "reach reg dsp 2 = 1",
+            "interrupts none",
+            "reach reg dsp 2 = 1",
+            "interrupts ping pong",
+            "reach reg dsp 2 = 4",
+        )
+        answers = [it for it in said if it in ("# found", "# never") or " with" in it]
+        self.assertEqual(
+            ["# found", "#   with interrupts ping, pong"]
+            + ["# never", "#   without interrupts ping, pong", "# never"],
+            answers,
+        )
+
+    def test_one_that_came_is_counted(self) -> None:
+        text = "cores 1\ntask t priority 1\ntake 0 clear max\nadd r2 1\ntake 0 clear max\nend\n"
+        with tempfile.TemporaryDirectory() as folder:
+            path = pathlib.Path(folder) / "x.fw"
+            path.write_text(text + "interrupt go: notify t 0 0 inc\n")
+            with shell_talk.opened(load(str(path))) as shell:
+                said = shell_talk.said(shell, "reach at t 1", "isr go", "reach ended t")
+                lost = shell_talk.said(shell, "lost ended t")
+        # (of a run it is asked from each place on)
+        self.assertEqual("# still", lost[0])
+        note = "#   note: from each place on interrupts may come as if none had come yet"
+        self.assertEqual(note, lost[-1])
+        self.assertEqual(
+            ["# found", "# never"], [it for it in said if it in ("# found", "# never")]
+        )
 
     def test_another_word_is_rdbgs(self) -> None:
         said, hints = self.said("isr pang", "isr")

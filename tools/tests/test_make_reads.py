@@ -5,6 +5,8 @@ from typing import Any, Dict, List, Tuple
 from rdbg.application import listed
 from rdbg.files.source import Source, source
 from rdbg.tree import Node, Object, objects
+from tests.test_make_faults import faults
+from tests.test_make_several import application
 from tests.values import plain
 
 HEAD = "cores 1\nqueue jobs length 4 item 1\nstream rx size 8 trigger 4\ngroup flags\n"
@@ -162,6 +164,23 @@ class Reads(unittest.TestCase):
         wanted = ["data 41", "data 010aFf", "data 010203", "data -", "data 61620d0a", "data -"]
         wanted += ["data 0a0d09005c227F232f2fc3a9"]
         self.assertEqual(wanted, self.code(*lines))
+
+    def test_consts_as_data(self) -> None:
+        consts = "cores 1\nconst STOP 2\nconst ALL 0xFF\nqueue q length 1 item 1\n"
+        text = f'{consts}task t priority 1\ndata STOP\ndata STOP, ALL 0x03 "a"\nend\n'
+        found = application(f"{text}interrupt go: send q STOP\n")
+        code = found.tasks[0].code
+        self.assertEqual(["data 02", "data 02ff0361", "end"], [it.text for it in code])
+        self.assertEqual("data STOP", code[0].written)
+        self.assertEqual(("send q 02",), found.interrupts[0].calls)
+        self.assertEqual("data 05", application(text, {"STOP": 5}).tasks[0].code[0].text)
+        for name, value, said in (
+            ("BIG", 256, "BIG is 256, and a byte is 0 to 255"),
+            ("AB", 3, "AB is a const, and could be bytes: write 0xAB for these, or 0x03"),
+        ):
+            wrong = f"cores 1\nconst {name} {value}\ntask t priority 1\ndata {name}\nend\n"
+            told = f'4:6: task t, instruction 0: "data {name}": {said}'
+            self.assertEqual([told], faults(wrong.encode()))
 
     def test_comments(self) -> None:
         lines = ["// one", "# two", "/* three", "recv jobs 5", "*/ recv jobs 0 /**/ // four"]

@@ -120,7 +120,8 @@ class Ends(unittest.TestCase):
             self.assertEqual((status, output), (1, ""))
             lines = errors.splitlines()
             self.assertRegex(lines[0], r"wrong\.json:1:25: ")
-            self.assertRegex(lines[-1], r"^rdbg sh: .*wrong\.json is refused as L3 Limit$")
+            told = r"is refused as L3 Limit: 2 faults, as `./rdbg check .*wrong\.json` says"
+            self.assertRegex(lines[-1], rf"^rdbg sh: .*wrong\.json {told}$")
             status, _, errors = run(b"", str(wrong) + "x")
             self.assertEqual((status, errors.count("\n")), (2, 1))
 

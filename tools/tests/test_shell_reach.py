@@ -24,7 +24,8 @@ class Reach(unittest.TestCase):
             # (the place stays; and where the worker has the item no order gives it to the poller)
             self.assertEqual(["moves 0 undone 0 kept 0"], said(shell, "show moves"))
             answers = said(shell, "forward 7", "reach reg poller 0 = 1")
-            self.assertEqual(["ok at 7", "# never"], answers)
+            missed = "#   no order came to producer 0 1"
+            self.assertEqual(["ok at 7", "# never", missed], answers)
 
     def test_goals_of_the_search(self) -> None:
         with example("meeting") as shell:

@@ -17,7 +17,7 @@ from tests.shell_talk import both, example, opened, said
 # Words on which `help` says something.
 OTHERS = (
     "vTaskDelay(5)", "xTimerCreate", "registers", "r0", "r7", "goal", "notask", "portMAX_DELAY",
-    "xQueueGenericSend", "xTaskCreateStatic", "pdTRUE", "configTICK_RATE_HZ",
+    "xQueueGenericSend", "xTaskCreateStatic", "pdTRUE", "configTICK_RATE_HZ", "L5", "deepest", "within", "Instr", "L7 Memory",
 )  # fmt: skip
 # An interrupt that stands as a task which never waits.
 BUSY = """cores 2

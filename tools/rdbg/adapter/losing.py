@@ -109,11 +109,12 @@ class Loses(Begins):
         """What is answered behind these lines. Raises `Wrong` where that can't be told."""
         shell, source = self._shell, self._shell.source
         assert source is not None
-        names = [it.name for it in shell.coming]
+        names = shell.may_come()
         pace = [f"pace {shell.pace.text}"] if shell.pace is not None else []
         asker = Asker(source.path, (), time.monotonic() + SECONDS)
         try:
-            found = ask_behind(source, lines, question, self._asked, names, pace, asker)
+            asked = (source, lines, question, self._asked, names, pace, asker)
+            found = ask_behind(*asked, counts=False)
         except Failure as failure:
             raise Wrong(f"{self.text}: {failure}") from None
         if found.kind is Kind.UNTOLD:

@@ -18,7 +18,7 @@ from rdbg.replies import Refused
 from rdbg.driving.opening import attach as attached
 from rdbg.driving.opening import begin, builtin
 from rdbg.shell.shell import Shell
-from rdbg.driving.pacing import IS, TickPace, pace
+from rdbg.driving.pacing import IS, pace
 from rdbg.driving.target import Limits, Unable
 from rdbg.shell import paces
 from rdbg.files.source import Source
@@ -69,7 +69,7 @@ def read(path: str, given: Arguments) -> Source:
         raise Wrong(str(failure)) from None
     if source.application is None:
         faults = [f"{path}:{fault}" for fault in source.faults[:MOST_FAULTS]]
-        raise Wrong("\n".join([f"the application is refused as {source.faults[0].kind}", *faults]))
+        raise Wrong("\n".join([f"the application {source.refused()}", *faults]))
     return source
 
 
@@ -148,8 +148,10 @@ def set_pace(shell: Shell, given: Arguments) -> None:
         coming = paces.chosen(names, there)
     except Unable as unable:
         raise Wrong(f"interrupts: {unable}") from None
-    if found or coming:
-        paces.take(shell, found or TickPace(1), coming)
+    if names:
+        paces.let_come(shell, found, coming)
+    elif found:
+        paces.take(shell, found, None)
 
 
 def attach(given: Arguments, pause: Pause, hear: Tell) -> Shell:

@@ -7,6 +7,7 @@ import time
 from typing import IO, Iterator, List, Optional, Sequence, Tuple
 
 from rdbg import commands, digits, links, whole_file
+from rdbg.application import NO_INTERRUPT
 from rdbg.driving.target import Unable
 from rdbg.failure import Failure, trying
 from rdbg.files.definitions import take_definitions
@@ -18,6 +19,7 @@ from rdbg.hunting.interrupts import OPTION, handlers
 from rdbg.hunting.search import Search
 from rdbg.hunting.stage import Find, Stage
 from rdbg.options import bounded
+from rdbg.reaching import beside
 from rdbg.reaching.asking import CTRL_C, LOST, QUESTIONS, REACH, Asker, NoQuestion
 from rdbg.reaching.said import Answer, Bound, Kind
 from rdbg.replies import Refused
@@ -94,7 +96,7 @@ def parser() -> argparse.ArgumentParser:
         metavar="CALLS",
         help="an interrupt that may come once, at any place: send Q HEX, notify K I N ACTION, or"
         " several calls with ; between them; said twice, it may come twice; or one that the text"
-        " names, which comes as that says",
+        " names, which comes as that says. Without it all come that the text names; none: none of them",
     )
     made.add_argument(
         "--exhaustive", action="store_true", help="surprises aren't counted: the fewest moves"
@@ -233,7 +235,9 @@ class Hunt:
     def _said(self) -> List[str]:
         """What is said."""
         if not self.is_found:
-            return [*report.none(self.goal, self.search.left(), self.stage.application)]
+            left = self.search.left()
+            said = [*report.none(self.goal, left, self.stage.application)]
+            return [*said, *self._remarks(left)]
         if self.differs is not None:
             own = self.differs.own
             said = [*report.differing(self.goal, self.stage, own, self.differences)]
@@ -244,7 +248,13 @@ class Hunt:
             said += report.smaller(self.search.none)
         elif self.search.is_all or self.search.untold():
             said += report.others(self.search.left())
-        return said
+        return [*said, *self._remarks(Answer(Kind.REACHED))]
+
+    def _remarks(self, answer: Answer) -> Iterator[str]:
+        """What there is to say beside it."""
+        asked = "" if self.goal.compares else self.goal.asked
+        has_pace = self.given.pace is not None
+        return beside.remarks(answer, self.source, self.given.isr, asked, has_pace, "--pace")
 
     def _write_page(self) -> None:
         """Writes the first find as a page, where that was asked."""
@@ -286,7 +296,8 @@ def hunt(given: argparse.Namespace, source: Source, path: str) -> int:
     may_come = handlers(given.isr, source.application)
     if goal.compares and any(it.when for it in may_come):
         why = "differs begins where interrupts have come, and counts anew: give their calls"
-        raise Failure(f"{OPTION} NAME after or apart: {why}", CANT)
+        left_out = f"; {OPTION} {NO_INTERRUPT} leaves them out"
+        raise Failure(f"{OPTION} NAME after or apart: {why}{left_out}", CANT)
     empty(given.output, given.file)
     for output in (given.page, given.report):
         if output not in (None, STANDARD):

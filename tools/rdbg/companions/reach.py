@@ -4,7 +4,7 @@ import contextlib
 import os
 import signal
 import sys
-from typing import Iterator, List, NoReturn, Sequence
+from typing import Iterator, List, NoReturn, Optional, Sequence, Tuple
 
 from rdbg import output, program_help, whole_file
 from rdbg.ending import ENDING
@@ -14,14 +14,15 @@ from rdbg.files.source import LINES, Source, load
 from rdbg.goals.reading import NoGoal
 from rdbg.goals.words import for_search
 from rdbg.goals.scope import Scope
-from rdbg.reaching import running, said
+from rdbg.reaching import beside, running, said
 from rdbg.reaching.asking import STOPPED
-from rdbg.reaching.handlers import handlers
+from rdbg.reaching.handlers import handlers, told as told_of
 from rdbg.reaching.said import UNTOLD, Answer
 from rdbg.reaching.words import (
     DEFINE,
     LOST,
     OUTPUT,
+    PACE,
     PAGE,
     PROGRESS,
     REPORT,
@@ -67,14 +68,30 @@ def save(path: str, answered: str) -> None:
             file.writelines(f"{line}\n" for line in answer.order)
 
 
-def say(asked: Words, outcome: running.Outcome) -> int:
-    """Says what came of a search, and answers the exit status."""
+def with_remarks(asked: Words, output: str, source: Optional[Source], goal: str) -> str:
+    """An answer of the program's as it is told: of a text in lines the instructions that no order came
+    to stand there with their lines, and behind it what there is to say of it."""
+    lines = output.splitlines()
+    is_answer = any(map(said.COUNTS.fullmatch, lines))
+    if source is None or not is_in_lines(source.path) or not is_answer:
+        return output
+    answer = said.read(lines)
+    kept = [it for it in lines if not said.MISSED.fullmatch(it)]
+    texts, has_pace = asked.interrupts(), asked.value(PACE) is not None
+    more = beside.remarks(answer, source, texts, goal, has_pace, PACE)
+    told = (*kept, *beside.missed(answer, source), *more)
+    return "".join(f"{line}\n" for line in told)
+
+
+def say(asked: Words, outcome: running.Outcome, source: Optional[Source], goal: str) -> int:
+    """Says what came of a search for a goal, and answers the exit status."""
     last, surprises = outcome.last, asked.surprises()
     if outcome.is_stopped and last is None:
         raise Failure("it was stopped before it could say how far it was", UNTOLD)
     if outcome.is_stopped:
         answer = said.stopped(last, surprises, STOPPED)
-        print(*said.lines(answer), sep="\n")
+        told = "".join(f"{line}\n" for line in said.lines(answer))
+        sys.stdout.write(with_remarks(asked, told, source, goal))
         write_report(asked, answer)
         return UNTOLD
     said.check(outcome.output, outcome.status, said.known(last, surprises))
@@ -83,7 +100,7 @@ def say(asked: Words, outcome: running.Outcome) -> int:
             save(asked.output, outcome.output)
     finally:
         # (what was found isn't lost where it can't be written)
-        sys.stdout.write(outcome.output)
+        sys.stdout.write(with_remarks(asked, outcome.output, source, goal))
     if outcome.output:
         sys.stdout.flush()
         if asked.page is not None:
@@ -127,22 +144,22 @@ def is_in_lines(file: str) -> bool:
 
 
 @contextlib.contextmanager
-def in_its_words(asked: Words) -> Iterator[List[str]]:
-    """The program's words: a text in lines as JSON, the interrupts that it names, and the goal as the
-    program has it. Raises `Failure` where there is no goal in them. A file that can't be read is the
-    program's to refuse."""
+def in_its_words(asked: Words) -> Iterator[Tuple[List[str], Optional[Source], str]]:
+    """The program's words, the file, and the goal as the program has it: a text in lines as JSON, and
+    the interrupts that it names. Raises `Failure` where there is no goal in them. A file that can't
+    be read is the program's to refuse."""
     file, *goal = (asked.program[at] for at in asked.plain())
     try:
         source = source_of(asked, file)
     except Failure as failure:
         if asked.consts:
             raise Failure(str(failure), UNTOLD) from None
-        yield asked.program
+        yield asked.program, None, ""
         return
     if source.application is None:
         if is_in_lines(file):
-            raise Failure(f"{file}:{source.faults[0]}", UNTOLD)
-        yield asked.program
+            raise Failure(f"{file}:{source.faults[0]}; {file} {source.refused()}", UNTOLD)
+        yield asked.program, None, ""
         return
     try:
         told = for_search(goal, Scope.of(source))[1] if goal else ""
@@ -151,7 +168,7 @@ def in_its_words(asked: Words) -> Iterator[List[str]]:
     application = source.application
     named = asked.with_interrupts(lambda texts: handlers(texts, application))
     with source.as_json() as path:
-        yield named.put(path, told) if goal else named.put_file(path)
+        yield (named.put(path, told) if goal else named.put_file(path)), source, told
 
 
 def become_engine(asked: Words, words: Sequence[str]) -> NoReturn:
@@ -169,7 +186,10 @@ def become_engine(asked: Words, words: Sequence[str]) -> NoReturn:
 
 def unlinked(asked: Words) -> List[str]:
     """The words of the program as an engine, whose JSON is in no folder once it has begun."""
-    with in_its_words(asked) as told:
+    with in_its_words(asked) as (told, source, _):
+        coming = told_of(asked.interrupts(), source.application if source else None)
+        if coming:
+            print(f"rdbg reach: {coming}", file=sys.stderr)
         made = os.memfd_create("application.json", 0)
         at = asked._replace(program=told).plain()[0]
         with open(told[at], "rb") as file:
@@ -190,8 +210,8 @@ def main(words: Sequence[str]) -> int:
         become_engine(asked, unlinked(asked) if is_made else words)
     check_output(asked)
     try:
-        with in_its_words(asked) as told:
-            status = say(asked, running.run([program(), *told], asked.seconds))
+        with in_its_words(asked) as (told, source, goal):
+            status = say(asked, running.run([program(), *told], asked.seconds), source, goal)
         sys.stdout.flush()
         return status
     except OSError as error:

@@ -13,6 +13,7 @@ from rdbg.checking.faults import faults_of
 from rdbg.from_c.lines import ENDING, in_lines
 from rdbg.json_layout import MOST_BYTES, json_of
 from rdbg.tree import Node, Object
+from rdbg.wording import counted
 
 if TYPE_CHECKING:
     from rdbg.firmware.reader import Named
@@ -42,6 +43,13 @@ class Source:
     def is_c(self) -> bool:
         """Whether it is a C source."""
         return self.path.endswith(ENDING)
+
+    def refused(self) -> str:
+        """That it is no application, beside its faults."""
+        kind, count = self.faults[0].kind, counted(len(self.faults), "fault")
+        # (of a text in lines that makes no JSON rdbg can say nothing)
+        named = f" as {kind}" if kind[1:2].isdigit() else ""
+        return f"is refused{named}: {count}, as `./rdbg check {self.path}` says"
 
     def lines(self) -> List[str]:
         """The lines of the text."""
@@ -96,7 +104,7 @@ def accepted(path: Optional[str], given: Optional[Given] = None) -> Optional[Sou
     if found.application is None:
         for fault in found.faults:
             print(f"{found.path}:{fault}", file=sys.stderr)
-        raise Failure(f"{path} is refused as {found.faults[0].kind}")
+        raise Failure(f"{path} {found.refused()}")
     return found
 
 

@@ -2,7 +2,7 @@
 import dataclasses
 from typing import Callable, Dict, Iterator, List, Mapping, Optional, Sequence, Tuple
 
-from rdbg.application import ANY, MOST_APART, MOST_TIMES, Interrupt
+from rdbg.application import ANY, MOST_APART, MOST_TIMES, NO_INTERRUPT, Interrupt
 from rdbg.checking.freertos import FROM_ISR, called
 from rdbg.firmware.numbers import NAME, Kept, near_to
 from rdbg.firmware.operands import Operand, Operands
@@ -66,6 +66,9 @@ class InterruptLine:
             raise Refusal(self._tokens[-1].place, message)
         colon = texts.index(COLON)
         head = self._tokens[1:colon]
+        if head and head[0].text == NO_INTERRUPT:
+            message = f"{NO_INTERRUPT} is what leaves interrupts out, and the name of none"
+            raise Refusal(head[0].place, message)
         if not head or not NAME.fullmatch(head[0].text):
             raise Refusal(self._tokens[0].place, f"{FORM}: there is no name")
         self._keys(head[1:])

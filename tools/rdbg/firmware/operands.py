@@ -12,7 +12,9 @@ from rdbg.tree import Place
 BYTES = re.compile(r"(?:0[xX])?((?:[0-9a-fA-F]{2})+)")
 ODD = re.compile(r"(?:0[xX])?[0-9a-fA-F]+")
 CHARACTER = re.compile(r"\\x([0-9a-fA-F]{2})|\\([nrt0\\\"])|[^\\]", re.DOTALL)
-BYTES_ARE = "they are written as hexadecimal digits, two a byte, or as a text in double quotes"
+BYTES_ARE = (
+    "they are written as hexadecimal digits, two a byte, as a text in double quotes, or as consts"
+)
 ESCAPES = {"n": "\n", "r": "\r", "t": "\t", "0": "\0", "\\": "\\", '"': '"'}
 ONE_OF_SEVERAL = re.compile(r"([a-z][a-z0-9_]*)\[([A-Za-z0-9_]+)\]")
 # The kinds of operands that are numbers, or can be.
@@ -55,6 +57,19 @@ def bytes_of(token: Token) -> Operand:
         columns += [token.place.column + at] * len(parts[-1])
         at = found.end()
     return Operand("".join(parts), columns)
+
+
+def byte_of(token: Token, value: int) -> Operand:
+    """The byte that a const is. Raises `Refusal` where it is none, or its name could be bytes."""
+    name = shown(token.text)
+    if BYTES.fullmatch(token.text):
+        message = (
+            f"{name} is a const, and could be bytes: write 0x{name} for these, or 0x{value:02x}"
+        )
+        raise Refusal(token.place, message)
+    if value > 0xFF:
+        raise Refusal(token.place, f"{name} is {value}, and a byte is 0 to 255")
+    return dataclasses.replace(made(f"{value:02x}", token.place), spelled=name)
 
 
 class Operands(Numbers):
@@ -146,7 +161,7 @@ class Operands(Numbers):
         return dataclasses.replace(operand, label=label)
 
     def data(self) -> Operand:
-        """All bytes that come: digits, or a text in quotes."""
+        """All bytes that come: digits, a text in quotes, or consts of a byte each."""
         pieces = [self._piece()]
         while self.next() is not None:
             pieces.append(self._piece())
@@ -159,12 +174,16 @@ class Operands(Numbers):
         self.at += 1
         if token.is_quoted():
             return bytes_of(token)
+        value = self.constants.value(token)
+        if value is not None:
+            return byte_of(token, value)
         found = None if is_binary(token.text) else BYTES.fullmatch(token.text)
         if found:
             return Operand(found[1], token.columns()[found.start(1) :])
         if token.text == "-" and len(self.tokens) == 1:
             return as_written(token)
-        why = "each byte has two digits" if ODD.fullmatch(token.text) else BYTES_ARE
+        near = self.constants.near(token.text)
+        why = "each byte has two digits" if ODD.fullmatch(token.text) else f"{BYTES_ARE}{near}"
         if is_binary(token.text):
             why = f"{PAIRS}: write data {shown(as_bytes(token.text))}"
             if BYTES.fullmatch(token.text):

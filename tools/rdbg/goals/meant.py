@@ -19,7 +19,7 @@ APART = re.compile(r"([<>=!]=?)")
 def with_meant(wrong: NoGoal, scope: Scope) -> NoGoal:
     """The same refusal, which says what would be right, too."""
     found = mended(wrong, scope)
-    more = f"; `{' '.join(found)}` would be right" if found else there_are(wrong.wanted, scope)
+    more = f"; `{' '.join(found)}` would be right" if found else there_are(wrong, scope)
     return Meant(wrong, more) if more else wrong
 
 
@@ -31,14 +31,24 @@ class Meant(NoGoal):
         self.args = (f"{wrong}{more}",)
 
 
-def there_are(wanted: str, scope: Scope) -> str:
-    """Which names there are where one is wanted."""
-    kind = next((word for word, what in reading.NAME.items() if what == wanted), None)
-    names = [] if kind is None else scope.names.of_kind(kind)
+def there_are(wrong: NoGoal, scope: Scope) -> str:
+    """Which names there are where one is wanted, or which labels."""
+    kind = next((word for word, what in reading.NAME.items() if what == wrong.wanted), None)
+    labels = labels_at(wrong.words, wrong.at, wrong.wanted, scope)
+    names = labels if kind is None else scope.names.of_kind(kind)
     shown = ", ".join(names[:MOST_SAID]) + (", .." if len(names) > MOST_SAID else "")
+    if labels:
+        return f", or a label: {shown}"
     if kind is None or scope.application is None:
         return ""
     return f"; these are there: {shown}" if shown else "; there are none"
+
+
+def labels_at(words: Sequence[str], at: Optional[int], wanted: str, scope: Scope) -> List[str]:
+    """The labels that can stand in place of a word, or at the end: those of the task before it."""
+    place = len(words) if at is None else at
+    is_there = wanted == reading.INSTRUCTION and place > 0
+    return [*scope.labels.get(words[place - 1], ())] if is_there else []
 
 
 def mended(wrong: NoGoal, scope: Scope) -> Optional[List[str]]:
@@ -76,7 +86,8 @@ def repaired(words: List[str], at: int, wanted: str, scope: Scope) -> Optional[L
         return as_claim(words, at, scope)
     if wanted == reading.COMPARISON:
         return as_comparison(words, at)
-    other = single(word, wanted, scope)
+    labels = labels_at(words, at, wanted, scope)
+    other = near(word, labels) if labels else single(word, wanted, scope)
     return None if other is None else [*words[:at], *other.split(), *words[at + 1 :]]
 
 

@@ -7,7 +7,7 @@ import dataclasses
 from typing import Dict, List, Sequence, Tuple
 
 from rdbg import commands
-from rdbg.application import MOST_TIMES, Application
+from rdbg.application import MOST_TIMES, NO_INTERRUPT, Application
 from rdbg.failure import Failure
 from rdbg.near import nearest
 from rdbg.reaching.handlers import EVER, TIMES
@@ -43,8 +43,9 @@ class Handler:
 
 
 def handlers(texts: Sequence[str], application: Application) -> Tuple[Handler, ...]:
-    """The handlers that are named, each once, with how often it may come. Raises `Failure`."""
-    if texts and application.profile < PROFILE:
+    """The handlers that are named, or all that are declared, each once, with how often it may come.
+    Raises `Failure`."""
+    if texts and [*texts] != [NO_INTERRUPT] and application.profile < PROFILE:
         raise Failure(
             f"NoIsr: {OPTION} needs profile {PROFILE}, and the file has {application.profile}", 2
         )

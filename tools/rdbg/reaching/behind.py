@@ -4,8 +4,8 @@ from typing import Optional, Sequence
 
 from rdbg.driving.opening import as_read
 from rdbg.files.source import Source
-from rdbg.reaching.asking import Asker, Question
-from rdbg.reaching.handlers import handlers
+from rdbg.reaching.asking import LOST, Asker, Question
+from rdbg.reaching.handlers import handlers, left
 from rdbg.reaching.said import Answer
 
 
@@ -17,12 +17,17 @@ def ask_behind(
     names: Sequence[str] = (),
     more: Sequence[str] = (),
     asker: Optional[Asker] = None,
+    counts: bool = True,
 ) -> Answer:
     """The answer about a goal, as the program has it, behind these lines, and the order behind them
-    alone. The interrupts of these names may come, and those that end waits; `more` are further lines
-    of the program, and `asker` has its options. Raises `Failure`."""
-    coming = [it.line() for it in handlers(names, source.application)]
+    alone. The interrupts of these names may come, all that are declared where there is none, and
+    those that end waits: as often as is left, or as if none had come yet, where `counts` isn't so, or
+    where a run lost the goal is asked. `more` are further lines of the program, and `asker` has its
+    options. Raises `Failure`."""
+    named = handlers(names, source.application)
+    found = left(named, lines) if counts and question is not LOST else named
+    coming = [it.line() for it in found]
     with as_read(source) as path:
-        found = dataclasses.replace(asker or Asker(path), file=path)
-        answer = found.ask(asked, begin=lines, more=[*coming, *more], question=question)
+        asked_of = dataclasses.replace(asker or Asker(path), file=path)
+        answer = asked_of.ask(asked, begin=lines, more=[*coming, *more], question=question)
     return dataclasses.replace(answer, order=answer.order[len(lines) :])

@@ -1,13 +1,13 @@
 """Interrupts as the program that searches takes them: those of a text by name, others by their calls."""
 import dataclasses
-from typing import Dict, List, Optional, Sequence, Tuple
+from typing import Container, Dict, List, Optional, Sequence, Tuple
 
-from rdbg.application import ANY, Application, Interrupt
+from rdbg.application import ANY, NO_INTERRUPT, Application, Interrupt
 from rdbg.failure import Failure
 from rdbg.near import nearest
 
-OPTION, BETWEEN = "--isr", "; "
-TIMES, EVER = "times", "any"
+OPTION, WORD, BETWEEN = "--isr", "isr", "; "
+TIMES, EVER, AFTER = "times", "any", "after"
 
 
 @dataclasses.dataclass(frozen=True)
@@ -18,21 +18,36 @@ class Handler:
     calls: str
     when: Tuple[Tuple[str, str], ...] = ()
 
-    def options(self) -> List[str]:
-        """The words of a command line."""
-        return [OPTION, self.calls, *(word for key, it in self.when for word in (f"--{key}", it))]
+    def options(self, said: Container[str] = ()) -> List[str]:
+        """The words of a command line, on which these options of it stand already."""
+        when = [(f"--{key}", it) for key, it in self.when if f"--{key}" not in said]
+        return [OPTION, self.calls, *(word for pair in when for word in pair)]
 
     def line(self) -> str:
         """The line to the program where it answers lines."""
-        return " ".join(["isr", self.calls, *(f"{key} {it}" for key, it in self.when)])
+        return " ".join([WORD, self.calls, *(f"{key} {it}" for key, it in self.when)])
+
+    def behind(self, lines: Sequence[str]) -> List["Handler"]:
+        """It as it may come behind these lines, in which it may have come."""
+        own = [f"{WORD} {it}" for it in self.calls.split(BETWEEN)]
+        came, at = 0, 0
+        while at < len(lines):
+            is_own = [*lines[at : at + len(own)]] == own
+            came, at = came + is_own, at + (len(own) if is_own else 1)
+        when = dict(self.when)
+        if when.get(TIMES, EVER) == EVER or not came:
+            return [self]
+        left = {**when, TIMES: str(int(when[TIMES]) - came)}
+        return [Handler(self.calls, tuple(left.items()))] if int(when[TIMES]) > came else []
 
 
 def handlers(texts: Sequence[str], application: Optional[Application]) -> List[Handler]:
-    """Those that are named, or given by their calls, in their order, and then those that end waits.
-    One that comes after another stands behind that. Raises `Failure` where it doesn't."""
+    """Those that are named, or given by their calls, in their order; all that a text declares where
+    nothing is named; and then those that end waits. One that comes after another stands behind that.
+    Raises `Failure` where it doesn't."""
     found: List[Handler] = []
     numbers: Dict[str, int] = {}
-    for text in texts:
+    for text in chosen(texts, application):
         it = application.interrupt(text.strip()) if application else None
         if it is None:
             check_name(text, application)
@@ -50,6 +65,30 @@ def handlers(texts: Sequence[str], application: Optional[Application]) -> List[H
     return found + [named(it, numbers, {}) for it in ends if it.name not in numbers]
 
 
+def chosen(texts: Sequence[str], application: Optional[Application]) -> Sequence[str]:
+    """What is named by these texts: all that is declared where there is none, and nothing by `none`."""
+    if [*texts] == [NO_INTERRUPT]:
+        return ()
+    return texts or (application.declared() if application else ())
+
+
+def told(texts: Sequence[str], application: Optional[Application]) -> str:
+    """Which interrupts of those that are declared may come where none was named, or which were left
+    out; empty where that is none."""
+    declared = application.declared() if application else []
+    names = [it for it in declared if it not in map(str.strip, texts)]
+    noun = "interrupt" if len(names) == 1 else "interrupts"
+    return f"{'without' if texts else 'with'} {noun} {', '.join(names)}" if names else ""
+
+
+def left(handlers: Sequence[Handler], lines: Sequence[str]) -> List[Handler]:
+    """Those that may still come behind these lines; where one comes after another, as if none had
+    come yet."""
+    if any(key == AFTER for it in handlers for key, _ in it.when):
+        return [*handlers]
+    return [it for one in handlers for it in one.behind(lines)]
+
+
 def times_of(it: Interrupt, others: Dict[str, Interrupt]) -> int:
     """How often one comes at the most: one that comes after another no more often than that."""
     bounds = [it.times] + ([times_of(others[it.after], others)] if it.after else [])
@@ -60,7 +99,7 @@ def named(it: Interrupt, numbers: Dict[str, int], others: Dict[str, Interrupt]) 
     """One of a text, where these have these numbers, and those are there."""
     times = times_of(it, others)
     when = [(TIMES, EVER if times == ANY else str(times))]
-    when += [("after", str(numbers[it.after]))] if it.after is not None else []
+    when += [(AFTER, str(numbers[it.after]))] if it.after is not None else []
     when += [("apart", str(it.apart))] if it.apart else []
     return Handler(BETWEEN.join(it.calls), tuple(when))
 

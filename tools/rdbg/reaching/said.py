@@ -38,7 +38,8 @@ TITLE = re.compile(r"still|lost at \d+", re.ASCII)
 # which part of a search.
 WITHIN = re.compile(r"not within(?: (\d+) moves)?(?:(?: and)? (\d+) surprises)?", re.ASCII)
 PART = re.compile(r", part (\d+) of (\d+)$", re.ASCII)
-MISSED = re.compile(r"no order came to (\S+)((?: \d+)+)", re.ASCII)
+# (behind it may stand where that is in a text)
+MISSED = re.compile(r"no order came to (\S+)((?: \d+)+)(?: \(.*\))?", re.ASCII)
 
 
 @dataclasses.dataclass(frozen=True)

@@ -2,26 +2,35 @@
 from itertools import takewhile
 from typing import Callable, Dict, List, NamedTuple, Optional, Sequence, Tuple
 
+from rdbg.application import NO_INTERRUPT
 from rdbg.wording import shown
 from rdbg.digits import is_digits, seconds
 from rdbg.failure import Failure
 from rdbg.reaching.handlers import OPTION, Handler
 
 OUTPUT, WITHIN, SURPRISES, PAGE = "-o", "--within", "--surprises", "--page"
-REPORT, LOST = "--report", "--lost"
+REPORT, LOST, PACE = "--report", "--lost", "--pace"
 # A const of a text in lines; it may stand more than once.
 DEFINE = "-D"
 # Has the program say how far it is, which it always does here.
 PROGRESS = "--progress"
 # What stands behind each of these, which the program doesn't know.
 OWN = {OUTPUT: "OUT", WITHIN: "SECONDS", PAGE: "OUT.html", REPORT: "FILE"}
-# Options of the program behind which a value stands.
-VALUED = {
-    *"--from --moves --pace --isr --times --after --apart --states --memory --part".split(),
-    SURPRISES,
-}
+# Options of the program behind which a value stands; those among them that belong to an interrupt.
+WHEN = ("--times", "--after", "--apart")
+VALUED = {*"--from --moves --isr --states --memory --part".split(), SURPRISES, PACE, *WHEN}
 # Behind it all words are a file and a goal.
 NO_MORE = "--"
+
+
+class Given(NamedTuple):
+    """An interrupt on a command line: from which word to behind which, what is given of it, and the
+    options that belong to it."""
+
+    first: int
+    end: int
+    text: str
+    when: List[str]
 
 
 class Words(NamedTuple):
@@ -79,28 +88,35 @@ class Words(NamedTuple):
         return [file if at == first else word for at, word in enumerate(self.program)]
 
     def with_interrupts(self, handlers: Callable[[List[str]], List[Handler]]) -> "Words":
-        """The same with each interrupt as the program takes it, by what these are."""
-        places = self._interrupts()
-        made = handlers([text for _, _, text in places])
-        program = list(self.program)
-        for (at, end, _), it in [*zip(places, made)][::-1]:
-            program[at:end] = it.options()
+        """The same with each interrupt as the program takes it, by what these are. What the command
+        line says of when one comes counts in place of what the text says."""
+        places, program = self._interrupts(), list(self.program)
+        made = handlers(self.interrupts())
+        if self.interrupts() == [NO_INTERRUPT]:
+            del program[places[0].first : places.pop().end]
+        for place, it in [*zip(places, made)][::-1]:
+            program[place.first : place.end] = it.options(place.when)
         others = [word for it in made[len(places) :] for word in it.options()]
         behind = program.index(NO_MORE) if NO_MORE in program else len(program)
         program[behind:behind] = others
         return self._replace(program=program)
 
-    def _interrupts(self) -> List[Tuple[int, int, str]]:
-        """Where interrupts stand among the words, from the first word to behind the last one, and
-        what is given of each."""
-        found: List[Tuple[int, int, str]] = []
+    def interrupts(self) -> List[str]:
+        """What is given of each interrupt."""
+        return [it.text for it in self._interrupts()]
+
+    def _interrupts(self) -> List[Given]:
+        """The interrupts that are given."""
+        found: List[Given] = []
         at = 0
         while at < len(self.program) and self.program[at] != NO_MORE:
             word, has_value, value = self.program[at].partition("=")
             is_apart = word in VALUED and not has_value
             if word == OPTION and (has_value or at + 1 < len(self.program)):
                 text = value if has_value else self.program[at + 1]
-                found.append((at, at + 1 + is_apart, text))
+                found.append(Given(at, at + 1 + is_apart, text, []))
+            elif word in WHEN and found:
+                found[-1].when.append(word)
             at += 1 + is_apart
         return found
 

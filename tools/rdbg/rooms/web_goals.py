@@ -10,7 +10,7 @@ from rdbg.failure import Failure
 from rdbg.goals.reading import NoGoal
 from rdbg.goals.words import for_search
 from rdbg.goals.scope import Scope
-from rdbg.reaching import losing
+from rdbg.reaching import handlers, losing
 from rdbg.reaching.asking import QUESTIONS, Asker
 from rdbg.reaching.behind import ask_behind
 from rdbg.rooms.room import Room
@@ -55,4 +55,5 @@ def answered(room: Room, words: Sequence[str]) -> str:
         texts = losing.in_one(question, answer, lambda place: move_to(source, lines, place).row())
     except Failure as failure:
         return f"no: {failure}"
-    return f"{answer.head()}: {texts}" if texts else answer.head()
+    said = [f"{answer.head()}: {texts}" if texts else answer.head()]
+    return "; ".join([*said, *filter(None, [handlers.told((), source.application)])])

@@ -54,6 +54,15 @@ REFUSALS: Dict[str, str] = {
     "Broken": "the session's receipts aren't those of the history: a fault of rdbg",
     "Full": "the server has as many sessions as it was started for",
 }
+FAULTS: Dict[str, str] = {
+    "L1 NotJson": "the text is no JSON",
+    "L2 Shape": "a key is too many or missing, or a value is of a wrong kind",
+    "L3 Limit": "a number, or how long a list is, isn't within its limits",
+    "L4 Name": "a text is no name, stands twice, or names what isn't there",
+    "L5 Instr": "an instruction is none, or a script doesn't end in `end` or `jump`",
+    "L6 OverwriteLength": "an `over` is of a queue whose length isn't 1",
+    "L7 Memory": "a growth was refused",
+}
 TERMS: Dict[str, str] = {
     "goal": "a GOAL is a COND, or `asleep`, `at TASK N` and others, joined by and, or, not: `until"
     " GOAL` runs there, `rc GOAL` goes back there; with `!` to where it became so; `help until`",
@@ -70,6 +79,9 @@ TERMS: Dict[str, str] = {
     "room": "at `rdbg room` what others do is told in lines that begin with #; `# who` says who is"
     " here, `# say TEXT` is told to all, `moves` says what was done, `# wheel` asks for the wheel,"
     " `# name NAME` takes a name",
+    "deepest": "the longest order that a search went through has so many moves",
+    "within": "`within 9 moves it comes from anywhere`: from each place that an order leads to, an"
+    " order of at most so many leads to the goal",
     "lines": "`(22 lines asked)`: so many lines of rdbg's it took to find a place",
     "echo": "`set echo on` shows each line that goes to rdbg, behind >",
 }
@@ -89,6 +101,7 @@ CALLED = re.compile(
     r"|(pd|err|port|task|config|trace)[A-Z_]\w*|INCLUDE_\w+"
 )
 WORDS: List[str] = [*PHASES, *GOALS, *REFUSALS, "GOAL", *TERMS, *REGISTERS]
+WORDS += [word for fault in FAULTS for word in fault.split()]
 
 
 def meaning(word: str) -> List[str]:
@@ -99,6 +112,9 @@ def meaning(word: str) -> List[str]:
     refusal = next((name for name in REFUSALS if name.lower() == word.lower()), None)
     if refusal:
         found.append(f"no {refusal}: {REFUSALS[refusal]}")
+    fault = next((it for it in FAULTS if word.lower() in it.lower().split()), None)
+    if fault:
+        found.append(f"refused as {fault}: {FAULTS[fault]}; `./rdbg check FILE` says where")
     term = "registers" if word in REGISTERS else word.lower()
     if term in TERMS and word.lower() not in GOALS:
         found.append(TERMS[term])

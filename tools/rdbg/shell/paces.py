@@ -2,7 +2,7 @@
 from typing import TYPE_CHECKING, Dict, List, Optional, Sequence
 
 from rdbg import commands
-from rdbg.application import Interrupt
+from rdbg.application import NO_INTERRUPT, Interrupt
 from rdbg.driving.interrupt import Interrupted
 from rdbg.driving.pacing import IS, NONE, TickPace, pace
 from rdbg.driving.target import Unable
@@ -24,7 +24,7 @@ def put(shell: "Shell", words: Sequence[str]) -> None:
         found = pace(words[0])
         if found is None and words[0] != NONE:
             raise Unable(f"'{words[0]}' is none: {IS}")
-        take(shell, found, shell.coming if found else ())
+        take(shell, found, shell.coming if found or not shell.coming else None)
     shell.say(said(shell))
 
 
@@ -34,36 +34,41 @@ def said(shell: "Shell") -> str:
         return "no pace: runs are the program's own, one instruction of each busy core a tick"
     most = "" if shell.pace.most is None else f", at most {shell.pace.most}"
     text = f"pace {shell.pace.text}: each busy core makes at least {max(1, shell.pace.least)}"
-    coming = "".join(f"; {it.name} comes" for it in shell.coming)
+    coming = "".join(f"; {it.name} comes" for it in shell.coming or ())
     return f"{text}{most} between two ticks, in go, until! and continue{coming}"
 
 
-def take(shell: "Shell", found: Optional[TickPace], coming: Sequence[Interrupt]) -> None:
-    """Goes on at a pace, or at none, with interrupts that come by themselves."""
+def take(shell: "Shell", found: Optional[TickPace], coming: Optional[Sequence[Interrupt]]) -> None:
+    """Goes on at a pace, or at none, with interrupts that come by themselves, where it was said which."""
     if isinstance(shell.walk, PacedWalk):
         shell.walk.end()
-    shell.pace, shell.coming = found, tuple(coming)
+    shell.pace, shell.coming = found, None if coming is None else tuple(coming)
     if found is None:
         shell.walk = Walk(shell.target, shell.interrupt)
     else:
-        shell.walk = PacedWalk(shell.target, shell.interrupt, found, shell.coming)
+        shell.walk = PacedWalk(shell.target, shell.interrupt, found, shell.coming or ())
 
 
 def interrupts(shell: "Shell", words: Sequence[str]) -> None:
-    """`interrupts NAME ..`, `interrupts none`: which come by themselves, at each tick where they
-    may."""
+    """`interrupts NAME ..`, `interrupts none`: which come by themselves in runs, at each tick where
+    they may, and in searches, which let all come of which nothing is said."""
     application = shell.target.application
     there = {it.name: it for it in application.interrupts} if application else {}
-    if [*words] == [NONE]:
-        take(shell, shell.pace, ())
-    elif words:
-        take(shell, shell.pace or TickPace(1), chosen(words, there))
+    if words:
+        let_come(shell, shell.pace, chosen(words, there))
     shell.say(said(shell))
 
 
+def let_come(shell: "Shell", found: Optional[TickPace], coming: Sequence[Interrupt]) -> None:
+    """Goes on with these interrupts that come by themselves, at a pace where there are any."""
+    take(shell, found or (TickPace(1) if coming else None), coming)
+
+
 def chosen(words: Sequence[str], there: Dict[str, Interrupt]) -> List[Interrupt]:
-    """The interrupts of these names. Raises `Unable` where one isn't there, or where one comes after
-    another that isn't among them."""
+    """The interrupts of these names, by `none` none. Raises `Unable` where one isn't there, or where
+    one comes after another that isn't among them."""
+    if [*words] == [NO_INTERRUPT]:
+        return []
     for name in words:
         if name not in there:
             near = nearest(name, there)

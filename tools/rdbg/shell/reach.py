@@ -1,16 +1,17 @@
 """`reach`, `lost`, `doomed` and `again`: what can still come from here, and at which move it was lost,
 asked of the program that searches."""
 import dataclasses
-from typing import TYPE_CHECKING, Callable, List, Optional, Sequence
+from typing import TYPE_CHECKING, Callable, List, NamedTuple, Optional, Sequence
 
 from rdbg.driving import trail
 from rdbg.driving.target import Unable
 from rdbg.effects import Move
 from rdbg.failure import Failure
 from rdbg.goals import words as goal_words
-from rdbg.reaching import losing
-from rdbg.reaching.asking import Question
+from rdbg.reaching import beside, losing
+from rdbg.reaching.asking import LOST, Question
 from rdbg.reaching.behind import ask_behind
+from rdbg.reaching.handlers import WORD
 from rdbg.reaching.said import Answer, Kind
 from rdbg.shell import replay
 
@@ -36,6 +37,13 @@ class Order:
     lines: Sequence[str]
 
 
+class Said(NamedTuple):
+    """An answer, and what there is to say beside it."""
+
+    answer: Answer
+    beside: Sequence[str]
+
+
 def asks(question: Question) -> Callable[["Shell", Sequence[str]], None]:
     """What asks one of the program's questions about a goal, from here."""
 
@@ -46,12 +54,12 @@ def asks(question: Question) -> Callable[["Shell", Sequence[str]], None]:
             raise Unable(f"{text}; help {question.word} says more")
         with shell.wheel():
             lines = replay.lines_of(shell)
-        answer = asked(shell, question, goal, lines)
+        said = asked(shell, question, goal, lines)
         if not words:
             shell.say(f"of `{goal}`, the goal before:")
-        say(shell, question, answer, len(lines))
+        say(shell, question, said, len(lines))
         shell.goal = goal
-        shell.reached = Reached(question, goal, len(lines), answer.head())
+        shell.reached = Reached(question, goal, len(lines), said.answer.head())
 
     return ask
 
@@ -64,33 +72,39 @@ def again(shell: "Shell", words: Sequence[str]) -> None:
     replay.reload(shell, [])
     lines = replay.lines_of(shell)
     is_there = len(lines) >= before.place
-    answer = asked(shell, before.question, before.goal, lines[: before.place] if is_there else [])
+    said = asked(shell, before.question, before.goal, lines[: before.place] if is_there else [])
+    head = said.answer.head()
     where = f"from {before.place} on" if is_there and before.place else "from boot on"
-    shell.say(f"{before.goal}, {where}: it was {before.said}, and is {answer.head()}")
-    say(shell, before.question, answer, before.place if is_there else 0)
+    shell.say(f"{before.goal}, {where}: it was {before.said}, and is {head}")
+    say(shell, before.question, said, before.place if is_there else 0)
     place = before.place if is_there else 0
-    shell.reached = Reached(before.question, before.goal, place, answer.head())
+    shell.reached = Reached(before.question, before.goal, place, head)
 
 
-def asked(shell: "Shell", question: Question, goal: str, lines: List[str]) -> Answer:
-    """What is answered behind these lines, at the pace of the prompt; the interrupts that come by
-    themselves here may come, as if none had come yet."""
+def asked(shell: "Shell", question: Question, goal: str, lines: List[str]) -> Said:
+    """What is answered behind these lines, at the pace of the prompt, with what there is to say of
+    it. The interrupts that come by themselves here may come, or all where it wasn't said which."""
     source = shell.source
     if source is None or shell.target.application is None:
         raise Unable(f"`{question.word}` needs the application's file: `rdbg sh FILE`")
-    names = [it.name for it in shell.coming]
+    names = shell.may_come()
     pace = [f"pace {shell.pace.text}"] if shell.pace is not None else []
     try:
         _, words = goal_words.for_search(goal.split(), shell.scope())
         with shell.interrupt.at_prompt():
-            return ask_behind(source, lines, question, words, names, pace)
+            answer = ask_behind(source, lines, question, words, names, pace)
     except Failure as failure:
         raise Unable(str(failure)) from None
+    more = [*beside.remarks(answer, source, names, words, bool(pace), "pace")]
+    if question is LOST and any(line.split(" ")[0] == WORD for line in lines):
+        more.append("note: from each place on interrupts may come as if none had come yet")
+    return Said(answer, [*beside.missed(answer, source), *more])
 
 
-def say(shell: "Shell", question: Question, answer: Answer, place: int) -> None:
+def say(shell: "Shell", question: Question, said: Said, place: int) -> None:
     """Says an answer, and the order in it, which begins at a place; of a goal that was lost, by which
     move, and the order begins before that."""
+    answer = said.answer
     shell.say(answer.head())
     loss = losing.loss_of(answer)
     shell.lost = loss and lost_by(shell, loss)
@@ -108,6 +122,8 @@ def say(shell: "Shell", question: Question, answer: Answer, place: int) -> None:
         shell.say(f"  {question.here}")
     if answer.kind is not Kind.REACHED and answer.why:
         shell.say(f"  {answer.why}")
+    for line in said.beside:
+        shell.say(f"  {line}")
 
 
 def lost_by(shell: "Shell", loss: losing.Loss) -> Optional[Move]:

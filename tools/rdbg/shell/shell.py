@@ -8,6 +8,7 @@ import time
 from typing import Dict, Iterable, Iterator, List, Optional, Sequence, Tuple
 
 from rdbg import commands, kinds, record
+from rdbg.application import NO_INTERRUPT
 from rdbg.application import Interrupt as Handler
 from rdbg.client import ROOM_ENDED
 from rdbg.effects import Move
@@ -54,9 +55,10 @@ class Shell:
         self.is_refused = self.is_stopped = self.is_starting = False
         self.sourced: List[str] = []
         self.saved = Saved()
-        # The pace of runs, and the interrupts that come in them by themselves.
+        # The pace of runs, and the interrupts that come in them by themselves, where it was said
+        # which.
         self.pace: Optional[TickPace] = None
-        self.coming: Tuple[Handler, ...] = ()
+        self.coming: Optional[Tuple[Handler, ...]] = None
         # The goal of places that was asked for or gone to last; what was asked last of what can
         # still come, and the order in the answer; and the move that lost a goal, if it tells of one.
         self.goal = ""
@@ -71,7 +73,7 @@ class Shell:
         self.walk: Walk = Walk(target, self.interrupt)
         self.pieces = Pieces(self.walk)
         if self.pace is not None:
-            self.walk = PacedWalk(target, self.interrupt, self.pace, self.coming)
+            self.walk = PacedWalk(target, self.interrupt, self.pace, self.coming or ())
         self.knows_tasks = False
         self._named: Optional[Scope] = None
         self._seen: Optional[Look] = None
@@ -116,6 +118,13 @@ class Shell:
                 self.source, self.target.application = source, source.application
                 self.target.names = Names.of(source.application)
                 self._named = self._seen = self._last = None
+
+    def may_come(self) -> Sequence[str]:
+        """The interrupts that searches let come, as words for them have it: all of the text where it
+        wasn't said which."""
+        if self.coming is None:
+            return ()
+        return [it.name for it in self.coming] or [NO_INTERRUPT]
 
     def scope(self) -> Scope:
         """What goals can name."""

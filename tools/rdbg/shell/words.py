@@ -52,7 +52,8 @@ PACE = (
     "`pace 5..20`: in go, until! and continue each busy core makes at least 5 moves between two ticks,\n"
     "counted from where its task came to it, by lines step and tick; so a wait of 5 ticks is longer\n"
     "than five instructions. `pace none` ends that. forward, s and until COND stay the program's own.\n"
-    "`interrupts ping` has it come in such runs at each tick where its line lets it; or none."
+    "`interrupts ping` has it come in such runs at each tick where its line lets it, and alone in\n"
+    "searches, which let all of the text come; `interrupts none`: none in either."
 )
 RELOAD = (
     "A new program begins with the file as it is now, and makes the same moves up to the first that\n"

@@ -161,7 +161,9 @@ KEYS = (
     Key("goal", "the goal (docs/REACHING.md)", text, is_needed=True),
     Key("expect", "the first line of the answer, or its beginning", expected, is_needed=True),
     Key("question", "what is asked of the goal: reach by itself", question),
-    Key("isr", "the interrupts that may come, by name or by their calls", texts),
+    Key(
+        "isr", "the interrupts that may come, by name or by their calls, else all of a text", texts
+    ),
     Key("consts", "consts of a text in lines with their numbers, NAME=N", consts),
     Key("pace", "how many moves each busy core makes from one tick to the next", a_pace),
     Key("from", "the file of command lines behind which orders begin", text, "begin"),

@@ -17,6 +17,7 @@ from rdbg.hunting.goals import read as read_goal
 from rdbg.hunting.interrupts import Handler, handlers
 from rdbg.hunting.stage import Stage
 from rdbg.reaching.asking import LOST, QUESTIONS, Asker
+from rdbg.reaching.handlers import told as told_of_interrupts
 from rdbg.reaching.said import Answer, Bound
 from rdbg.replies import Refused
 from rdbg.testing.cases import Case
@@ -32,12 +33,14 @@ class Verdict(enum.Enum):
 
 class Result(NamedTuple):
     """A case that was tried: what became of it, the first line of the answer or why there is none,
-    how long it took, and what is told of it: the order, or what was gone through."""
+    how long it took, what is told of it: the order, or what was gone through; and which interrupts
+    of the text came without being named, or were left out."""
 
     verdict: Verdict
     came: str
     seconds: float
     told: Tuple[str, ...] = ()
+    beside: str = ""
 
 
 class Ready(NamedTuple):
@@ -116,7 +119,8 @@ def tried(folder: str, case: Case) -> Result:
         why = str(failure) or " ".join(said.getvalue().split())
         return Result(Verdict.REFUSED, why, time.monotonic() - began)
     verdict = Verdict.OK if case.is_met(answer.head()) else Verdict.WRONG
-    return Result(verdict, answer.head(), took, tuple(told))
+    beside = told_of_interrupts(case.isr, ready.source.application)
+    return Result(verdict, answer.head(), took, tuple(told), beside)
 
 
 @contextlib.contextmanager

@@ -28,6 +28,7 @@ def lines(case: Case, result: Result) -> Iterator[str]:
     elif result.came != case.expect:
         # (what is expected can be less than what came)
         what += f", {result.came}"
+    what += f", {result.beside}" if result.beside else ""
     yield f"{result.verdict.value:<6} {what} ({result.seconds:.1f} s)"
     if result.verdict is Verdict.WRONG:
         yield from (f"       {line}" for line in result.told)

@@ -8,6 +8,7 @@ from rdbg.failure import Failure
 from rdbg.files.source import Source
 from rdbg.reaching import said
 from rdbg.reaching.asking import DOOMED, LOST, REACH
+from rdbg.reaching.handlers import told as told_of
 from rdbg.reaching.said import Answer
 from rdbg.reaching.words import Words
 from rdbg.replies import Refused
@@ -38,7 +39,8 @@ def write(asked: Words, source: Source, goal: str, answered: str, path: str) -> 
         return
     order = answer.order if question is LOST else ()
     try:
-        page_of(source, lines, path, lambda at: asked_of(question, goal, answer, at, order))
+        told = told_of(asked.interrupts(), source.application)
+        page_of(source, lines, path, lambda at: asked_of(question, goal, answer, at, order, told))
     except Unable as unable:
         raise Failure(str(unable), 2) from None
     except Refused as refused:

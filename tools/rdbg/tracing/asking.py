@@ -13,6 +13,7 @@ from rdbg.goals.words import for_search
 from rdbg.reaching import losing
 from rdbg.reaching.asking import LOST, QUESTIONS, REACH, Question
 from rdbg.reaching.behind import ask_behind
+from rdbg.reaching.handlers import told as told_of
 from rdbg.reaching.said import Answer
 from rdbg.tracing.page.asked import Asked, asked
 from rdbg.tracing.table import Row
@@ -80,7 +81,8 @@ def of_page(text: Optional[str], source: Optional[Source], told: Sequence[Told])
     question, goal, answer, lines = ask(text, source, told)
     is_whole = question is LOST and answer.order
     order = (*lines, *answer.order) if is_whole else answer.order
-    return asked(question, goal, answer, told[-1].place if told else 0, order)
+    place, beside = told[-1].place if told else 0, told_of((), source.application if source else None)
+    return asked(question, goal, answer, place, order, beside)
 
 
 def lost_in(text: Optional[str], source: Optional[Source], told: Sequence[Told]) -> Optional[Lost]:
@@ -92,4 +94,6 @@ def lost_in(text: Optional[str], source: Optional[Source], told: Sequence[Told])
     texts = losing.in_one(LOST, answer, lambda place: move_to(source, lines, place).row())
     loss = losing.loss_of(answer)
     said = f"{answer.head()}: {texts}" if texts else answer.head()
+    beside = told_of((), source.application)
+    said += f" ({beside})" if beside else ""
     return Lost(goal, said, loss.place if loss is not None and loss.place else None)

@@ -71,11 +71,16 @@ def of_reach(answer: Answer, place: int, shown: str) -> str:
 
 
 def asked(
-    question: Question, goal: str, answer: Answer, place: int, order: Sequence[str] = ()
+    question: Question,
+    goal: str,
+    answer: Answer,
+    place: int,
+    order: Sequence[str] = (),
+    beside: str = "",
 ) -> Asked:
-    """A question about a goal, asked at a place, or of the run up to there, with what was answered.
-    The order of the answer is shown where it isn't the run of the page, which leads to the place.
-    """
+    """A question about a goal, asked at a place, or of the run up to there, with what was answered,
+    and what is said beside it. The order of the answer is shown where it isn't the run of the page,
+    which leads to the place."""
     loss = loss_of(answer) if question is LOST else None
     lost = loss.place if loss else None
     shown = (
@@ -88,4 +93,5 @@ def asked(
     else:
         said = of_reach(answer, place, shown)
     at = lost if question is LOST else place
-    return Asked(f"{question.word} {goal}", (said,), at, lost, tuple(order))
+    more = (f"({beside})",) if beside else ()
+    return Asked(f"{question.word} {goal}", (said, *more), at, lost, tuple(order))
