@@ -81,7 +81,9 @@ def of_page(text: Optional[str], source: Optional[Source], told: Sequence[Told])
     question, goal, answer, lines = ask(text, source, told)
     is_whole = question is LOST and answer.order
     order = (*lines, *answer.order) if is_whole else answer.order
-    place, beside = told[-1].place if told else 0, told_of((), source.application if source else None)
+    place, beside = told[-1].place if told else 0, told_of(
+        (), source.application if source else None
+    )
     return asked(question, goal, answer, place, order, beside)
 
 
