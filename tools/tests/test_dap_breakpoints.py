@@ -197,7 +197,8 @@ class Names(Held):
             client.begin(LOST)
             self.assertEqual("found", client.typed("reach reg poller 0 = 1").splitlines()[0])
             client.typed("forward 7")
-            self.assertEqual("never", client.typed("reach reg poller 0 = 1").strip())
+            answer = client.typed("reach reg poller 0 = 1").split("\n")
+            self.assertEqual(["never", "  no order came to producer 0 1"], answer[:2])
 
     def test_the_first_of_several(self) -> None:
         with editor() as client:
@@ -393,7 +394,7 @@ class Places(Held):
                 "w0 holds", client.typed("info watches").replace("     ", " ") + "w0 holds"
             )
             file.write_text("task oops")
-            self.assertIn("is refused: 1 fault, as `./rdbg check", client.refused("restart"))
+            self.assertIn("is refused as L2 Shape: 3 faults, as", client.refused("restart"))
             self.assertEqual(client.place(), 0)
             self.assertEqual(first["reason"], "breakpoint")
 
