@@ -3,7 +3,6 @@ import contextlib
 import dataclasses
 import io
 import pathlib
-import re
 from typing import Dict, Iterator, List, Sequence
 
 from rdbg.client import Session
@@ -11,14 +10,16 @@ from rdbg.looks import Names
 from rdbg.main import main
 from rdbg.files.source import load
 from tests.chromium import Browser
-from tests.paths import DOCS, EXAMPLES
+from tests.paths import EXAMPLES
 
-# How a document says that the page of a tutorial is made.
-MADE = re.compile(
-    r"^head -n (\d+) examples/(\w+)\.commands \| "
-    r"\./rdbg trace examples/\2\.json --page \2\.html$",
-    re.MULTILINE,
-)
+# How many of its example's lines the page of a tutorial shows.
+SHOWN = {
+    "full_buffer": 24,
+    "lost_item": 9,
+    "lost_notification": 13,
+    "lost_wakeup": 10,
+    "waiting_order": 12,
+}
 
 
 @dataclasses.dataclass(frozen=True)
@@ -35,13 +36,9 @@ class Tutorial:
 
 
 def tutorials() -> List[Tutorial]:
-    """The tutorials, as their documents say how their pages are made."""
-    found: List[Tutorial] = []
-    for document in sorted(DOCS.glob("*.md")):
-        for count, name in MADE.findall(document.read_text()):
-            lines = (EXAMPLES / f"{name}.commands").read_text().splitlines()
-            found.append(Tutorial(name, lines[: int(count)]))
-    return found
+    """The tutorials, each with the lines that its document goes through."""
+    read = {name: (EXAMPLES / f"{name}.commands").read_text().splitlines() for name in SHOWN}
+    return [Tutorial(name, read[name][:count]) for name, count in SHOWN.items()]
 
 
 def page_of(

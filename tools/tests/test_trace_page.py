@@ -3,15 +3,16 @@ import unittest
 
 from tests.page_shown import Shown
 from tests.pages import Asked, tutorials
-from tests.paths import EXAMPLES
+from tests.paths import DOCS, EXAMPLES
 
 
 class Tutorials(Shown):
-    """The pages of the tutorials, as their documents make them."""
+    """The pages of the tutorials."""
 
-    def test_all_are_there(self) -> None:
-        wanted = {"lost_item", "waiting_order", "lost_notification", "full_buffer", "lost_wakeup"}
-        self.assertEqual(wanted, {it.name for it in tutorials()})
+    def test_a_document_that_makes_its_page(self) -> None:
+        lost = next(it for it in tutorials() if it.name == "lost_item")
+        made = f"head -n {len(lost.lines)} examples/lost_item.commands | ./rdbg trace"
+        self.assertIn(made, (DOCS / "LOST_ITEM.md").read_text())
 
     def test_each_place_is_what_rdbg_says(self) -> None:
         for it in tutorials():
