@@ -17,7 +17,7 @@ from rdbg.files.source import load, source
 from rdbg.from_c.calls import CALLS, TEMPLATES
 from rdbg.from_c.drift import drifts
 from rdbg.from_c.lines import in_lines
-from tests.paths import COMPANION
+from tests.paths import COMPANION, EXAMPLES
 from tests.tables import codes, rows, section
 
 SETUP = """\
@@ -132,6 +132,21 @@ class Lines(unittest.TestCase):
             worker.code[0].beside, "if (xQueueReceive(jobs, &job, JOB_WAIT) == pdPASS)"
         )
         self.assertIn("uint8_t job;", worker.code[0].above)
+
+    def test_c_stands_beside_each_line_of_a_model(self) -> None:
+        said = load(str(EXAMPLES / "faults" / "queue_set" / "queue_set.c")).application
+        assert said is not None
+        server, _, reader = (list(said.tasks[at].code) for at in (0, 1, 2))
+        receive = "xQueueReceive(ready, &byte, portMAX_DELAY);"
+        beside = [it.beside for it in server if it.begins]
+        self.assertEqual([receive] * (len(beside) - 2), beside[1:-1])
+        self.assertTrue(beside[0].startswith("QueueSetMemberHandle_t ready = "))
+        send = "xQueueSend(line[me], &byte, portMAX_DELAY);"
+        self.assertEqual([send] * 2, [it.beside for it in reader])
+        text = in_task("    // rdbg(f): recv q 0\n    // rdbg(f): send q 0\n\n    /* x */\n    f(1);")
+        shown = source("a.c", text.encode()).application
+        assert shown is not None
+        self.assertEqual(["f(1);"] * 2, [it.beside for it in shown.tasks[0].code[:2]])
 
     def test_faults_are_told_where_they_stand(self) -> None:
         wrong = source("a.c", FIRMWARE.replace("rdbg: send done", "rdbg: send dnoe").encode())

@@ -10,7 +10,7 @@ from rdbg.application import Application, Interrupt, application
 from rdbg.failure import Failure, trying
 from rdbg.fault import Fault
 from rdbg.checking.faults import faults_of
-from rdbg.from_c.lines import ENDING, in_lines
+from rdbg.from_c.lines import ENDING, code_below, in_lines
 from rdbg.json_layout import MOST_BYTES, json_of
 from rdbg.tree import Node, Object
 from rdbg.wording import counted
@@ -129,13 +129,15 @@ def source(path: str, content: bytes, given: Optional[Given] = None) -> Source:
         faults = [*found, *(faults_of(root) if root is not None and not found else [])]
     value = None if root is None or faults else root.value
     said = application(value) if isinstance(value, Object) else None
+    shown = content.decode("utf-8", "replace")
     if said is not None and (comments or interrupts):
         from rdbg.firmware.comments import with_comments
 
-        said = dataclasses.replace(with_comments(said, comments), interrupts=interrupts)
+        below = code_below(shown) if path.endswith(ENDING) else {}
+        said = dataclasses.replace(with_comments(said, comments, below), interrupts=interrupts)
     return Source(
         path=path,
-        text=content.decode("utf-8", "replace"),
+        text=shown,
         root=root,
         faults=tuple(faults),
         application=said,

@@ -1,4 +1,5 @@
 """The lines of a model that stand in the comments of a C source: `// rdbg: recv jobs 10`."""
+import bisect
 import re
 from typing import Dict, Iterator, List, NamedTuple, Sequence, Set
 
@@ -90,6 +91,15 @@ def in_lines(text: str) -> str:
         comment = f" // {code}" if code else ""
         made.append((said.get(number, "") + comment) if number in said else comment.lstrip())
     return "\n".join(made) + "\n"
+
+
+def code_below(text: str) -> Dict[int, str]:
+    """The C that lines of a model are of that stand alone in theirs: the next below each."""
+    found = [*pieces(text)]
+    beside = code_beside(text, found)
+    rows = sorted({it.place.line for it in found if it.is_code})
+    said = {it.number: bisect.bisect(rows, it.number) for it in lines_of(found) if it.is_alone}
+    return {number: beside[rows[at]] for number, at in said.items() if at < len(rows)}
 
 
 def below(text: str) -> Dict[int, int]:
