@@ -40,6 +40,9 @@ class Scripts(unittest.TestCase):
     def test_beside(self) -> None:
         self.check("beside")
 
+    def test_led(self) -> None:
+        self.check("led")
+
     def test_links(self) -> None:
         self.check("links")
 

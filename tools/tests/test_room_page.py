@@ -86,7 +86,7 @@ class Lines(OnPage):
             )
             self.browser.key("s")
             self.at(1)
-            self.assertEqual(["->", "1", "7", "jump again"], self.rows("#script")[1])
+            self.assertEqual(["->", "1", "7", "jump again", ""], self.rows("#script")[1])
 
 
 class Wheel(OnPage):

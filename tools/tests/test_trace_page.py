@@ -41,7 +41,7 @@ class Tutorials(Shown):
             self.assertEqual(who, list(self.reader.column("#cores", 1).values()))
             self.assertEqual({"queue jobs": waits}, self.reader.column("#objects", 3))
             self.assertEqual({"queue jobs": level}, self.reader.column("#objects", 1))
-        waits = "waits at recv:jobs without end"
+        waits = "waits at recv:jobs with no limit of time (portMAX_DELAY)"
         self.assertEqual(waits, self.reader.column("#tasks", 2)["worker (2)"])
         self.assertEqual("ended", self.reader.column("#tasks", 2)["producer (1)"])
 

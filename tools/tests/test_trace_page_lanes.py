@@ -77,6 +77,7 @@ class Lanes(Shown):
         self.assertNotEqual(whole, self.reader.picture())
         wanted = {"lane-pin", "lane-up", "lane-down", "lane-fold", "lane-order", "range-begin"}
         seen = set()
+        self.browser.value("document.querySelector('#more').open = true")
         self.browser.value("document.querySelector('#lane').focus()")
         for _ in range(45):
             self.browser.key("Tab")

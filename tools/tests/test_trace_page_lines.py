@@ -25,9 +25,11 @@ class Lines(Shown):
             path.write_text(TEXT)
             self.show(["step 0"] * 3, application=path)
             self.browser.key("End")
-            text = "if r1 & 1 goto out (4 of 8)  // never"
-            wanted = [["", "", "", "// looks at a bit"], ["->", "0-7", "5", text]]
-            wanted += [["", "8", "6", "add r1 1"], ["", "9", "8", "end"]]
+            text = "if r1 & 1 goto out (4 of 8)"
+            wanted = [["", "", "", "", "looks at a bit"], ["->", "0-7", "5", text, "never"]]
+            wanted += [["", "8", "6", "add r1 1", ""], ["", "9", "8", "end", ""]]
+            heads = ["next", "pc", "line", "instruction", "C or comment"]
+            self.assertEqual(heads, self.browser.texts("#script thead th"))
             self.assertEqual(wanted, [list(row) for row in self.browser.rows("#script")])
 
 

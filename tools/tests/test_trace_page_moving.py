@@ -136,12 +136,11 @@ class Moving(Shown):
         changed = self.browser.value(
             "[...document.querySelectorAll('#tasks .changed')].map((it) => it.textContent)"
         )
-        self.assertEqual(
-            ["core 0", "woken, tries again (without end)", "2", "end", "r0=1, data 41", "ready"],
-            changed,
-        )
+        again = "woken, tries again with no limit of time (portMAX_DELAY)"
+        expected = ["core 0", again, "2", "end", "r0=1, data 41", "ready"]
+        self.assertEqual(expected, changed)
         script = self.browser.rows("#script")
-        self.assertEqual(["->", "2", "7", "end"], script[2])
+        self.assertEqual(["->", "2", "7", "end", ""], script[2])
         self.assertEqual(
             "true",
             self.browser.value(

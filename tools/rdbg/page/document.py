@@ -33,6 +33,7 @@ STYLE = HERE / "style.css"
 # The parts of HTML that they have, by the names that stand for them.
 PARTS = {
     "header": "header.html",
+    "finding": "finding.html",
     "lanes": "lanes.html",
     "script-panel": "script.html",
     "state": "state.html",

@@ -3,8 +3,8 @@
 const COLOURS = 8;
 const FONT = 12;
 const NARROW = 3;
-// In less room than this a task's bands are drawn, in place of its letter.
-const LETTER_ROOM = 13;
+// Bands stand before the name of who runs, and where that has no room, in its place.
+const STRIP = 5;
 
 class Painter {
   constructor(canvas) {
@@ -140,14 +140,14 @@ class Painter {
     }
   }
 
-  // Who runs, as far as there is room.
+  // Who runs, as far as there is room, always with the bands that nobody else has.
   runner({ text, sign, colour }, x, y, width, height) {
     if (!sign) return this.text(text, x + 4, y + height / 2, width - 6, this.ink, "bold");
-    if (width < LETTER_ROOM) return this.bands(colour, x + 1, y + 1, width - 2, height - 2);
-    const most = Math.floor((width - 6) / this.letter);
-    const shown = nameIn(most, text, sign);
-    const room = Math.max(width - 6, 2 * this.letter);
-    this.text(shown, x + 4, y + height / 2, room, this.ink, "bold");
+    const left = width - STRIP - 5;
+    const shown = nameIn(Math.floor(left / this.letter), text, sign);
+    this.bands(colour, x + 1, y + 1, shown ? STRIP : width - 2, height - 2);
+    const room = Math.max(left, 2 * this.letter);
+    this.text(shown, x + STRIP + 3, y + height / 2, room, this.ink, "bold");
   }
 
   // The bands of a task.

@@ -119,16 +119,18 @@ function scriptLines(code) {
 // its next instruction is one of it, whose text is given.
 function scriptRows({ begin, end, line, text, beside, above }, next) {
   const numbers = end > begin + 1 ? `${begin}-${end - 1}` : String(begin);
-  const comment = beside ? `  // ${beside}` : "";
-  const own = [next === null ? "" : "->", numbers, String(line), (next || text) + comment];
-  return [...above.map((it) => ["", "", "", `// ${it}`]), own];
+  const own = [next === null ? "" : "->", numbers, String(line), next || text, beside];
+  return [...above.map((it) => ["", "", "", "", it]), own];
 }
+
+// (what stands beside a text in lines that isn't in C are its comments)
+const SCRIPT_HEADS = ["next", "pc", "line", "instruction", "C or comment"];
 
 // A script around its next instruction: of the task that moved last, or of one that is chosen.
 class ScriptPanel {
   constructor(run, again) {
     this.run = run;
-    this.table = new Table(byId("script"), ["", "pc", "line", "instruction"]);
+    this.table = new Table(byId("script"), SCRIPT_HEADS);
     this.choice = byId("script-of");
     this.choice.appendChild(made("option", "the task that moved")).value = "";
     run.tasks.forEach(({ name }, at) => {
@@ -151,7 +153,7 @@ class ScriptPanel {
     const rows = lines.slice(first, first + 11).flatMap((it, at) => {
       return scriptRows(it, first + at === next ? task.code[pc][0] : null);
     });
-    this.table.show(rows.length ? rows : [["", orNobody(pc), "", "the file isn't known"]]);
+    this.table.show(rows.length ? rows : [["", orNobody(pc), "", "the file isn't known", ""]]);
     this.choice.options[0].textContent = `the task that moved (${this.run.tasks[this.moved].name})`;
   }
 }

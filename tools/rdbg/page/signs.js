@@ -15,8 +15,10 @@ function bandsOf(task) {
   return Array.from({ length: BANDS }, (_, at) => Boolean(((task + 1) >> (BANDS - 1 - at)) & 1));
 }
 
-// What there is room for, of so many letters: the name, its beginning behind the sign, or the sign.
+// What there is room for, of so many letters: the sign and the name, the name, its beginning behind
+// the sign, or the sign.
 function nameIn(most, name, sign) {
+  if (sign.length + 1 + name.length <= most) return `${sign} ${name}`;
   if (name.length <= most) return name;
   if (most < sign.length + 4) return most >= sign.length ? sign : "";
   return `${sign} ${name.slice(0, most - sign.length - 2)}\u2026`;

@@ -13,6 +13,8 @@ const MOST_SCALE = 240;
 // From these scales on there is room for moves, and for arrows.
 const MOVE_SCALE = 3;
 const ARROW_SCALE = 5;
+// All of so many moves are shown at first.
+const FEW = 60;
 // What stands above the move that lost a goal.
 const LOST = "lost";
 
@@ -157,7 +159,13 @@ class Timeline {
     this.canvas.style.width = `${this.width}px`;
     this.canvas.style.height = `${this.seen}px`;
     this.painter.context.setTransform(points, 0, 0, points, 0, 0);
-    if (!this.scale) this.zoomTo(Math.min(110, Math.max(28, this.whole())));
+    if (!this.scale || this.scale === this.firstScale) this.zoomAtFirst();
+  }
+
+  // Shows all of a few moves, of others as many as are read.
+  zoomAtFirst() {
+    this.zoomTo(Math.min(110, Math.max(this.count <= FEW ? 0 : 28, this.whole())));
+    this.firstScale = this.scale;
   }
 
   // The scale at which all is seen.

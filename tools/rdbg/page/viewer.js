@@ -27,7 +27,7 @@ const LAST_KEYS = [
 const SIGNS = [
   ["a box with a name", "the task is on this core"],
   ["slanting lines", "ready, and on no core"],
-  ["a dotted line", "waits, at the place that is named, until a tick or without end"],
+  ["a dotted line", "waits, at the place that is named, until a tick or with no limit of time"],
   ["a thin line", "ended"],
   ["crossed lines", "failed"],
   ["a box below a core's tasks", "a move of this core"],

@@ -1,6 +1,9 @@
 // What there is in words, as rdbg's other companions have it.
 
 const NOBODY = "-";
+const NO_LIMIT = "with no limit of time (portMAX_DELAY)";
+// The same within brackets.
+const EFFECT_NO_LIMIT = "with no limit of time: portMAX_DELAY";
 
 function joined(list) {
   return list && list.length ? list.join(",") : NOBODY;
@@ -20,14 +23,14 @@ function counted(count, what) {
 }
 
 function untilWhen(deadline) {
-  return deadline === "max" ? "without end" : `until tick ${deadline}`;
+  return deadline === "max" ? NO_LIMIT : `until tick ${deadline}`;
 }
 
 // A phase in words.
 function phaseWords(phase) {
   const [word, ...rest] = orNobody(phase).split(":");
   if (word === "wait") return `waits at ${rest[0]}:${rest[1]} ${untilWhen(rest[2])}`;
-  if (word === "again") return `woken, tries again (${untilWhen(rest[0])})`;
+  if (word === "again") return `woken, tries again ${untilWhen(rest[0])}`;
   if (word === "given") return `woken, given bits ${rest[0]}`;
   return word === "failed" ? `failed: ${rest[0]}` : word;
 }
@@ -100,7 +103,8 @@ function waitingNames(name, value) {
 }
 
 function effectWords(move) {
-  return move.effects.map(([text]) => text).join(", ");
+  const said = move.effects.map(([text]) => text.replace("without end", EFFECT_NO_LIMIT));
+  return said.join(", ");
 }
 
 // The cells of a move: place, tick, core, who, pc, does, effects.

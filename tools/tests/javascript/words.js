@@ -5,10 +5,10 @@ const test = require("node:test");
 const { SENT, namesOf, valuesOf } = require("./page.js");
 
 const {
-  Run, bytesWords, contentWords, counted, joined, levelOf, moveCells, moveSentence, noteWords,
+  Run, bytesWords, contentWords, counted, effectWords, joined, levelOf, moveCells, moveSentence, noteWords,
   objectReply, orNobody, phaseWords, registerWords, repliesAt, seatWords, spaced, waitingNames,
 } = namesOf("run", [
-  "Run", "bytesWords", "contentWords", "counted", "joined", "levelOf", "moveCells", "moveSentence",
+  "Run", "bytesWords", "contentWords", "counted", "effectWords", "joined", "levelOf", "moveCells", "moveSentence",
   "noteWords", "objectReply", "orNobody", "phaseWords", "registerWords", "repliesAt", "seatWords",
   "spaced", "waitingNames",
 ]);
@@ -24,12 +24,12 @@ test("a list, and what is none", () => {
 test("each phase that a task can have", () => {
   const words = {
     run: "run",
-    "again:max": "woken, tries again (without end)",
-    "again:7": "woken, tries again (until tick 7)",
+    "again:max": "woken, tries again with no limit of time (portMAX_DELAY)",
+    "again:7": "woken, tries again until tick 7",
     "given:5": "woken, given bits 5",
     "wait:recv:jobs:10": "waits at recv:jobs until tick 10",
-    "wait:group:g0:max": "waits at group:g0 without end",
-    "wait:note:0:max": "waits at note:0 without end",
+    "wait:group:g0:max": "waits at group:g0 with no limit of time (portMAX_DELAY)",
+    "wait:note:0:max": "waits at note:0 with no limit of time (portMAX_DELAY)",
     ended: "ended",
     "failed:BadBits": "failed: BadBits",
   };
@@ -99,6 +99,12 @@ test("moves, as rows and in sentences", () => {
   assert.deepEqual(moveCells(run, run.move(4)), ["4", "1", "", "tick", "", "", ""]);
   const edit = ["5", "1", "", "edit", "", "poke reg worker 3 7", "then trim 1"];
   assert.deepEqual(moveCells(run, run.move(5)), edit);
+});
+
+test("a wait with no limit of time, as an effect", () => {
+  const effects = [["left core 0 (waits without end)"], ["a took core 0"]];
+  const said = "left core 0 (waits with no limit of time: portMAX_DELAY), a took core 0";
+  assert.equal(effectWords({ effects }), said);
 });
 
 test("the replies of the target to views of a place", () => {

@@ -16,6 +16,7 @@ SCRIPTS = tuple(
         "report",
         "links",
         "marks",
+        "led",
         "beside",
         "printed",
         "run_page",

@@ -14,6 +14,8 @@ class RunPage extends Viewer {
     this.bookmarks = new BookmarkPanel(go, () => this.changeMarks());
     this.range = new RangePanel(shown, () => this.changeRange());
     this.beside = other ? new BesidePanel(this, other, report.lines?.name) : null;
+    this.led = new LedPanel(shown, report.at ?? shown.first, go);
+    this.timeline.arrangement.pinned = [...this.led.keys];
     this.printed = new Printed(this);
     this.panels.push(this.way, this.bookmarks, this.range);
     if (this.beside) this.panels.push(this.beside);
@@ -46,7 +48,7 @@ class RunPage extends Viewer {
       c: () => this.way.copy(),
       m: () => this.range.turn(),
       z: () => this.zoomToRange(),
-      b: () => byId("bookmark-word").select(),
+      b: () => unfolded("bookmark-word").select(),
       j: () => this.next(this.bookmarks.places),
       J: () => this.before(this.bookmarks.places),
       d: () => this.go(this.beside?.place ?? this.place),
@@ -73,8 +75,8 @@ class RunPage extends Viewer {
   }
 
   changeMarks() {
-    const found = this.beside ? this.beside.flags : [];
-    const flags = [...found, ...this.bookmarks.flags];
+    const found = [...(this.beside ? this.beside.flags : []), ...this.bookmarks.flags];
+    const flags = [...found, ...this.led.flags(found)];
     this.timeline.setFlags(flags.sort((one, other) => one.place - other.place));
     this.again();
   }
@@ -112,7 +114,10 @@ class RunPage extends Viewer {
   get link() {
     const { pinned } = this.timeline.arrangement;
     const { range } = this.range;
-    return linkOf({ place: this.place, bookmarks: this.bookmarks.list, range, pinned });
+    // (those that are pinned at first aren't named)
+    const isFirst = pinned.join() === this.led.keys.join();
+    const named = isFirst ? [] : pinned;
+    return linkOf({ place: this.place, bookmarks: this.bookmarks.list, range, pinned: named });
   }
 
   // The address names what is shown, once that stays for a moment.
