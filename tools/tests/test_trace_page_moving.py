@@ -109,6 +109,9 @@ class Moving(Shown):
 
     def test_keys_alone_reach_everything(self) -> None:
         seen: List[str] = []
+        # (search unfolds the row that it is in)
+        for key in ("/", "Escape"):
+            self.browser.key(key)
         self.browser.value("document.activeElement.blur()")
         for _ in range(60):
             self.browser.key("Tab")
