@@ -40,7 +40,8 @@ class Users(unittest.TestCase):
             self.assertEqual(left.expect("# here"), "# here: left (session 1)")
             self.assertEqual(left.ask("tick"), "ok at 1")
             here.end()
-            self.assertEqual([it[0] for it in rows(file)], ["room", *["left"] * 3, "room"])
+            who = ["room", *["left"] * 3, "room", "room"]
+            self.assertEqual([it[0] for it in rows(file)], who)
 
     def test_a_prompt_says_why_too(self) -> None:
         with mock.patch("rdbg.door.told", lambda *_: 12_345), served() as (port, _):

@@ -28,9 +28,9 @@ class Long(OnPage):
             self.assertEqual("The room has ended.", self.browser.text("#connection"))
             self.said("the room has ended: ")
             self.assertEqual("1", self.value("document.querySelector('#count').value"))
-            sends = "button, input, select"
-            self.assertGreater(len(self.enabled("body", sends)), 10)
-            self.assertEqual([], self.enabled("#top", sends))
+            used = "button, input, select"
+            self.assertGreater(len(self.enabled("#top nav", used)), 10)
+            self.assertEqual([], self.enabled("#top", f":is({used}):not(nav *)"))
             said = self.browser.texts("#talk li")
             for key in ("s", "k", "b", "r", "f", "l"):
                 self.browser.key(key)
@@ -57,15 +57,16 @@ class Long(OnPage):
             self.visit(room)
             self.click("#tick")
             self.at(1)
+            self.spares_errors = True  # (the browser tells each request that fails)
             room.end(signal.SIGKILL)
             self.browser.until("document.querySelector('#connection').textContent !== ''")
             text = "The room doesn't answer: trying again .."
             self.assertEqual(text, self.browser.text("#connection"))
             self.value("new Promise((done) => setTimeout(done, 2500))")
-            self.assertEqual([text], self.browser.texts("#talk .refused"))
+            (told,) = self.browser.texts("#talk .refused")
+            self.assertEqual(told, self.browser.text("#talk .refused time") + text)
             self.browser.key("ArrowLeft")
             self.assertIn("State at place 0:", self.browser.text("#state-title"))
-            self.spares_errors = True
 
     def test_the_last_of_many_moves_come_at_once(self) -> None:
         for path in (SIXTEEN, TURNS):
