@@ -1,10 +1,6 @@
-"""The page of a room in small windows and by keys, what was said before it came, files, breakpoints, and
-the file read anew."""
-import shutil
+"""The page of a room in small windows, and by keys that the page of a run hasn't."""
 import unittest
-from typing import List
 
-from tests.rooms import LOST, until
 from tests.web_rooms import OnPage, session, web_room
 
 # What matters while one debugs, and where it has to be: in the window, without scrolling.
@@ -98,71 +94,24 @@ class Keys(OnPage):
             self.browser.key("u")
             self.said("until wakes worker 1000 -> at ")
             self.browser.until("document.querySelector('#slider').value > 2")
+            met = int(self.value("document.querySelector('#slider').value"))
+            self.fill("#goal", "count jobs = 0")
+            self.value("document.activeElement.blur()")
+            self.browser.key("U")
+            self.at(met - 1)
 
-
-class Said(OnPage):
-    """The talk, and what is fetched as files."""
-
-    def test_who_comes_late_has_the_talk(self) -> None:
-        with web_room() as room, session(room, "ada") as ada, session(room, "bo") as bo:
-            heard: List[str] = []
-            bo.on_notice = heard.append
-            ada.tell("step 1")
-            ada.remark("# say that was the producer")
-            ada.remark("# to bo: a secret")
+    def test_the_wheel(self) -> None:
+        with web_room() as room, session(room, "ada") as ada:
             self.visit(room)
-            self.said("ada: step 1 -> ok at 1, producer 0 data 41")
-            self.said("ada says: that was the producer")
-            self.assertNotIn("secret", self.browser.text("#talk"))
-            self.assertRegex(self.browser.text("#talk time"), r"^\d\d:\d\d$")
-            self.browser.until("document.querySelector('#whom').options.length === 3")
-            self.value("document.querySelector('#whom').value = 'bo'")
-            self.fill("#words", "and now?")
-            self.browser.key("Enter")
-            self.said("web to bo: and now?")
-            bo.tell("show moves")
-            self.assertIn("# web to you: and now?", heard)
-            with self.browser.saving(self.folder):
-                self.click("#save")
-                self.click("#save-talk")
-                moves, talk = (self.folder / f"lost_item.{it}" for it in ("commands", "talk.txt"))
-                until(lambda: moves.exists() and talk.exists())
-            self.assertEqual("step 1\n", moves.read_text())
-            self.assertRegex(talk.read_text(), r"(?m)^\d{4}-\S+Z\tada says: that was the producer$")
-
-    def test_breakpoints_in_the_script(self) -> None:
-        with web_room() as room:
-            self.visit(room)
-            self.value("document.querySelector('#script-of').value = '0'")
-            self.value("document.querySelector('#script-of').dispatchEvent(new Event('change'))")
-            self.browser.settle()
-            watched = "[...document.querySelectorAll('#script .watched')].length"
-            self.click("#script tbody tr:nth-child(2)")
-            self.said("web: watch pc worker = 1 -> ok watch 0")
-            self.browser.until(f"{watched} === 1")
-            self.fill("#line", "continue")
-            self.browser.key("Enter")
-            self.said(" met: w0, pc worker = 1 (")
-            self.click("#script tbody tr.watched")
-            self.browser.until(f"{watched} === 0")
-
-    def test_the_file_read_anew(self) -> None:
-        path = self.folder / "app.json"
-        shutil.copy(LOST, path)
-        with web_room(str(path)) as room:
-            self.visit(room)
-            self.browser.key("1")
-            self.at(1)
-            self.click("#reload")
-            self.said("no: who has the wheel reads the file anew: `wheel take`")
+            for words in ("You have", "The wheel is free"):
+                self.browser.key("h")
+                self.browser.until(f"{WHEEL}.startsWith('{words}')")
+            ada.tell("wheel take")
+            self.browser.until(f"{WHEEL}.startsWith('ada has')")
             self.browser.key("h")
-            self.browser.until(f"{WHEEL}.startsWith('You have')")
-            path.write_text(path.read_text().replace('"poller"', '"polls"'))
-            self.click("#reload")
-            self.browser.until("document.querySelector('#tasks')?.textContent.includes('polls')")
-            self.at(1)
-            self.said("web has the file read anew: all 1 moves are the same on")
-            self.browser.until(f"{WHEEL}.startsWith('You have')")
+            self.said("web asks for the wheel")
+            self.browser.key("1")
+            self.said("step 1 -> no Held 1: ada has the wheel: `# wheel` asks for it")
 
 
 if __name__ == "__main__":
