@@ -143,7 +143,9 @@ class Lines(unittest.TestCase):
         self.assertTrue(beside[0].startswith("QueueSetMemberHandle_t ready = "))
         send = "xQueueSend(line[me], &byte, portMAX_DELAY);"
         self.assertEqual([send] * 2, [it.beside for it in reader])
-        text = in_task("    // rdbg(f): recv q 0\n    // rdbg(f): send q 0\n\n    /* x */\n    f(1);")
+        text = in_task(
+            "    // rdbg(f): recv q 0\n    // rdbg(f): send q 0\n\n    /* x */\n    f(1);"
+        )
         shown = source("a.c", text.encode()).application
         assert shown is not None
         self.assertEqual(["f(1);"] * 2, [it.beside for it in shown.tasks[0].code[:2]])

@@ -16,9 +16,7 @@ def with_comments(
     return dataclasses.replace(application, tasks=tasks)
 
 
-def put(
-    task: Task, comments: Mapping[int, str], below: Mapping[int, str]
-) -> Iterator[Instruction]:
+def put(task: Task, comments: Mapping[int, str], below: Mapping[int, str]) -> Iterator[Instruction]:
     """The instructions of a task with their comments."""
     last = task.place.line - 1
     for it in task.code:
