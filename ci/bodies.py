@@ -1,11 +1,11 @@
 """Makes wrong bodies of functions from the sources as they stand, by the rules of ci/rules.py, and
 reads the lists of those that are planted.
 
-A body's name is 'CRATE FUNCTION RULE PLACE WITH', as 'rd_ring ByteRing::set comparison 2 <=': at the
-second place of the function at which the rule fits, this stands instead. FUNCTION is the end of its
-path, as long as it takes for no other to have it, and in WITH `$` is what stands there. A list is a
-table by tabs, crates/NAME/planted/by_rule.tsv, a row a body, which also says how what stands there
-begins: where a place has come to have another number, the nearest where it stands is meant.
+A body's name is 'CRATE FUNCTION RULE PLACE WITH', as 'rd_ring ByteRing::set comparison 2 <=': at
+the second place of the function at which the rule fits, this stands instead. FUNCTION is the end of
+its path, as long as it takes for no other to have it, and in WITH `$` is what stands there. A list
+is a table by tabs, crates/NAME/planted/by_rule.tsv, a row a body, which also says how what stands
+there begins: where a place has come to have another number, the nearest where it stands is meant.
 """
 import csv
 import dataclasses
@@ -233,7 +233,7 @@ def untried(crate, done):
 # Lists.
 
 
-@functools.cache
+@functools.lru_cache(maxsize=None)
 def crate_of(name):
     """A crate of the repository, as it stands."""
     below = [TOP / "crates" / it for it in read_crates()[name]]
@@ -244,7 +244,7 @@ def list_of(name):
     return TOP / "crates" / name / "planted" / LIST
 
 
-@functools.cache
+@functools.lru_cache(maxsize=None)
 def rows_of(name):
     """The rows of a crate's list, by name."""
     file = list_of(name)

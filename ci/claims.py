@@ -1,18 +1,19 @@
 """What pages say that sources can be asked: constants with their values, chains of crates, how many
 files name a word, how many lines definitions have, links, and what is longer than it should be.
 
-Said as `81 bytes (`MAX_REPLY`)` or `MAX_CORES` is 16; as the longest chain 'from `a` over `b` and `c`
-to `d`'; as '`Peek`: 3 files of `rd_app`, 1 of `rd_calls`', which are all that name it in code,
-definitions or proofs, crates of tests aside; as a row of a crate, files of its specs/ and their
-lines; as a file of a crate, a comma and the functions that it has; as seven projections, of phases;
-and as a link of Markdown. Definitions are listed in the order in which they rest on one another,
-also at the head of a crate's lib.rt. What is too long is named by CONTRIBUTING.
+Said as `81 bytes (`MAX_REPLY`)` or `MAX_CORES` is 16; as the longest chain 'from `a` over `b` and
+`c` to `d`'; as '`Peek`: 3 files of `rd_app`, 1 of `rd_calls`', which are all that name it in code,
+definitions or proofs, crates of tests aside; as a row of changes and their tags; as a row of a
+crate, files of its specs/ and their lines; as a file of a crate, a comma and the functions that it
+has; as seven projections, of phases; and as a link of Markdown. Definitions are listed in the order
+in which they rest on one another, also at the head of a crate's lib.rt. What is too long is named
+by CONTRIBUTING.
 """
 import ast
 import operator
 import re
 
-from functions import blanked, functions_of, homes_in
+from functions import functions_of, homes_in
 
 CONSTANT = re.compile(r"\bconst ([A-Z][A-Z_]+): \w+ = ([^;]+);")
 VALUED = re.compile(
@@ -25,6 +26,9 @@ DEFINED = re.compile(r"\| `(rd_\w+)` \| ((?:`\w+`(?:, )?)+) \| (\d+) \|")
 STEP = re.compile(r"`(rd_\w+/src/\w+\.rt)`, (`\w+`(?:, `\w+`)*)")
 PROJECTIONS = re.compile(r"(\w+) projections")
 NUMBERS = {"five": 5, "six": 6, "seven": 7, "eight": 8, "nine": 9, "ten": 10}
+TAGGED = re.compile(r"\| ([A-Z]\w*\([^|]*?) \| (\d+(?:, \d+)*) \|")
+CHANGE = re.compile(r"\b([A-Z]\w*)\(")
+TAG = re.compile(r"/// `(\w+)`: .*\npub const \w+: u8 = (\d+);")
 USED = re.compile(r"^use Rattle\.(rd_\w+)\.specs\.(\w+)\.", re.MULTILINE)
 NAMED = re.compile(r"`(\w+)`")
 LINK = re.compile(r"\]\(([^)#\s]+)[^)]*\)")
@@ -157,6 +161,33 @@ class Projections:
                 yield found.start(), f"phases have {self.count} projections"
 
 
+class Tags:
+    """Primitive changes with the number of each, which stands beside its name in rd_bytes."""
+
+    def __init__(self, top):
+        text = (top / "crates/rd_bytes/src/tag.rt").read_text()
+        self.names = {int(number): name for name, number in TAG.findall(text)}
+
+    def wrong_in(self, text):
+        for found in TAGGED.finditer(text):
+            names, numbers = CHANGE.findall(found[1]), list(map(int, found[2].split(", ")))
+            # (one change may have a number for each of its kinds)
+            names += names[-1:] * (len(numbers) - len(names))
+            for name, number in zip(names, numbers):
+                if self.names.get(number) != name:
+                    yield found.start(), f"{number} isn't the tag of {name}"
+
+
+class AllTags(Tags):
+    """That a page which has rows of changes and their tags has a row for each tag."""
+
+    def wrong_in(self, text):
+        rows = list(TAGGED.finditer(text))
+        said = {int(number) for found in rows for number in found[2].split(", ")}
+        if rows and said != set(self.names):
+            yield rows[0].start(), f"tags differ from rd_bytes: {sorted(said ^ set(self.names))}"
+
+
 class Definitions:
     """Files of definitions: that each stands behind those that it uses, and their lines."""
 
@@ -193,8 +224,8 @@ def first_lines(file):
 
 
 def wrong_at_heads(top):
-    """Pages and definitions that a crate's first lines name and that aren't there, or stand before what
-    they use."""
+    """Pages and definitions that a crate's first lines name and that aren't there, or stand before
+    what they use."""
     for file in sorted(top.glob("crates/*/src/lib.rt")):
         crate, said = file.parts[-3], first_lines(file)
         for page in re.findall(r"docs/[\w/]+\.md", said):
@@ -216,20 +247,19 @@ def long_functions(top):
     for folder in sorted(top.glob("crates/*")):
         for file in sorted(folder.glob("src/**/*.rt")):
             text = file.read_text()
-            lines = blanked(text).splitlines()
             inside = str(file.relative_to(folder))
             for it in functions_of(folder.name, inside, text, homes_in(folder.name, folder)):
-                begins = next(
-                    (at for at in range(it.first, it.last) if lines[at].strip() == "{"), it.first
-                )
-                if it.last - begins - 1 > MOST_LINES:
+                if text.count("\n", it.opens, it.closes) - 1 > MOST_LINES:
                     yield it.path.rpartition("::")[2], f"{folder.name}/{inside}"
 
 
 def long_files(top):
     """The files with more lines."""
     globs = ("crates/*/s*/**/*", "crates/*/proofs/**/*", "tools/**/*.py", "ci/*", "bench/*", "rdbg")
-    for file in sorted({file for it in globs for file in top.glob(it) if file.is_file()}):
+    found = {
+        file for it in globs for file in top.glob(it) if file.is_file() and file.suffix != ".tsv"
+    }
+    for file in sorted(found):
         if len(file.read_bytes().splitlines()) > MOST_LINES_OF_FILE:
             yield str(file.relative_to(top))
 
@@ -270,6 +300,8 @@ WRONG = {
     Files: "`SetEntry`: 1 file of `rd_state`",
     Roads: "`rd_wait/src/prio_list.rt`, `index_of`",
     Projections: "phases are read through six projections",
+    Tags: "| SetTick(tick), SetTurn(turn) | 1, 3 | the same |",
+    AllTags: "| SetTick(tick) | 1 | the same |",
     Definitions: "| `rd_wait` | `TaskList` | 1 |",
 }
 

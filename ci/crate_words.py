@@ -1,5 +1,5 @@
-"""What a crate's sources have, for the rules by which wrong bodies are made: its functions with their
-bodies, the words of each kind, and the values that stand in them."""
+"""What a crate's sources have, for the rules by which wrong bodies are made: its functions with
+their bodies, the words of each kind, and the values that stand in them."""
 import functools
 import re
 
@@ -56,7 +56,7 @@ def variants_of(text):
 DECLARED = re.compile(r"\bfn\s+(\w+)\s*(?:<[^(]*>)?\(\s*(&(?:'\w+ )?(?:mut )?self|self)?")
 
 
-@functools.cache
+@functools.lru_cache(maxsize=None)
 def declared_in(folder):
     """The words that the sources of a crate declare, by kind."""
     found = {}

@@ -12,6 +12,9 @@ from spans import tokens_of, words_of
 
 # The suffix of what stands in a list and not as a file.
 OF_A_ROW = ".row"
+# The suffix of a file of several edits, which are named as if they stood in a folder of its name.
+OF_SEVERAL = ".edits"
+BEGINS = re.compile(r"^edit: (\w+)\n", re.MULTILINE)
 
 
 @dataclasses.dataclass(frozen=True)
@@ -56,6 +59,31 @@ class Unfit(Exception):
     """Why an edit doesn't apply."""
 
 
+def parts_of(file):
+    """The lines of each edit of a file of several, by name. Those before the first are of all."""
+    of_all, *parts = BEGINS.split(file.read_text())
+    return {name: of_all + lines for name, lines in zip(parts[::2], parts[1::2])}
+
+
+def text_of(path):
+    """The lines of an edit."""
+    is_part = path.parent.suffix == OF_SEVERAL
+    return parts_of(path.parent)[path.stem] if is_part else path.read_text()
+
+
+def take_out(path):
+    """Takes an edit out of the files."""
+    if path.parent.suffix != OF_SEVERAL:
+        path.unlink()
+        return
+    of_all, *parts = BEGINS.split(path.parent.read_text())
+    kept = [it for it in zip(parts[::2], parts[1::2]) if it[0] != path.stem]
+    if kept:
+        path.parent.write_text(of_all + "".join(f"edit: {name}\n{lines}" for name, lines in kept))
+    else:
+        path.parent.unlink()
+
+
 def span_of(name, crate, file, text):
     """The places in the text between which the function of that name stands, or all of it."""
     if not name:
@@ -91,7 +119,7 @@ def replaced(text, span, old, new):
 def edited_files(edit, folder):
     """The texts that the edit makes, by file. Later pairs apply to what the earlier ones made."""
     file, function, old, texts = None, None, None, {}
-    for line in edit.path.read_text().splitlines():
+    for line in text_of(edit.path).splitlines():
         key, _, text = line.partition(":")
         text = text[1:] if text.startswith(" ") else text
         if key == "file":
@@ -240,8 +268,17 @@ def can_stand_twice(folder, edit):
     return not cycle.exists() and not closures.exists()
 
 
+def files_of(planted):
+    """The edits of a folder, as files, whether a file has one or several."""
+    several = planted.glob(f"*{OF_SEVERAL}")
+    return [
+        *planted.glob("*.edit"),
+        *(it / f"{name}.edit" for it in several for name in parts_of(it)),
+    ]
+
+
 def edits_of(crate):
-    """The crate's planted bugs, by name: files, and rows of its list as if they were files."""
+    """The crate's planted bugs, by name: edits, and rows of its list, all as if they were files."""
     planted = TOP / "crates" / crate / "planted"
     rows = [planted / f"{name}{OF_A_ROW}" for name in rows_of(crate)]
-    return tuple(sorted([*planted.glob("*.edit"), *rows]))
+    return tuple(sorted([*files_of(planted), *rows]))

@@ -50,7 +50,7 @@ def module_of(crate, file):
     return "::".join([crate, *(part for part in parts if part not in ("lib", "main", "mod"))])
 
 
-@functools.cache
+@functools.lru_cache(maxsize=None)
 def homes_in(crate, folder):
     """The module of each type of the crate: a part of its methods' paths, wherever they stand. As
     pairs, for functions_of."""
@@ -79,7 +79,7 @@ def path_of(module, blocks, name, homes):
     return "::".join([home, *(block.name for block in around), name])
 
 
-@functools.cache
+@functools.lru_cache(maxsize=None)
 def functions_of(crate, file, text, homes=()):
     """The functions of a source, outer ones before those that stand in them."""
     text, homes = blanked(text), dict(homes)

@@ -1,10 +1,10 @@
 """What is installed of rdbg, file by file, below a folder: by `./rdbg install`, and in what
 ci/release makes.
 
-bin/rdbg is a small script (tools/installed); lib/rdbg has the programs, the companions, and the file
-`release`, whose head says of which commit all of it is, and whose lines are the sums of the other
-files, as `sha256sum -c` reads them. share has the pages, examples, editors' files, the manual's page,
-completions and licences.
+bin/rdbg is a small script (tools/installed); lib/rdbg has the programs, the companions, and the
+file `release`, whose head says of which commit all of it is, and whose lines are the sums of the
+other files, as `sha256sum -c` reads them. share has the pages, examples, editors' files, the
+manual's page, completions and licences.
 """
 import dataclasses
 import hashlib
@@ -63,12 +63,15 @@ def version_of(top: pathlib.Path) -> str:
 
 
 def facts_of(top: pathlib.Path, commit: str) -> Facts:
-    """What is said of a commit, by the kit that there is."""
+    """What is said of a commit, by the kit that there is. One that is there and doesn't say its name
+    ends the program: what is packed then would say that there was none."""
     try:
         asked = subprocess.run(["rt", "version"], stdout=subprocess.PIPE, stderr=subprocess.DEVNULL)
         words = asked.stdout.decode().split()
     except OSError:
-        words = []
+        asked, words = None, []
+    if asked is not None and asked.returncode:
+        sys.exit("`rt version` failed, so the kit can't be named")
     is_known = len(words) == 3 and words[1] == "logic"
     kit, logic = (words[0], words[2]) if is_known else ("no-kit", "unknown")
     return Facts(version_of(top), commit, kit, logic)

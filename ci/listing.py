@@ -1,10 +1,10 @@
-"""Writes the lists of planted bugs that rules make: which files are rows, what was found of each, and
-which bodies no list has."""
+"""Writes the lists of planted bugs that rules make: which files are rows, what was found of each,
+and which bodies no list has."""
 import dataclasses
 import itertools
 
 from bodies import crate_of, list_of, made, named, rows_of, untried, written_list
-from edits import OF_A_ROW, edits_of, read_edit, read_file
+from edits import OF_A_ROW, edits_of, files_of, read_edit, read_file, take_out, text_of
 from repository import TOP
 from spans import words_of
 from verdicts import REFUSED
@@ -39,7 +39,7 @@ def words_edited(edit):
 
 def row_of(edit):
     """The row that makes the body that the edit makes, word for word, or none."""
-    says = {line.partition(":")[0] for line in edit.path.read_text().splitlines()}
+    says = {line.partition(":")[0] for line in text_of(edit.path).splitlines()}
     words = words_edited(edit) if says <= SAID_BY_ROWS and not edit.verdict else ()
     crate = crate_of(edit.crate)
     found = words and named(crate, edit.site[1].path, list(words))
@@ -53,14 +53,14 @@ def row_of(edit):
 
 
 def list_edits(crate):
-    """Has a row of the crate's list say each of its edits that a rule makes, and returns how many."""
+    """Has a row of the crate's list say each of its edits that a rule makes. Returns how many."""
     folder, rows = TOP / "crates" / crate, [*rows_of(crate).values()]
-    for path in sorted((folder / "planted").glob("*.edit")):
+    for path in sorted(files_of(folder / "planted")):
         row = row_of(read_file(crate, path, folder))
         if row:
             rows.append(row)
             list_of(crate).write_text(written_list(rows))
-            path.unlink()
+            take_out(path)
     rows_of.cache_clear()
     return len(rows)
 
@@ -77,7 +77,7 @@ def note(edits):
 
 
 def more_of(crate, share, most):
-    """So many bodies that are planted nowhere, of the share of them, as if they were in the list."""
+    """So many bodies that are planted nowhere, of the share of them, as if the list had them."""
     folder = TOP / "crates" / crate
     planted = [read_edit(crate, path, folder) for path in edits_of(crate)]
     done = {(it.site[1].path, words_edited(it)) for it in planted if it.site and not it.verdict}

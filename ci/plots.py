@@ -35,7 +35,8 @@ class Plot:
     def rules(self, step):
         for figure in range(0, self.most + 1, step):
             at = self.y(figure)
-            yield f'<line x1="{LEFT}" y1="{at:.1f}" x2="{WIDTH - RIGHT}" y2="{at:.1f}" stroke="#ddd"/>'
+            begin, end = f'x1="{LEFT}" y1="{at:.1f}"', f'x2="{WIDTH - RIGHT}" y2="{at:.1f}"'
+            yield f'<line {begin} {end} stroke="#ddd"/>'
             yield text(LEFT - 8, at + 4, f"{figure:,}", "#555", 'text-anchor="end"')
 
     def names_of_commits(self):
@@ -48,7 +49,8 @@ class Plot:
         points = " ".join(f"{self.x(at):.1f},{self.y(figure):.1f}" for at, figure in line.points)
         yield f'<polyline points="{points}" fill="none" stroke="{color}" stroke-width="2"/>'
         for at, figure in line.points:
-            yield f'<circle cx="{self.x(at):.1f}" cy="{self.y(figure):.1f}" r="2.5" fill="{color}"/>'
+            where = f'cx="{self.x(at):.1f}" cy="{self.y(figure):.1f}"'
+            yield f'<circle {where} r="2.5" fill="{color}"/>'
 
     def names(self, lines):
         """Beside the end of each line, one below the other."""

@@ -1,15 +1,16 @@
-"""The promises that a table says, held against the sources: each call that carries one is there, and has
-the clauses that are named, and no clause of a call is said twice.
+"""The promises that a table says, held against the sources: each call that carries one is there,
+and has the clauses that are named, and no clause of a call is said twice.
 
-A row's last cell has calls, each with its clauses behind a colon: '`play`: `step`, `valid`; `State::copy`'.
-What stands in parentheses is definitions, and no clause. What a page quotes in blocks stands so in the
-sources, however it is broken into lines there.
+A row's last cell has calls, each with its clauses behind a colon: '`play`: `step`, `valid`;
+`State::copy`'. What stands in parentheses is definitions, and no clause. What a page quotes in
+blocks stands so in the sources, however it is broken into lines there.
 """
 import re
 
 FUNCTION = re.compile(r"^( *)(?:pub(?:\(crate\))? )?(?:const )?fn (\w+)", re.MULTILINE)
 OWNER = re.compile(
-    r"^(?:pub )?(?:impl\b(?:<[^{]*?>(?=\s+\w))?\s+(?:[\w:]+(?:<[^{]*?>)?\s+for\s+)?(\w+)|trait (\w+))",
+    r"^(?:pub )?"
+    r"(?:impl\b(?:<[^{]*?>(?=\s+\w))?\s+(?:[\w:]+(?:<[^{]*?>)?\s+for\s+)?(\w+)|trait (\w+))",
     re.MULTILINE,
 )
 HEAD = "| Promise | Carried by |"

@@ -117,7 +117,8 @@ def processor_seconds(process):
             continue
         own = int(file.parent.name)
         below.setdefault(int(fields[1]), []).append(own)
-        # Ticks of the process itself and of those below it that have ended, for the user and the kernel.
+        # Ticks of the process itself and of those below it that have ended, for the user and the
+        # kernel.
         spent[own] = sum(map(int, fields[11:15]))
     around = [process]
     for each in around:

@@ -1,6 +1,6 @@
-"""Tries the rules by which wrong bodies are made on a small source: from each name comes the body that
-it must be, and from that body the name; a place that has another number is found, and a name that
-fits nowhere is refused."""
+"""Tries the rules by which wrong bodies are made on a small source: from each name comes the body
+that it must be, and from that body the name; a place that has another number is found, and a name
+that fits nowhere is refused."""
 import dataclasses
 
 from bodies import Row, label_made, made, named, shown, untried

@@ -51,7 +51,7 @@ def parts_of(folder, edits, count):
     return parts
 
 
-@functools.cache
+@functools.lru_cache(maxsize=None)
 def turns(count):
     """For each crate which share has each of its parts, such that shares cost much the same: the
     crate with the most edits comes first, and its longest part goes to the share with the least."""

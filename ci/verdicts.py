@@ -116,7 +116,7 @@ def verdict_of(said, edit, twin):
     return others[0] if others else LET_THROUGH
 
 
-@functools.cache
+@functools.lru_cache(maxsize=None)
 def known_through():
     """The bugs that are known to get through, by name, with the tests that fail with each."""
     _, heading, text = (TOP / PAGE).read_text().partition(f"\n{HEADING}\n")

@@ -1,6 +1,6 @@
 """An application as data: what an accepted file says, each thing with its place in the text."""
 import dataclasses
-from typing import Iterator, List, Optional, Sequence, Tuple, Union
+from typing import Callable, Iterator, List, Optional, Sequence, Tuple, TypeVar, Union
 
 from rdbg import kinds
 from rdbg.tree import Node, Number, Object, Part, Place, objects
@@ -10,8 +10,8 @@ from rdbg.wording import counted
 @dataclasses.dataclass(frozen=True)
 class Instruction:
     """An instruction: `text` is what rdbg reads, `written` what stands in the text; `part` is given
-    where that is a line of several instructions, or one that says it in another way. `beside` is the
-    comment of its line, and `above` those of the lines above it."""
+    where that is a line of several instructions, or one that says it in another way. `beside` is
+    the comment of its line, and `above` those of the lines above it."""
 
     text: str
     written: str
@@ -125,6 +125,7 @@ class Interrupt:
 
 # Whatever an application has that has a name.
 Named = Union[Task, Queue, QueueSet, Stream, Messages, Group]
+Made = TypeVar("Made")
 
 
 @dataclasses.dataclass(frozen=True)
@@ -214,6 +215,16 @@ def task(it: Object) -> Task:
     return Task(text(it, "name"), number(it, "priority"), code, place(it))
 
 
+def things(
+    root: Object, kind: kinds.Kind, make: Callable[..., Made], *numbers: str
+) -> Tuple[Made, ...]:
+    """The things of a kind: each is made of its name, of these of its numbers, and of its place."""
+    return tuple(
+        make(text(it, "name"), *(number(it, key) for key in numbers), place(it))
+        for it in objects(root.get(kind.key))
+    )
+
+
 def queue_set(it: Object) -> QueueSet:
     """A queue set of a file without faults."""
     members = tuple(str(node.value) for node in listed(it, "members"))
@@ -222,26 +233,15 @@ def queue_set(it: Object) -> QueueSet:
 
 def application(root: Object) -> Application:
     """The application of a file without faults."""
-    queues = objects(root.get("queues"))
-    streams = objects(root.get("streams"))
-    messages = objects(root.get("messages"))
     return Application(
         profile=number(root, "profile"),
         cores=number(root, "cores"),
         notes=number(root, "notes", 1),
         tick=number(root, "tick"),
-        queues=tuple(
-            Queue(text(it, "name"), number(it, "length"), number(it, "item"), place(it))
-            for it in queues
-        ),
+        queues=things(root, kinds.QUEUE, Queue, "length", "item"),
         sets=tuple(queue_set(it) for it in objects(root.get("sets"))),
-        streams=tuple(
-            Stream(text(it, "name"), number(it, "size"), number(it, "trigger"), place(it))
-            for it in streams
-        ),
-        messages=tuple(
-            Messages(text(it, "name"), number(it, "size"), place(it)) for it in messages
-        ),
-        groups=tuple(Group(text(it, "name"), place(it)) for it in objects(root.get("groups"))),
+        streams=things(root, kinds.STREAM, Stream, "size", "trigger"),
+        messages=things(root, kinds.MESSAGE, Messages, "size"),
+        groups=things(root, kinds.GROUP, Group),
         tasks=tuple(task(it) for it in objects(root.get("tasks"))),
     )

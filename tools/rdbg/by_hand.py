@@ -1,5 +1,5 @@
-"""What is done by hand between the moves of tasks, edits and interrupts: found from the looks before
-and after it, or held against them."""
+"""What is done by hand between the moves of tasks, edits and interrupts: found from the looks
+before and after it, or held against them."""
 import dataclasses
 from typing import Callable, Dict, List, Optional
 
@@ -26,6 +26,12 @@ class ByHand:
     answer: Optional[int] = None
 
 
+def changed_objects(before: Look, after: Look) -> List[Key]:
+    """The objects that hold something else in the second look."""
+    there = ((key, before.objects.get(key, it), it) for key, it in after.objects.items())
+    return [key for key, was, now in there if content_of(was) != content_of(now)]
+
+
 def edit_of(before: Look, after: Look) -> Optional[str]:
     """The edit that makes the second look of the first, or none where no single one does. Where
     nothing differs there are many; it is one of them."""
@@ -45,9 +51,8 @@ def edit_of(before: Look, after: Look) -> Optional[str]:
         found += [f"poke reg {name} {at} {value}" for at, value in changed]
         entries = enumerate(zip(was.notes, now.notes))
         found += [f"poke note {name} {at} {new.value}" for at, (old, new) in entries if old != new]
-    for key, it in after.objects.items():
-        if content_of(it) != content_of(before.objects.get(key, it)):
-            found.append(edit_of_object(before.objects[key], it))
+    for key in changed_objects(before, after):
+        found.append(edit_of_object(before.objects[key], after.objects[key]))
     if not found and after.tasks:
         name, task = next(iter(after.tasks.items()))
         found = [f"poke reg {name} 0 {task.registers[0]}"]
@@ -84,11 +89,7 @@ def interrupt_of(before: Look, after: Look) -> Optional[str]:
                 told.append(f"isr notify {name} {index} {new.value} set")
                 if new.state != "received":
                     return None
-    changed = [
-        key
-        for key, it in after.objects.items()
-        if content_of(it) != content_of(before.objects.get(key, it))
-    ]
+    changed = changed_objects(before, after)
     if not changed:
         return told[0] if len(told) == 1 else None
     return None if told else send_of(before, after, changed)

@@ -2,8 +2,7 @@
 
 In a checkout that is below `out/`, as all that is built. Where they are installed it is beside the
 sources, as Python has it by itself. In a folder that can't be written, or is somebody else's, none
-is written, and all the same they start.
-"""
+is written, and all the same they start."""
 import importlib.machinery
 import os
 import sys
@@ -49,8 +48,7 @@ def finder(path: str) -> importlib.machinery.FileFinder:
 
 def keep() -> None:
     """Keeps byte code from now on."""
-    is_asked = not sys.flags.dont_write_bytecode
-    sys.dont_write_bytecode = not (is_asked and is_own())
+    sys.dont_write_bytecode = bool(sys.flags.dont_write_bytecode) or not is_own()
     if os.path.isfile(os.path.join(TOP, "crates.txt")):
         sys.path_hooks.insert(0, finder)
         for path in list(filter(is_within, sys.path_importer_cache)):

@@ -1,8 +1,8 @@
 """Processes that a companion starts. Each ends with it, also where it is killed.
 
 The system sends a process a signal once the thread that started it has gone. So all of them are
-started by threads that are there as long as their process is: its main thread, or one for this alone.
-"""
+started by threads that are there as long as their process is: its main thread, or one for this
+alone."""
 import functools
 import os
 import queue

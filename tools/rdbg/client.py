@@ -1,7 +1,6 @@
 """A session of rdbg: lines go out, replies come in, one for one and in order.
 
-At a room's port lines that begin with `#` come between them: notices, which are no replies.
-"""
+At a room's port lines that begin with `#` come between them: notices, which are no replies."""
 import collections
 import contextlib
 import functools
@@ -12,11 +11,24 @@ import signal
 import socket
 import subprocess
 import tempfile
-from typing import IO, Callable, Deque, Iterable, Iterator, List, Optional, Sequence, Tuple, Union
+import threading
+from typing import (
+    IO,
+    Callable,
+    ContextManager,
+    Deque,
+    Iterable,
+    Iterator,
+    List,
+    Optional,
+    Sequence,
+    Tuple,
+    Union,
+)
 
 from rdbg import children, replies
 from rdbg.commands import MOST_BYTES
-from rdbg.ending import STARTED
+from rdbg.ending import ENDING, STARTED
 from rdbg.failure import Failure, trying
 from rdbg.shown import shown
 
@@ -33,35 +45,34 @@ YOU = re.compile(r"# you are ([a-z][a-z0-9_]{0,15}), session ([0-9]{1,10})\b")
 READ = 65_536
 
 
-def cut(line: str) -> bytes:
-    """A line as it is sent; what doesn't fit into one is left out."""
-    content = line.replace("\n", " ").encode("utf-8", "replace")
-    if len(content) > MOST_BYTES:
-        content = content[: MOST_BYTES - 2].decode("utf-8", "ignore").encode() + b".."
-    return content + b"\n"
-
-
 @functools.lru_cache(maxsize=4_096)
 def text_of(line: bytes) -> str:
     """A line that has come, without its end, as a terminal can show it, whoever wrote it."""
     return shown(line[:-1].decode("utf-8", "replace"))
 
 
-@functools.lru_cache(maxsize=None)
-def built_by(wrapper: str, words: str, name: str = "rdbg") -> str:
-    """The program of a name, `rdbg` or `rdreach`, that `./rdbg` starts after these words of its own,
-    which it builds where it has to. Raises `Failure` where it can't."""
-    asked = [wrapper, *words.split(), "--build", *([] if name == "rdbg" else [name])]
+def said_by(words: Sequence[str], errors: Optional[int]) -> Tuple[bytes, int]:
+    """What a program says on standard output, and its status. Raises `OSError` where it can't be
+    started."""
     pipe, none = subprocess.PIPE, subprocess.DEVNULL
-    with trying(f"start {wrapper}"):
-        process = children.start(asked, none, pipe, None, signal.SIGTERM, is_apart=False)
+    process = children.start(words, none, pipe, errors, signal.SIGTERM, is_apart=False)
     with process:
-        path, _ = process.communicate()
+        said, _ = process.communicate()
     STARTED.pop(process)
+    return said.strip(), process.returncode
+
+
+@functools.lru_cache(maxsize=None)
+def built_by(wrapper: str, words: str, name: str) -> str:
+    """The program of a name, `rdbg` or `rdreach`, that `./rdbg` starts after these words of its
+    own, which it builds where it has to. Raises `Failure` where it can't."""
+    asked = [wrapper, *words.split(), "--build", *([] if name == "rdbg" else [name])]
+    with trying(f"start {wrapper}"):
+        path, status = said_by(asked, None)
     os.environ["RDBG_SAID"] = "1"  # (that it isn't proved, which is said once)
-    if process.returncode or not path.strip():
+    if status or not path:
         raise Failure("there is no program to start")
-    return os.fsdecode(path.strip())
+    return os.fsdecode(path)
 
 
 def program() -> str:
@@ -80,6 +91,13 @@ def built_by_wrapper(name: str) -> str:
     """The program of a name that `./rdbg` starts, as it was called itself."""
     file, words = wrapper()
     return built_by(file, " ".join(words), name)
+
+
+def uninterrupted() -> ContextManager[None]:
+    """As long as something is done that no signal may end halfway. (In another thread than the main
+    one none ever does.)"""
+    is_main = threading.current_thread() is threading.main_thread()
+    return ENDING.held() if is_main else contextlib.nullcontext()
 
 
 class Incoming:
@@ -156,8 +174,8 @@ class Session:
     """One session, by the pipes of a program of its own (`start`) or a port (`attach`).
 
     `on_line`, where it is set, is told each line with its reply, `on_ask` the lines that are about
-    to be sent; `on_notice` each notice, wherever a reply is read, and at once those that came before
-    it was set. At a room `name` and `number` are those by which the room knows the session.
+    to be sent; `on_notice` each notice, wherever a reply is read, and at once those that came
+    before it was set. At a room `name` and `number` are those by which the room knows the session.
     """
 
     def __init__(self, lines: IO[bytes], answers: Union[IO[bytes], PortLines], name: str) -> None:
@@ -188,8 +206,7 @@ class Session:
 
     @classmethod
     def start(cls, words: Sequence[str]) -> "Session":
-        """A program of its own. Ctrl-C at the terminal doesn't reach it. Raises `Failure` where it
-        can't be started."""
+        """A program of its own, which Ctrl-C doesn't reach. Raises `Failure` where none starts."""
         pipe = subprocess.PIPE
         with trying(f"start {words[0]}"), contextlib.ExitStack() as ends:
             errors = ends.enter_context(tempfile.TemporaryFile())
@@ -220,8 +237,8 @@ class Session:
     @classmethod
     def over(cls, connection: socket.socket, port: int) -> "Session":
         """One more session at the server of a port, over a connection to it."""
-        lines = connection.makefile("wb")
-        return cls(lines, PortLines(connection), f"the server at port {port}")
+        answers = PortLines(connection)
+        return cls(connection.makefile("wb"), answers, f"the server at port {port}")
 
     def _introduce(self, name: str) -> None:
         """Says to a room who this is, behind the room's token where the environment has it."""
@@ -279,12 +296,12 @@ class Session:
         self._catch_up()
         if self.on_ask is not None:
             self.on_ask(batch)
-        try:
-            self._lines.write("".join(f"{line}\n" for line in batch).encode())
+        content = "".join(f"{line}\n" for line in batch).encode()
+        # (what was sent is owed, whenever a signal comes; where it has ended, it may have said why)
+        with uninterrupted(), contextlib.suppress(OSError):
+            self._owed += len(batch)
+            self._lines.write(content)
             self._lines.flush()
-        except OSError:
-            pass  # (what it said before it ended is still to be read)
-        self._owed += len(batch)
         for line in batch:
             reply = self._reply()
             if self.on_line is not None:
@@ -349,7 +366,10 @@ class Session:
         """Says a line that begins with `#`, and isn't answered, to a room; else it says nothing."""
         if self.name is not None:
             with contextlib.suppress(OSError):
-                self._lines.write(cut(line))
+                content = line.replace("\n", " ").encode("utf-8", "replace")
+                if len(content) > MOST_BYTES:
+                    content = content[: MOST_BYTES - 2].decode("utf-8", "ignore").encode() + b".."
+                self._lines.write(content + b"\n")
                 self._lines.flush()
 
     @contextlib.contextmanager
@@ -425,3 +445,33 @@ class Session:
             self._errors.close()
             self._errors = None
         return status
+
+
+UNKNOWN = "rdbg, whose commit isn't known"
+# What is said of a program that the environment names, whichever the wrapper would have started.
+NAMED = "its program isn't known to be proved (RDBG_PROGRAM names it)"
+# What is said of a program that listens at a port.
+AT_A_PORT = "the program at the port isn't known to be proved"
+
+
+@functools.lru_cache(maxsize=None)
+def of_wrapper() -> str:
+    """What `./rdbg --version` says; empty where it says nothing."""
+    file, words = wrapper()
+    try:
+        said, _ = said_by([file, *words, "--version"], subprocess.DEVNULL)
+    except OSError:
+        return ""
+    return said.decode("utf-8", "replace")
+
+
+def version(port: bool = False) -> str:
+    """What rdbg is, and whether the program that was asked is proved."""
+    first, *programs = of_wrapper().splitlines() or [UNKNOWN]
+    # (one that is installed says each program's proof in a line of its own)
+    built = first if programs else first.rpartition("; ")[0] or first
+    if port:
+        return f"{built}; {AT_A_PORT}"
+    if os.environ.get("RDBG_PROGRAM"):
+        return f"{built}; {NAMED}"
+    return "; ".join([first, *programs])

@@ -1,9 +1,8 @@
 """What is wrong with a command line that the program has refused, in a sentence."""
 from typing import Dict, List, Optional, Sequence, Tuple
 
-from rdbg.wording import shown
 from rdbg.digits import natural
-from rdbg.near import nearest
+from rdbg.wording import nearest, shown
 
 MILLION = 1_000_000
 # Of each option: what stands behind it, and between which numbers it must be, if it is one.
@@ -27,18 +26,13 @@ def unknown(word: str, words: Sequence[str]) -> str:
     return f"'{word}' is no word of rdbg; " + (f"{near}?" if near else "see rdbg --help")
 
 
-def is_within(text: str, limits: Tuple[int, int]) -> bool:
-    """Whether a text is a number within limits, as the program reads one."""
-    digits = text[1:] if text[:1] == "+" else text
-    return natural(digits, limits[1], limits[0]) is not None
-
-
 def wrong_value(option: str, value: Optional[str]) -> Optional[str]:
     """What is wrong with the value of an option; none where that is missing counts as one."""
     name, limits = OPTIONS[option]
     if value is None:
         return f"{option} lacks its {name}"
-    if limits is not None and not is_within(value, limits):
+    # (the program takes a plus sign before a number)
+    if limits is not None and natural(value[value.startswith("+") :], limits[1], limits[0]) is None:
         return f"{option} takes {limits[0]} to {limits[1]}, and not '{shown(value)}'"
     return None
 
@@ -65,8 +59,7 @@ def why(words: Sequence[str]) -> Optional[str]:
         if option in seen:
             return f"{option} stands twice"
         seen.append(option)
-        given = value if has_value else (rest.pop(0) if rest else None)
-        found = wrong_value(option, given)
+        found = wrong_value(option, value if has_value else rest.pop(0) if rest else None)
         if found is not None:
             return found
     lacking = [option for option in NEEDED[command] if option not in seen]

@@ -1,8 +1,7 @@
 """The lines of rdbg's language: a table of commands, one of conditions, and a reader over them.
 
 A form is written as in docs/COMMANDS.md: words in small letters stand as they are, the others are
-the symbols of what can stand there.
-"""
+the symbols of what can stand there."""
 import dataclasses
 import re
 from typing import Callable, Dict, FrozenSet, Iterator, List, Optional, Sequence, Tuple, Type
@@ -23,6 +22,12 @@ CONDITION = "COND"
 # who has the wheel, and the watches of the session that asks.
 TARGET, WHEEL, WATCHES = "target", "wheel", "watches"
 ALL: FrozenSet[str] = frozenset((TARGET, WHEEL, WATCHES))
+# What is answered to a line that changes each.
+ANSWERS: Dict[str, Type[object]] = {
+    TARGET: replies.Moved,
+    WHEEL: replies.WheelDone,
+    WATCHES: replies.WatchDone,
+}
 
 
 def is_number(word: str, most: int = MOST_NUMBER) -> bool:
@@ -117,12 +122,12 @@ class Form:
 
 def move(text: str, does: str) -> Form:
     """A form of lines that make moves, or take them back."""
-    return Form(text, does, replies.Moved, True, frozenset((TARGET,)))
+    return dataclasses.replace(change(TARGET, text, does), moves=True)
 
 
-def change(text: str, does: str, answers: Type[object], what: str) -> Form:
+def change(what: str, text: str, does: str) -> Form:
     """A form of lines that change something, and make no move."""
-    return Form(text, does, answers, False, frozenset((what,)))
+    return Form(text, does, ANSWERS[what], False, frozenset((what,)))
 
 
 def look(text: str, does: str, answers: Type[object], *hangs_on: str) -> Form:
@@ -169,24 +174,12 @@ FORMS: Tuple[Form, ...] = (
     look("show task K", "its core, pc, phase, registers, data and notes", replies.Task),
     look("show cores", "who is on which core, who is ready, tick and turn", replies.Cores),
     look("show moves", "how many moves are done, taken back, and kept", replies.Moves),
-    change(
-        f"{record.TRIM} N",
-        "keeps the records of the last N moves, and no others",
-        replies.Moved,
-        TARGET,
-    ),
-    change(
-        "wheel take", "takes the wheel: no other session moves the target", replies.WheelDone, WHEEL
-    ),
-    change("wheel give", "gives the wheel back", replies.WheelDone, WHEEL),
+    change(TARGET, f"{record.TRIM} N", "keeps the records of the last N moves, and no others"),
+    change(WHEEL, "wheel take", "takes the wheel: no other session moves the target"),
+    change(WHEEL, "wheel give", "gives the wheel back"),
     look("show wheel", "who has the wheel", replies.WheelHolder, WHEEL),
-    change(
-        "watch COND",
-        "keeps COND as a watch, which w0, w1, .. stand for",
-        replies.WatchDone,
-        WATCHES,
-    ),
-    change("unwatch N", "drops the watch N", replies.WatchDone, WATCHES),
+    change(WATCHES, "watch COND", "keeps COND as a watch, which w0, w1, .. stand for"),
+    change(WATCHES, "unwatch N", "drops the watch N"),
     look("show watches", "the watches, and which of them hold", replies.Watches, TARGET, WATCHES),
 )
 WORDS: FrozenSet[str] = frozenset(form.word for form in FORMS)

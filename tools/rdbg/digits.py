@@ -1,7 +1,6 @@
 """What a number is: digits of ASCII, and not too many of them.
 
-`str.isdigit` is true of others, as of `\u00b2`, and `int` refuses a few thousand digits.
-"""
+`str.isdigit` is true of others, as of `\u00b2`, and `int` refuses a few thousand digits."""
 from typing import Optional
 
 # A number of a line has no more of them (docs/FORMATS.md).

@@ -4,11 +4,11 @@ from typing import Callable, Dict, Iterator, List, Optional, Sequence, Tuple
 
 from rdbg import replies
 from rdbg.by_hand import INTERRUPT, ByHand, edit_of, interrupt_of
+from rdbg.instructions import WRITES_R1
 from rdbg.looks import Look, Object, content_of, hexadecimal, holding, time_of
 
 # (instructions that don't call the kernel, so that r0 is no answer of theirs)
 LOCAL = ("set", "add", "move", "data", "pack", "unpack", "jump", "jumpz", "end")
-WRITES_SECOND = ("query", "nwait")
 NOTIFICATIONS = ("notify", "query", "take", "nwait", "nclear", "vclear")
 
 
@@ -172,7 +172,7 @@ def own(was: replies.Task, now: replies.Task, word: str) -> Iterator[Effect]:
     first = 0 if word in LOCAL else 1
     for register in range(first, len(now.registers)):
         value = now.registers[register]
-        if value != was.registers[register] or (register == 1 and word in WRITES_SECOND):
+        if value != was.registers[register] or (register == 1 and word in WRITES_R1):
             if now.phase.word == "run":
                 yield Effect("register", f"r{register}", None, str(value))
     if now.data != was.data and word != "data":
@@ -190,7 +190,10 @@ def move_between(before: Look, after: Look, script: Script, known: Optional[ByHa
     if known is not None:
         return done_by_hand(before, after, known)
     if after.cores.tick != before.cores.tick:
-        return ticked(before, after)
+        awake = list(woken(before, after, True))
+        turning = after.cores.tick % len(after.cores.running)
+        effects = [*awake, *seats(before, after, [it.name for it in awake], turning)]
+        return Move(after.place, "tick", "tick", after.cores.tick, effects=tuple(effects))
     core = after.cores.turn - 1
     task = before.cores.running[core] if 0 <= core < len(before.cores.running) else None
     if task is None or not could_step(before, after, task, script):
@@ -201,9 +204,7 @@ def move_between(before: Look, after: Look, script: Script, known: Optional[ByHa
 def found_by_hand(before: Look, after: Look) -> ByHand:
     """An edit or an interrupt of which nothing is known but the looks."""
     edit, interrupt = edit_of(before, after), interrupt_of(before, after)
-    if edit is None and interrupt is not None:
-        return ByHand(interrupt, 1)
-    return ByHand(edit or "")
+    return ByHand(interrupt, 1) if edit is None and interrupt else ByHand(edit or "")
 
 
 def done_by_hand(before: Look, after: Look, known: ByHand) -> Move:
@@ -215,22 +216,14 @@ def done_by_hand(before: Look, after: Look, known: ByHand) -> Move:
     effects = [*holdings(before, after), *notes(before, after), *awake]
     effects += seats(before, after, [it.name for it in awake], None)
     return Move(
-        place=after.place,
-        kind="isr",
-        line=line,
-        tick=tick,
+        after.place,
+        "isr",
+        line,
+        tick,
         instruction=line,
         answer=known.answer,
         effects=tuple(effects),
     )
-
-
-def ticked(before: Look, after: Look) -> Move:
-    """A tick."""
-    awake = list(woken(before, after, True))
-    turning = after.cores.tick % len(after.cores.running)
-    effects = [*awake, *seats(before, after, [it.name for it in awake], turning)]
-    return Move(after.place, "tick", "tick", after.cores.tick, effects=tuple(effects))
 
 
 def could_step(before: Look, after: Look, task: str, script: Script) -> bool:
@@ -241,14 +234,12 @@ def could_step(before: Look, after: Look, task: str, script: Script) -> bool:
     if before.cores.turn != after.cores.turn or was is None or now is None:
         return True
     if now.pc == was.pc and now.phase == was.phase:
-        text = script(task, was.pc)
         if now.core != was.core or interrupt_of(before, after) is not None:
             return False
-        words = (text or f"jump {now.pc}").split()
+        words = (script(task, was.pc) or f"jump {now.pc}").split()
         return words[0] in ("jump", "jumpz") and words[-1] == str(now.pc)
-    text = script(task, was.pc)
-    word = text.split()[0] if text else ""
-    return word in ("", "jump", "jumpz") or now.pc in (was.pc, was.pc + 1)
+    word = (script(task, was.pc) or "jump").split()[0]
+    return word in ("jump", "jumpz") or now.pc in (was.pc, was.pc + 1)
 
 
 def stepped(before: Look, after: Look, core: int, task: str, script: Script) -> Move:
@@ -268,10 +259,10 @@ def stepped(before: Look, after: Look, core: int, task: str, script: Script) -> 
     awake = list(woken(before, after, False))
     effects += [*awake, *seats(before, after, [it.name for it in awake], None)]
     return Move(
-        place=after.place,
-        kind="step",
-        line=f"step {core}",
-        tick=after.cores.tick,
+        after.place,
+        "step",
+        f"step {core}",
+        after.cores.tick,
         core=core,
         task=task,
         pc=was.pc if was else None,

@@ -1,12 +1,12 @@
-"""Ctrl-C and SIGTERM: each ends a companion with a line and a status that say so, whatever it is at.
+"""Ctrl-C and SIGTERM: each ends a companion with a line and a status that say so, whatever it is
+at.
 
 As long as it starts there is nothing to close, and it ends at once. Later both are exceptions, so
 that sessions and files are closed. At SIGTERM the programs and processes that it has started are
 ended before, so that it waits for none of them; where another signal comes, it ends at once.
 
 A signal that was ignored at the start stays so. Who has words of its own for Ctrl-C takes it over,
-as the prompt does.
-"""
+as the prompt does."""
 import contextlib
 import os
 import signal
@@ -16,6 +16,7 @@ from typing import TYPE_CHECKING, Dict, Iterator, NoReturn, Optional, Set
 
 if TYPE_CHECKING:
     import subprocess
+
 
 SAID = {signal.SIGINT: "interrupted", signal.SIGTERM: "ended by SIGTERM"}
 # The programs that were started, and haven't been waited for, with the signal that ends each.
@@ -49,7 +50,7 @@ class Ending:
 
     @contextlib.contextmanager
     def held(self) -> Iterator[None]:
-        """As long as something is started or made that isn't known yet: a signal comes behind it."""
+        """As long as something is made that isn't known yet: a signal comes behind it."""
         self._is_held = True
         try:
             yield
@@ -139,3 +140,8 @@ def take_away() -> None:
             shutil.rmtree(path, ignore_errors=True)
         elif os.path.lexists(path):
             os.unlink(path)
+
+
+def give_up() -> None:
+    """Has nothing more go there, so that Python doesn't say once more at the end that it can't."""
+    os.dup2(os.open(os.devnull, os.O_WRONLY), sys.stdout.fileno())

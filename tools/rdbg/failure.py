@@ -1,6 +1,6 @@
 """What ends a companion with a line for its user, and no traceback."""
 import contextlib
-from typing import Iterator
+from typing import Callable, Iterator, Type
 
 
 class Failure(Exception):
@@ -19,3 +19,20 @@ def trying(what: str) -> Iterator[None]:
         yield
     except OSError as error:
         raise Failure(f"cannot {what}: {error.strerror}", 2) from None
+
+
+def of_words(message: str) -> Failure:
+    """A failure to which words of the command line, or a file, are to blame."""
+    return Failure(message, 2)
+
+
+@contextlib.contextmanager
+def turned(
+    into: Callable[[str], Exception], *kinds: Type[Exception], of: str = ""
+) -> Iterator[None]:
+    """As long as something is tried: errors of these kinds become another, in the same words, and
+    behind what they are of, where that is said."""
+    try:
+        yield
+    except kinds as wrong:
+        raise into(f"{of}: {wrong}" if of else str(wrong)) from None

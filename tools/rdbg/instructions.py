@@ -1,12 +1,12 @@
 """The instructions of scripts: one table of their forms, and one reader over it.
 
 A form is written as in docs/CALLS.md: its word, then the symbols of its operands. What an operand
-can be stands in `rdbg.operands`.
-"""
+can be stands in `rdbg.operands`."""
 import dataclasses
 from typing import Dict, Optional, Tuple
 
 from rdbg.operands import KIND_OF
+from rdbg.wording import rows
 
 
 @dataclasses.dataclass(frozen=True)
@@ -53,156 +53,80 @@ SENT = "1, or 0 where the queue was full until the time was up"
 RECEIVED = "1, or 0 where nothing came until the time was up"
 TOLD = "1; 0 where setif finds an entry that has received"
 
-FORMS: Tuple[InstructionForm, ...] = (
-    form("set R N", "", "the register becomes the number", OWN),
-    form("add R N", "", "the register grows by the number, modulo 2^32", OWN),
-    form(
-        "move R R",
-        "",
-        "the first register becomes the second's value",
-        OWN,
-        "register that changes, register that is read",
-    ),
-    form("data HEX", "", "the task's data becomes these bytes", STAYS),
-    form("pack R", "", "the data becomes the register's four bytes, lowest first", STAYS),
-    form("unpack R", "", "the register becomes the data's first four bytes", OWN),
-    form("jump L", "", "the script goes on at this instruction", STAYS),
-    form("jumpz R L", "", "the script goes on there if the register is 0", STAYS),
-    form("end", "vTaskDelete", "the task has ended", STAYS),
-    form("send Q T", "xQueueSend xQueueSendToBack", "sends the data, to the back", SENT),
-    form("front Q T", "xQueueSendToFront", "sends the data, to the front", SENT),
-    form("recv Q T", "xQueueReceive", "takes the first item, as the data", RECEIVED),
-    form("peek Q T", "xQueuePeek", "reads the first item, as the data, and leaves it", RECEIVED),
-    form("over Q", "xQueueOverwrite", "puts the data in place of the one item", "1"),
-    form("qreset Q", "xQueueReset", "takes all items out", "1"),
-    form("count Q", "uxQueueMessagesWaiting", "counts the items", "how many items there are"),
-    form("spaces Q", "uxQueueSpacesAvailable", "counts the free places", "how many are free"),
-    form(
-        "setadd Q S",
-        "xQueueAddToSet",
-        "makes the queue a member",
-        "1, or 0 where it is one already, or has items",
-    ),
-    form(
-        "setdel Q S",
-        "xQueueRemoveFromSet",
-        "ends that it is a member",
-        "1, or 0 where it isn't one, or has items",
-    ),
-    form(
-        "select S T",
-        "xQueueSelectFromSet",
-        "takes the oldest handle",
-        "the queue's number in the file and 1, or 0 for none",
-    ),
-    form("swrite B T", "xStreamBufferSend", "writes the data", "how many bytes were written"),
-    form(
-        "sread B ROOM T",
-        "xStreamBufferReceive",
-        "reads so many bytes at the most, as the data",
-        "how many bytes were read",
-    ),
-    form("sreset B", "xStreamBufferReset", "drops all bytes", "1, or 0 where somebody waits"),
-    form(
-        "strig B V",
-        "xStreamBufferSetTriggerLevel",
-        "sets the trigger level",
-        "1, or 0 where it is above the size",
-        "stream buffer, trigger level",
-    ),
-    form("scount B", "xStreamBufferBytesAvailable", "counts the bytes", "how many there are"),
-    form("sspaces B", "xStreamBufferSpacesAvailable", "counts the room", "how many bytes fit"),
-    form("mwrite M T", "xMessageBufferSend", "writes the data as a message", "its length, or 0"),
-    form(
-        "mread M ROOM T",
-        "xMessageBufferReceive",
-        "reads a message of so many bytes at the most, as the data",
-        "its length, or 0 where there is none or it is longer",
-    ),
-    form("mreset M", "xMessageBufferReset", "drops all messages", "1, or 0 where somebody waits"),
-    form(
-        "mspaces M",
-        "xMessageBufferSpacesAvailable",
-        "counts the room",
-        "how many bytes are free, four a message for its length among them",
-    ),
-    form(
-        "mnext M",
-        "xMessageBufferNextLengthBytes",
-        "looks at the message in front",
-        "its length, or 0 for none",
-    ),
-    form(
-        "notify K I V ACTION",
-        "xTaskNotifyIndexed",
-        "notifies an entry of the task",
-        TOLD,
-        "task, index of a notification entry, value that is sent, action",
-    ),
-    form(
-        "query K I V ACTION",
-        "xTaskNotifyAndQueryIndexed",
-        "notifies an entry of the task; r1 becomes its value before",
-        TOLD,
-        "task, index of a notification entry, value that is sent, action",
-    ),
-    form(
-        "take I clear|dec T",
-        "ulTaskNotifyTakeIndexed",
-        "waits until the entry's value isn't 0, then clears it or takes one away",
-        "the value before, or 0",
-    ),
-    form(
-        "nwait I V V T",
-        "xTaskNotifyWaitIndexed",
-        "waits until the entry has received; r1 becomes its value",
-        "1, or 0 where nothing came until the time was up",
-        "index of a notification entry, bits to clear on entry, bits to clear on exit, block time",
-    ),
-    form(
-        "nclear K I",
-        "xTaskNotifyStateClearIndexed",
-        "makes an entry idle that has received",
-        "1, or 0 where it had not",
-    ),
-    form(
-        "vclear K I V",
-        "ulTaskNotifyValueClearIndexed",
-        "clears bits of an entry's value",
-        "the value before",
-        "task, index of a notification entry, bits to clear",
-    ),
-    form(
-        "gset G V",
-        "xEventGroupSetBits",
-        "sets bits",
-        "the bits afterwards",
-        "event group, bits to set",
-    ),
-    form(
-        "gclear G V",
-        "xEventGroupClearBits",
-        "clears bits",
-        "the bits before",
-        "event group, bits to clear",
-    ),
-    form("gget G", "xEventGroupGetBits", "looks at the bits", "the bits"),
-    form(
-        "gwait G V WISH CLR T",
-        "xEventGroupWaitBits",
-        "waits for any or all of these bits, and keeps or clears them once they came",
-        "the bits, also where the time was up",
-        "event group, bits to wait for, wish, word for clearing, block time",
-    ),
-    form(
-        "gsync G V V T",
-        "xEventGroupSync",
-        "sets bits, then waits for all of others, and clears these",
-        "the bits, also where the time was up",
-        "event group, bits to set, bits to wait for, block time",
-    ),
+FORMS: Tuple[InstructionForm, ...] = tuple(
+    form(*row)
+    for row in rows(
+        f"""
+set R N | | the register becomes the number | {OWN}
+add R N | | the register grows by the number, modulo 2^32 | {OWN}
+move R R | | the first register becomes the second's value | {OWN}
+  | register that changes, register that is read
+data HEX | | the task's data becomes these bytes | {STAYS}
+pack R | | the data becomes the register's four bytes, lowest first | {STAYS}
+unpack R | | the register becomes the data's first four bytes | {OWN}
+jump L | | the script goes on at this instruction | {STAYS}
+jumpz R L | | the script goes on there if the register is 0 | {STAYS}
+end | vTaskDelete | the task has ended | {STAYS}
+send Q T | xQueueSend xQueueSendToBack | sends the data, to the back | {SENT}
+front Q T | xQueueSendToFront | sends the data, to the front | {SENT}
+recv Q T | xQueueReceive | takes the first item, as the data | {RECEIVED}
+peek Q T | xQueuePeek | reads the first item, as the data, and leaves it | {RECEIVED}
+over Q | xQueueOverwrite | puts the data in place of the one item | 1
+qreset Q | xQueueReset | takes all items out | 1
+count Q | uxQueueMessagesWaiting | counts the items | how many items there are
+spaces Q | uxQueueSpacesAvailable | counts the free places | how many are free
+setadd Q S | xQueueAddToSet | makes the queue a member
+  | 1, or 0 where it is one already, or has items
+setdel Q S | xQueueRemoveFromSet | ends that it is a member
+  | 1, or 0 where it isn't one, or has items
+select S T | xQueueSelectFromSet | takes the oldest handle
+  | the queue's number in the file and 1, or 0 for none
+swrite B T | xStreamBufferSend | writes the data | how many bytes were written
+sread B ROOM T | xStreamBufferReceive | reads so many bytes at the most, as the data
+  | how many bytes were read
+sreset B | xStreamBufferReset | drops all bytes | 1, or 0 where somebody waits
+strig B V | xStreamBufferSetTriggerLevel | sets the trigger level
+  | 1, or 0 where it is above the size | stream buffer, trigger level
+scount B | xStreamBufferBytesAvailable | counts the bytes | how many there are
+sspaces B | xStreamBufferSpacesAvailable | counts the room | how many bytes fit
+mwrite M T | xMessageBufferSend | writes the data as a message | its length, or 0
+mread M ROOM T | xMessageBufferReceive | reads a message of so many bytes at the most, as the data
+  | its length, or 0 where there is none or it is longer
+mreset M | xMessageBufferReset | drops all messages | 1, or 0 where somebody waits
+mspaces M | xMessageBufferSpacesAvailable | counts the room
+  | how many bytes are free, four a message for its length among them
+mnext M | xMessageBufferNextLengthBytes | looks at the message in front
+  | its length, or 0 for none
+notify K I V ACTION | xTaskNotifyIndexed | notifies an entry of the task | {TOLD}
+  | task, index of a notification entry, value that is sent, action
+query K I V ACTION | xTaskNotifyAndQueryIndexed
+  | notifies an entry of the task; r1 becomes its value before | {TOLD}
+  | task, index of a notification entry, value that is sent, action
+take I clear|dec T | ulTaskNotifyTakeIndexed
+  | waits until the entry's value isn't 0, then clears it or takes one away
+  | the value before, or 0
+nwait I V V T | xTaskNotifyWaitIndexed | waits until the entry has received; r1 becomes its value
+  | 1, or 0 where nothing came until the time was up
+  | index of a notification entry, bits to clear on entry, bits to clear on exit, block time
+nclear K I | xTaskNotifyStateClearIndexed | makes an entry idle that has received
+  | 1, or 0 where it had not
+vclear K I V | ulTaskNotifyValueClearIndexed | clears bits of an entry's value | the value before
+  | task, index of a notification entry, bits to clear
+gset G V | xEventGroupSetBits | sets bits | the bits afterwards | event group, bits to set
+gclear G V | xEventGroupClearBits | clears bits | the bits before | event group, bits to clear
+gget G | xEventGroupGetBits | looks at the bits | the bits
+gwait G V WISH CLR T | xEventGroupWaitBits
+  | waits for any or all of these bits, and keeps or clears them once they came
+  | the bits, also where the time was up
+  | event group, bits to wait for, wish, word for clearing, block time
+gsync G V V T | xEventGroupSync | sets bits, then waits for all of others, and clears these
+  | the bits, also where the time was up | event group, bits to set, bits to wait for, block time
+"""
+    )
 )
 FORM_OF: Dict[str, InstructionForm] = {it.word: it for it in FORMS}
+# Those that write r1, too.
+WRITES_R1 = ("query", "nwait")
 
 
 def form_of(word: str) -> Optional[InstructionForm]:

@@ -13,8 +13,7 @@ DEFAULTS: Dict[str, int] = {"notes": 1, "tick": 0}
 
 
 def pairs(thing: Any, shape: Shape) -> List[Tuple[str, Any]]:
-    """The keys of an object or a task with their values, in the order of the documents; its script
-    as a list of texts."""
+    """The keys of an object or a task with their values, in the documents' order."""
     found: List[Tuple[str, Any]] = []
     for key in shape.keys:
         value = getattr(thing, key.name)

@@ -1,16 +1,14 @@
 """Reads JSON as rdbg does, with the line and the column of everything in it.
 
 What is taken is what the program takes: no comments, no commas too many, no byte order mark, at
-most 127 brackets within each other, numbers that a float holds, whole characters alone.
-"""
+most 127 brackets within each other, numbers that a float holds, whole characters alone."""
 import bisect
 import re
 from typing import Callable, List, NoReturn, Optional, Sequence, Tuple, TypeVar
 
 from rdbg import json_causes as causes
 from rdbg.failure import Failure
-from rdbg.fault import Fault
-from rdbg.tree import Member, Node, Number, Object, Place, Places, Value
+from rdbg.tree import Fault, Member, Node, Number, Object, Place, Places, Value
 
 NOT_JSON = "L1 NotJson"
 MOST_BYTES = 1_048_576
@@ -90,6 +88,7 @@ class Reader:
 
     def value(self, at: int) -> Tuple[Node, int]:
         """A value."""
+        value: Value
         sign = self.text[at : at + 1]
         if sign == '"':
             return self.string(at)
@@ -97,10 +96,13 @@ class Reader:
             if len(self.open) == MOST_DEPTH:
                 self.refuse(at, f"more than {MOST_DEPTH} brackets stand within each other")
             self.open.append(at)
-            node, end = self.object(at) if sign == "{" else self.array(at)
+            if sign == "{":
+                members, end = self.parts(at, "}", self.member)
+                value = Object(members)
+            else:
+                value, end = self.parts(at, "]", self.value)
             self.open.pop()
-            return node, end
-        value: Value
+            return Node(value, self.place(at)), end
         number = NUMBER.match(self.text, at)
         if number:
             value, end = self.number(number.group(), at), number.end()
@@ -119,16 +121,6 @@ class Reader:
         if (len(digits) > 300 or "e" in digits or "E" in digits) and "inf" in str(float(digits)):
             self.refuse(at, "the number is too large")
         return Number(digits)
-
-    def array(self, at: int) -> Tuple[Node, int]:
-        """A list."""
-        items, end = self.parts(at, "]", self.value)
-        return Node(items, self.place(at)), end
-
-    def object(self, at: int) -> Tuple[Node, int]:
-        """An object."""
-        members, end = self.parts(at, "}", self.member)
-        return Node(Object(members), self.place(at)), end
 
     def parts(
         self, at: int, bracket: str, read: Callable[[int], Tuple[Part, int]]
@@ -176,8 +168,7 @@ class Reader:
         return Member(key, node.place, value), end
 
     def cause(self, at: int) -> Optional[str]:
-        """What can be wrong at any place: the end of the text, a bracket of the other kind, what is
-        no JSON at all."""
+        """What can be wrong at any place: an end, a bracket of the other kind, what is no JSON."""
         if at == len(self.text):
             return self.still_open("the file ends here, and ")
         sign = self.text[at]

@@ -1,6 +1,6 @@
-"""The kinds of things that have a name, a table: each as `show` names it, as a form has it, as a file
-and a sentence call it, with the condition that says how much is in it, and how phases name the places
-where tasks wait at it."""
+"""The kinds of things that have a name, a table: each as `show` names it, as a form has it, as a
+file and a sentence call it, with the condition that says how much is in it, and how phases name the
+places where tasks wait at it."""
 import dataclasses
 from typing import Dict, Tuple
 
@@ -20,11 +20,6 @@ class Kind:
     def key(self) -> str:
         """The key of a file that lists them."""
         return f"{self.word}s"
-
-    @property
-    def plural(self) -> str:
-        """Several of them."""
-        return f"{self.noun}s"
 
 
 TASK = Kind("task", "K", "task")

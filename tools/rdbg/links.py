@@ -1,8 +1,8 @@
 """The file that a path leads to, where nobody else has a say in where that is.
 
-In a folder that all write to, as /tmp, another user can lay a link under a name at which somebody is
-about to write, or under that of a folder on the way there, and so have any file of theirs written.
-"""
+In a folder that all write to, as /tmp, another user can lay a link under a name at which somebody
+is about to write, or under that of a folder on the way there, and so have any file of theirs
+written."""
 import os
 import re
 import stat
@@ -40,9 +40,9 @@ def check(path: str, folder: str, name: str, is_last: bool) -> None:
 
 
 def behind(path: str) -> str:
-    """The file that a path leads to, with no link on the way, nor one itself, but for one to what is
-    open already. Raises `Failure` at a link that another user has laid, or that stands where all may
-    rename one; and at one that is the last, where all may lay one."""
+    """The file that a path leads to, with no link on the way, nor one itself, but for one to what
+    is open already. Raises `Failure` at a link that another user has laid, or that stands where all
+    may rename one; and at one that is the last, where all may lay one."""
     if not os.path.basename(path):
         return path  # (a folder, or none: it can't be written)
     rest: List[str] = os.path.join(os.getcwd(), path).split(os.sep)

@@ -1,6 +1,6 @@
 """A look at the target as a value: who runs, and each task and object as it is."""
 import dataclasses
-from typing import Dict, List, Mapping, Optional, Sequence, Tuple, Union
+from typing import Dict, Iterable, List, Mapping, Optional, Sequence, Tuple, Union
 
 from rdbg import kinds, replies
 from rdbg.application import Application
@@ -31,6 +31,13 @@ class Names:
     def of(cls, application: Application) -> "Names":
         """All that an application has."""
         return cls(tuple(it.name for it in application.tasks), tuple(application.objects()))
+
+    @classmethod
+    def all(cls, several: Iterable["Names"]) -> "Names":
+        """What some have together, each thing once."""
+        found = list(several)
+        tasks = dict.fromkeys(name for it in found for name in it.tasks)
+        return cls(tuple(tasks), tuple(dict.fromkeys(key for it in found for key in it.objects)))
 
     def of_kind(self, kind: str) -> List[str]:
         """The names of a kind, as `show` has it."""
@@ -111,4 +118,4 @@ def content_of(it: Object) -> Tuple[object, ...]:
 
 def time_of(deadline: Optional[int]) -> str:
     """A deadline in words."""
-    return "without end" if deadline is None else f"until tick {deadline}"
+    return "with no limit of time" if deadline is None else f"until tick {deadline}"

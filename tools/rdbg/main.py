@@ -7,7 +7,7 @@ import sys
 from types import ModuleType
 from typing import TYPE_CHECKING, List, Sequence
 
-from rdbg import output
+from rdbg import ending
 from rdbg.ending import ENDING
 from rdbg.failure import Failure
 
@@ -31,8 +31,7 @@ def companion(name: str) -> ModuleType:
 
 
 def summary(name: str) -> str:
-    """What a companion is for, as the text of its module has it: all of them would take long to
-    import."""
+    """What a companion is for, by the text of its module: to import all would take long."""
     with open(os.path.join(FOLDER, f"{name}.py"), encoding="utf-8") as file:
         line = next(line for line in file if line.startswith(SUMMARY))
     return line[len(SUMMARY) :].rstrip().rstrip('"')
@@ -43,13 +42,6 @@ def entries() -> "List[Entry]":
     from rdbg.manual import Entry
 
     return [Entry(name, summary(name)) for name in names()]
-
-
-def manual(is_page: bool, version: str = "") -> str:
-    """The help, or the page rdbg(1) of a version."""
-    from rdbg.manual import help_text, page
-
-    return page(entries(), version) if is_page else help_text(entries())
 
 
 def hint(words: Sequence[str]) -> int:
@@ -68,8 +60,14 @@ def hint(words: Sequence[str]) -> int:
 def run(words: Sequence[str]) -> int:
     """Does what the words ask for, and answers the exit status."""
     word = words[0] if words else ""
-    if word in ("--help", "-h", "--manual"):
-        print(manual(word == "--manual", *words[1:2]))
+    if word in ("--help", "-h"):
+        from rdbg.manual import help_text
+
+        print(help_text(entries()))
+    elif word == "--manual":
+        from rdbg.manual import page
+
+        print(page(entries(), *words[1:2]))
     elif word == "--why" and words[1:]:
         return hint(words[1:])
     elif word == "--help-of" and words[1:]:
@@ -99,7 +97,7 @@ def main(words: Sequence[str]) -> int:
     except OSError as error:
         ENDING.check()
         # (the output can't be written, or who read it has gone)
-        output.give_up()
+        ending.give_up()
         if not isinstance(error, BrokenPipeError):
             print(" ".join(["rdbg", *words[:1]]) + f": {error.strerror}", file=sys.stderr)
         return 2 if error.errno == errno.ENOMEM else 1

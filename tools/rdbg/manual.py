@@ -1,7 +1,9 @@
 """What `rdbg --help` says and the page rdbg(1), both made from one source."""
 import dataclasses
 import textwrap
-from typing import Callable, Sequence, Tuple
+from typing import Sequence, Tuple
+
+from rdbg.wording import rows
 
 WIDTH = 79
 
@@ -24,83 +26,82 @@ class Section:
     is_brief: bool = True
 
 
+def entries(table: str) -> Tuple[Entry, ...]:
+    """The entries of a table."""
+    return tuple(Entry(words, text) for words, text in rows(table))
+
+
 ABOUT = "a reverse debugger for models of FreeRTOS applications"
-MOVES = Entry("--moves COUNT", "how many moves may be done at a time, 1 to 1000000, else 100000")
-HISTORY = Entry(
-    "--history COUNT", "how many entries the history may have, 2 to 1000000, else 100000"
+OPTIONS = entries(
+    """
+--app FILE | the application file; for run, the built-in one without it
+--port PORT | of serve: the TCP port, 1 to 65535
+--sessions COUNT | of serve: how many sessions are served, 1 to 64
+--moves COUNT | how many moves may be done at a time, 1 to 1000000, else 100000
+--history COUNT | how many entries the history may have, 2 to 1000000, else 100000
+-h, --help | prints help
+"""
 )
-
-
-def synopsis(companions: Sequence[Entry]) -> Tuple[Entry, ...]:
-    """Each way to call rdbg."""
-    return (
-        Entry("rdbg run [OPTIONS]", "answers commands from standard input, one line each"),
-        Entry(
-            "rdbg serve --app FILE --port PORT --sessions COUNT [OPTIONS]",
-            "answers the commands of several sessions on a TCP port of 127.0.0.1",
-        ),
-        *(Entry(f"rdbg {it.words} ..", it.text) for it in companions),
-        Entry("rdbg help WORD", "says more of run, serve or a companion"),
-        Entry(
-            "rdbg --version",
-            "says the version, the commit, the kit, and whether the program is proved",
-        ),
-        Entry(
-            "rdbg install PREFIX",
-            "from a checkout: puts the programs, the companions and rdbg(1) below PREFIX",
-        ),
-        Entry(
-            "rdbg --build",
-            "from a checkout: builds the program, and says where it is; with rdreach that one",
-        ),
-        Entry(
-            "rdbg --unproved ..",
-            "from a checkout: the same words with a program that is built without proof",
-        ),
-    )
-
-
-OPTIONS = (
-    Entry("--app FILE", "the application file; for run, the built-in one without it"),
-    Entry("--port PORT", "of serve: the TCP port, 1 to 65535"),
-    Entry("--sessions COUNT", "of serve: how many sessions are served, 1 to 64"),
-    MOVES,
-    HISTORY,
-    Entry("-h, --help", "prints help"),
+# Each way to call rdbg; the companions stand between.
+STARTS = entries(
+    """
+rdbg run [OPTIONS] | answers commands from standard input, one line each
+rdbg serve --app FILE --port PORT --sessions COUNT [OPTIONS]
+  | answers the commands of several sessions on a TCP port of 127.0.0.1
+"""
 )
-
-STATUSES = (
-    Entry("0", "the session has ended, or help was shown"),
-    Entry("1", "the application was refused, there is no memory, or the port can't be had"),
-    Entry("2", "a bad command line, or (of companions) a file or a port that isn't there"),
+OTHERS = entries(
+    """
+rdbg help WORD | says more of run, serve or a companion
+rdbg --version | says the version, the commit, the kit, and whether the program is proved
+rdbg install PREFIX
+  | from a checkout: puts the programs, the companions and rdbg(1) below PREFIX
+rdbg --build
+  | from a checkout: builds the program, and says where it is; with rdreach that one
+rdbg --unproved ..
+  | from a checkout: the same words with a program that is built without proof
+"""
 )
-
-ENVIRONMENT = (
-    Entry("RDBG_PROGRAM", "the program that is started, in place of the one that was built"),
-    Entry("RDBG_REACH", "the same of the program that searches: reach, hunt and sh ask it"),
-    Entry("RDBG_HISTORY", "the file in which rdbg sh keeps the lines that were typed"),
-    Entry("RDBG_TOKEN", "the token of a room that asks for one; sh and dap say it there"),
+STATUSES = entries(
+    """
+0 | the session has ended, or help was shown
+1 | the application was refused, there is no memory, or the port can't be had
+2 | a bad command line, or (of companions) a file or a port that isn't there
+"""
 )
-
-PAGES = (
-    Entry("../README.md", "the first command, a task as a script, what is proved"),
-    Entry("README.md", "every page, by who reads it"),
-    Entry("FIRST.md, CALLS.md", "from C to a first fault; each line and each call of a model"),
-    Entry("FROM_C.md, FAULTS.md", "how pieces of C become scripts; eight faults with their C"),
-    Entry("COMMANDS.md, FORMATS.md", "each command, refusal, file, reply and limit"),
-    Entry("COMPANIONS.md, HUNTING.md", "the companions, and how a fault is looked for"),
-    Entry("REACHING.md, NO_RETURN.md", "what can still come, and where it was lost for good"),
-    Entry("TOGETHER.md, EDITORS.md, SECURITY.md", "several at one target, editors, ports"),
-    Entry("BUILD.md, RELEASE.md", "rdbg at a build server, and installing it"),
-    Entry("MODEL.md, PROMISES.md", "the kernel's rules, and what is proved"),
+ENVIRONMENT = entries(
+    """
+RDBG_PROGRAM | the program that is started, in place of the one that was built
+RDBG_REACH | the same of the program that searches: reach, hunt and sh ask it
+RDBG_HISTORY | the file in which rdbg sh keeps the lines that were typed
+RDBG_TOKEN | the token of a room that asks for one; sh and dap say it there
+"""
 )
-
+PAGES = entries(
+    """
+../README.md | the first command, a task as a script, what is proved
+README.md | every page, by who reads it
+FIRST.md, CALLS.md | from C to a first fault; each line and each call of a model
+FROM_C.md, FAULTS.md | how pieces of C become scripts; eight faults with their C
+COMMANDS.md, FORMATS.md | each command, refusal, file, reply and limit
+COMPANIONS.md, HUNTING.md | the companions, and how a fault is looked for
+REACHING.md, NO_RETURN.md | what can still come, and where it was lost for good
+TOGETHER.md, EDITORS.md, SECURITY.md | several at one target, editors, ports
+BUILD.md, RELEASE.md | rdbg at a build server, and installing it
+MODEL.md, PROMISES.md | the kernel's rules, and what is proved
+"""
+)
 DESCRIPTION = (
     "rdbg runs a model of a multicore FreeRTOS application, whose tasks are short scripts of kernel"
     " calls, forwards and backwards, a move at a time. Each line that it reads is a command, and"
     " each command has one line as its answer. Companions stand beside it and drive it by its"
     " lines."
 )
+
+
+def synopsis(companions: Sequence[Entry]) -> Tuple[Entry, ...]:
+    """Each way to call rdbg."""
+    return (*STARTS, *(Entry(f"rdbg {it.words} ..", it.text) for it in companions), *OTHERS)
 
 
 def sections(companions: Sequence[Entry]) -> Tuple[Section, ...]:
@@ -153,6 +154,5 @@ def page(companions: Sequence[Entry], version: str = "") -> str:
     """The page rdbg(1) of a version, as roff."""
     source = f"rdbg {version}".strip()
     head = [f'.TH RDBG 1 "" "{source}" "User Commands"', ".SH NAME", f"rdbg \\- {ABOUT}"]
-    how: Callable[[Entry], str] = lambda entry: f"\\fB{roff(entry.words)}\\fR"
-    ways = "\n.br\n".join(how(entry) for entry in synopsis(companions))
+    ways = "\n.br\n".join(f"\\fB{roff(it.words)}\\fR" for it in synopsis(companions))
     return "\n".join([*head, ".SH SYNOPSIS", ways, *map(page_of, sections(companions))])

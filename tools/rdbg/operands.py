@@ -101,9 +101,9 @@ def to_text(least: int, most: int) -> str:
     return str(least) if least == most else f"{least} to {most}"
 
 
-def are(count: int, one: str, more: str) -> str:
+def are(entries: int) -> str:
     """`is 1 entry`, `are 2 entries`."""
-    return f"is 1 {one}" if count == 1 else f"are {count} {more}"
+    return "is 1 entry" if entries == 1 else f"are {entries} entries"
 
 
 def is_name(text: str) -> bool:

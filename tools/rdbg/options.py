@@ -1,6 +1,6 @@
 """What stands in words of command lines: numbers and ports."""
 import argparse
-from typing import Callable
+from typing import Callable, Tuple
 
 from rdbg.wording import shown
 from rdbg.digits import number
@@ -9,21 +9,27 @@ MOST_COUNT = 1_000_000
 MOST_PORT = 65_535
 
 
-def bounded(least: int) -> Callable[[str], int]:
-    """Reads a number of at least so much and at most a million."""
+def bounded(least: int, most: int = MOST_COUNT) -> Callable[[str], int]:
+    """Reads a number of at least so much and at most so much, a million where nothing is said."""
 
     def read_number(text: str) -> int:
-        value = number(text, MOST_COUNT, least)
+        value = number(text, most, least)
         if value is None:
-            raise argparse.ArgumentTypeError(f"{least} to {MOST_COUNT}, not '{shown(text)}'")
+            raise argparse.ArgumentTypeError(f"{least} to {most}, not '{shown(text)}'")
         return value
 
     return read_number
 
 
-def port(text: str) -> int:
-    """Reads a port."""
-    value = number(text, MOST_PORT, 1)
-    if value is None:
-        raise argparse.ArgumentTypeError(f"1 to {MOST_PORT}, not '{shown(text)}'")
-    return value
+def part(text: str) -> Tuple[int, int]:
+    """Reads K/N: the part K of N."""
+    first, _, second = text.partition("/")
+    count = number(second, MOST_COUNT, 1)
+    which = None if count is None else number(first, count, 1)
+    if which is None or count is None:
+        raise argparse.ArgumentTypeError(f"K/N with K of 1 to N, not '{shown(text)}'")
+    return which, count
+
+
+# Reads a port.
+port = bounded(1, MOST_PORT)

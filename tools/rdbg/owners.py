@@ -1,9 +1,8 @@
 """Whose a connection between two of this machine is, as the system says it.
 
-Linux is asked for the one socket at the other end, which takes as long however many there are; where
-it can't be asked so, its tables of all sockets are looked through. Other systems don't say it.
-Who else has connections to a port stands in the tables alone.
-"""
+Linux is asked for the one socket at the other end, which takes as long however many there are;
+where it can't be asked so, its tables of all sockets are looked through. Other systems don't say
+it. Who else has connections to a port stands in the tables alone."""
 import contextlib
 import os
 import socket

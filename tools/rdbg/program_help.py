@@ -1,5 +1,4 @@
-"""What `rdbg help` says of the words that start a program, and of `install`, with no program at
-hand."""
+"""What `rdbg help` says of the words that start a program, and of `install`, without one."""
 from typing import Dict
 
 RUN = """\
@@ -53,7 +52,7 @@ Options:
   -D <NAME=N>             Of a text in lines: the const NAME is N
   -o <OUT>                Where the order that is found goes, too, as lines that rdbg run takes
       --page <OUT.html>   Writes the order that is found, or the run of --lost, as one page of HTML
-      --report <FILE>     Writes what came of it as SARIF
+      --report <FILE>     Writes what came of it as SARIF, or where FILE ends in .xml as JUnit's XML
   -h, --help              Print help
 
 The first line is found, never, not within a bound, or full: not within one; the status is 1 where

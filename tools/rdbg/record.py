@@ -1,5 +1,4 @@
-"""The record of the moves that are done: the lines that go back by it, and forth again, and what is
-said of it."""
+"""The record of the moves that are done: the lines that go back by it, and forth again."""
 
 BACK, REDO, TRIM = "back", "redo", "trim"
 # Lines of these words make no move that is new.

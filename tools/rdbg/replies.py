@@ -1,8 +1,7 @@
 """The replies of rdbg as values: one table of their forms, and one reader over it.
 
 A form is written as in docs/FORMATS.md: words in small letters stand as they are, words in capitals
-are fields. A refusal is no value, but an exception with its name.
-"""
+are fields. A refusal is no value, but an exception with its name."""
 import dataclasses
 import re
 from typing import Any, Callable, Dict, List, Optional, Tuple, Union
@@ -153,6 +152,15 @@ class Task:
     data: bytes
     notes: Tuple[Note, ...]
 
+    @property
+    def doing(self) -> str:
+        """What it does, in a word or two."""
+        if self.core is not None:
+            return f"core {self.core}"
+        if self.phase.word == "wait":
+            return f"waits {self.phase.place}"
+        return self.phase.word if self.phase.word in ("ended", "failed") else "ready"
+
 
 @dataclasses.dataclass(frozen=True)
 class Cores:
@@ -293,18 +301,13 @@ class Form:
         return re.compile(re.sub(r"[A-Z]+", r"([^ /]+)", self.text))
 
 
-def moved(how: str) -> Callable[[int], Moved]:
-    """What makes a `Moved` that ended so."""
-    return lambda at: Moved(at, how)
-
-
 NAMES = listed(name)
 SOMEBODY = or_nobody(name)
 FORMS: Tuple[Form, ...] = (
     Form("ok at N", Moved, (number,)),
     Form("ok at N isr A", lambda at, answer: Moved(at, "", answer), (number, bit)),
-    Form("ok at N met", moved("met"), (number,)),
-    Form("ok at N limit", moved("limit"), (number,)),
+    Form("ok at N met", lambda at: Moved(at, "met"), (number,)),
+    Form("ok at N limit", lambda at: Moved(at, "limit"), (number,)),
     Form("ok at N start", lambda at: Moved(at, "start"), (number,)),
     Form("ok wheel", WheelDone),
     Form("ok watch N", WatchDone, (number,)),
@@ -343,36 +346,16 @@ FORMS: Tuple[Form, ...] = (
 
 # Each refusal, and whether a number stands behind it.
 REFUSALS: Dict[str, bool] = {
-    "NoTask": False,
-    "TickLimit": False,
-    "TooFar": True,
-    "NothingUndone": False,
-    "MovesFull": False,
-    "Held": True,
-    "NoSuch": False,
-    "BadEdit": False,
-    "NoIsr": False,
-    "WatchesFull": False,
-    "NoWatch": False,
-    "NotHolder": False,
-    "HistoryFull": False,
-    "NoMemory": False,
-    "Full": False,
-    "Syntax": False,
-    "LineTooLong": False,
-    "Broken": False,
+    name: name in ("TooFar", "Held")
+    for name in (
+        "NoTask TickLimit TooFar NothingUndone MovesFull Held NoSuch BadEdit NoIsr WatchesFull"
+        " NoWatch NotHolder HistoryFull NoMemory Full Syntax LineTooLong Broken"
+    ).split()
 }
-
-
-def forms_by_word() -> Dict[str, List[Tuple[Form, "re.Pattern[str]"]]]:
-    """The forms by their first word, each with what its lines look like."""
-    found: Dict[str, List[Tuple[Form, "re.Pattern[str]"]]] = {}
-    for form in FORMS:
-        found.setdefault(form.text.split(" ")[0], []).append((form, form.pattern()))
-    return found
-
-
-BY_WORD = forms_by_word()
+# The forms by their first word, each with what its lines look like.
+BY_WORD: Dict[str, List[Tuple[Form, "re.Pattern[str]"]]] = {}
+for _form in FORMS:
+    BY_WORD.setdefault(_form.text.split(" ")[0], []).append((_form, _form.pattern()))
 
 
 def refusal(line: str) -> Refused:
@@ -395,8 +378,7 @@ def read(line: str) -> Reply:
         found = pattern.fullmatch(line)
         if found:
             try:
-                texts = found.groups()
-                return form.make(*[each(text) for each, text in zip(form.fields, texts)])
+                return form.make(*[it(text) for it, text in zip(form.fields, found.groups())])
             except ValueError:
                 continue
     raise Unreadable(line)

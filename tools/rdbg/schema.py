@@ -17,15 +17,11 @@ ABOUT = (
 )
 
 
-def described(text: str, freertos: str) -> str:
-    """A description with the FreeRTOS name of what it describes."""
-    sentence = text[0].upper() + text[1:]
-    return f"{sentence} ({freertos})." if freertos else f"{sentence}."
-
-
 def value_of(key: Key) -> Schema:
     """The schema of a key's value."""
-    made: Schema = {"description": described(key.text, key.freertos)}
+    sentence = key.text[0].upper() + key.text[1:]
+    named = f" ({key.freertos})" if key.freertos else ""
+    made: Schema = {"description": f"{sentence}{named}."}
     if key.name in DEFAULTS:
         made["default"] = DEFAULTS[key.name]
     if key.holds == "number":

@@ -13,9 +13,8 @@ MOST_INSTRUCTIONS = 256
 class Key:
     """A key: what is said of it, and what its value is. `holds` is `number`, `name`, `code`,
     `members`, or `objects` of the shape `of`; `least` and `most` bound the number or the length of
-    the list. `most_key` names a key whose number is the bound in place of `most`.
-    `most_by_profile` has the bounds of profile 1, profile 2 and so on, of which `most` is the
-    largest."""
+    the list. `most_key` names a key whose number is the bound in place of `most`. `most_by_profile`
+    has the bounds of profile 1, profile 2 and so on, of which `most` is the largest."""
 
     name: str
     text: str
@@ -35,8 +34,7 @@ class Key:
 
 @dataclasses.dataclass(frozen=True)
 class Shape:
-    """An object: what it is called, the symbol of its names, and its keys in the order in which
-    they are looked at."""
+    """An object: what it is called, the symbol of its names, and its keys, in order."""
 
     noun: str
     plural: str
@@ -49,103 +47,18 @@ class Shape:
         return tuple(key.name for key in self.keys)
 
 
-def of_kind(kind: kinds.Kind, keys: Tuple[Key, ...], freertos: str) -> Shape:
+def of_kind(kind: kinds.Kind, freertos: str, *keys: Key) -> Shape:
     """The object that stands for a thing of a kind: its name, and its other keys."""
     text = f"the name by which instructions and commands know the {kind.noun}"
     name = Key("name", text, "name")
-    return Shape(kind.noun, kind.plural, kind.symbol, (name, *keys), freertos)
+    return Shape(kind.noun, f"{kind.noun}s", kind.symbol, (name, *keys), freertos)
 
 
-QUEUE = of_kind(
-    kinds.QUEUE,
-    (
-        Key(
-            "length", "how many items there is room for", "number", 1, 64, freertos="uxQueueLength"
-        ),
-        Key("item", "how many bytes an item has", "number", 1, 64, freertos="uxItemSize"),
-    ),
-    freertos="xQueueCreate",
-)
-QUEUE_SET = of_kind(
-    kinds.QUEUE_SET,
-    (
-        Key(
-            "length",
-            "how many handles there is room for",
-            "number",
-            1,
-            2048,
-            freertos="uxEventQueueLength",
-        ),
-        Key(
-            "members",
-            "the names of the queues that are its members at boot",
-            "members",
-            freertos="xQueueAddToSet",
-        ),
-    ),
-    freertos="xQueueCreateSet",
-)
-STREAM = of_kind(
-    kinds.STREAM,
-    (
-        Key(
-            "size",
-            "how many bytes there is room for",
-            "number",
-            1,
-            1024,
-            freertos="xBufferSizeBytes",
-        ),
-        Key(
-            "trigger",
-            "how many bytes wake a reader that waits; 0 is taken as 1",
-            "number",
-            0,
-            1024,
-            most_key="size",
-            freertos="xTriggerLevelBytes",
-        ),
-    ),
-    freertos="xStreamBufferCreate",
-)
-MESSAGE = of_kind(
-    kinds.MESSAGE,
-    (
-        Key(
-            "size",
-            "how many bytes there is room for; each message takes four more than it has",
-            "number",
-            5,
-            1024,
-            freertos="xBufferSizeBytes",
-        ),
-    ),
-    freertos="xMessageBufferCreate",
-)
-GROUP = of_kind(kinds.GROUP, (), freertos="xEventGroupCreate")
-TASK = of_kind(
-    kinds.TASK,
-    (
-        Key(
-            "priority",
-            "the priority; a higher number is a higher one",
-            "number",
-            0,
-            31,
-            freertos="uxPriority",
-        ),
-        Key(
-            "code",
-            "the script: instructions, counted from 0, the last one end or jump",
-            "code",
-            1,
-            MOST_INSTRUCTIONS,
-            freertos="pxTaskCode",
-        ),
-    ),
-    freertos="xTaskCreate",
-)
+def number(
+    name: str, text: str, least: int, most: int, freertos: str = "", is_needed: bool = True
+) -> Key:
+    """A key whose value is a number."""
+    return Key(name, text, "number", least, most, is_needed, freertos=freertos)
 
 
 def objects(name: str, of: Shape, least: int = 0) -> Key:
@@ -154,39 +67,60 @@ def objects(name: str, of: Shape, least: int = 0) -> Key:
     return Key(name, text, "objects", least, 32, least > 0, of, freertos=of.freertos)
 
 
+ITEMS, ITEM = "how many items there is room for", "how many bytes an item has"
+HANDLES = "how many handles there is room for"
+MEMBERS = "the names of the queues that are its members at boot"
+BYTES = "how many bytes there is room for"
+TRIGGER = "how many bytes wake a reader that waits; 0 is taken as 1"
+PRIORITY = "the priority; a higher number is a higher one"
+CODE = "the script: instructions, counted from 0, the last one end or jump"
+ENTRIES = "how many notification entries each task has; 1 if it is left out"
+CORES = "how many cores there are; more than 8 in profile 2 alone"
+CORES_OF_C = "configNUMBER_OF_CORES"
+PROFILE = "the profile, which says what an application may have"
+BOOT = "the tick at boot; 0 if it is left out"
+
+QUEUE = of_kind(
+    kinds.QUEUE,
+    "xQueueCreate",
+    number("length", ITEMS, 1, 64, "uxQueueLength"),
+    number("item", ITEM, 1, 64, "uxItemSize"),
+)
+QUEUE_SET = of_kind(
+    kinds.QUEUE_SET,
+    "xQueueCreateSet",
+    number("length", HANDLES, 1, 2048, "uxEventQueueLength"),
+    Key("members", MEMBERS, "members", freertos="xQueueAddToSet"),
+)
+STREAM = of_kind(
+    kinds.STREAM,
+    "xStreamBufferCreate",
+    number("size", BYTES, 1, 1024, "xBufferSizeBytes"),
+    Key("trigger", TRIGGER, "number", 0, 1024, most_key="size", freertos="xTriggerLevelBytes"),
+)
+MESSAGE = of_kind(
+    kinds.MESSAGE,
+    "xMessageBufferCreate",
+    number(
+        "size", f"{BYTES}; each message takes four more than it has", 5, 1024, "xBufferSizeBytes"
+    ),
+)
+GROUP = of_kind(kinds.GROUP, "xEventGroupCreate")
+TASK = of_kind(
+    kinds.TASK,
+    "xTaskCreate",
+    number("priority", PRIORITY, 0, 31, "uxPriority"),
+    Key("code", CODE, "code", 1, MOST_INSTRUCTIONS, freertos="pxTaskCode"),
+)
 FILE = Shape(
     "application",
     "applications",
     "",
     (
-        Key("profile", "the profile, which says what an application may have", "number", 1, 2),
-        Key(
-            "cores",
-            "how many cores there are; more than 8 in profile 2 alone",
-            "number",
-            1,
-            16,
-            most_by_profile=(8, 16),
-            freertos="configNUMBER_OF_CORES",
-        ),
-        Key(
-            "notes",
-            "how many notification entries each task has; 1 if it is left out",
-            "number",
-            1,
-            4,
-            is_needed=False,
-            freertos="configTASK_NOTIFICATION_ARRAY_ENTRIES",
-        ),
-        Key(
-            "tick",
-            "the tick at boot; 0 if it is left out",
-            "number",
-            0,
-            MOST_TICK,
-            is_needed=False,
-            freertos="configINITIAL_TICK_COUNT",
-        ),
+        number("profile", PROFILE, 1, 2),
+        Key("cores", CORES, "number", 1, 16, most_by_profile=(8, 16), freertos=CORES_OF_C),
+        number("notes", ENTRIES, 1, 4, "configTASK_NOTIFICATION_ARRAY_ENTRIES", is_needed=False),
+        number("tick", BOOT, 0, MOST_TICK, "configINITIAL_TICK_COUNT", is_needed=False),
         objects(kinds.QUEUE.key, QUEUE),
         objects(kinds.QUEUE_SET.key, QUEUE_SET),
         objects(kinds.STREAM.key, STREAM),

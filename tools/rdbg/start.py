@@ -1,11 +1,45 @@
 """The beginning and the end of a companion: before its modules are there, and where they end."""
 import contextlib
+import os
 import signal
 import sys
-from typing import Sequence
+from typing import Iterator, List, Sequence
 
 from rdbg import caches
 from rdbg.ending import ENDING, Terminated
+
+HERE = os.path.dirname(os.path.abspath(__file__))
+# Where these are missing it does without.
+NOT_NEEDED = ("readline",)
+
+
+def used() -> Iterator[str]:
+    """The modules that are imported, a line each."""
+    for folder, _, files in os.walk(HERE):
+        for file in files:
+            if file.endswith(".py"):
+                with open(os.path.join(folder, file), encoding="utf-8") as lines:
+                    yield from filter(None, map(imported, lines))
+
+
+def imported(line: str) -> str:
+    """The module that a line imports; empty where it is another line."""
+    words = line.split()
+    is_import = len(words) == 2 and words[0] == "import"
+    is_from = len(words) > 3 and words[0] == "from" and words[2] == "import"
+    return words[1] if is_import or is_from else ""
+
+
+def lacking() -> List[str]:
+    """The modules that are missing, by name."""
+    found: List[str] = []
+    for name in sorted({*used()} - {*NOT_NEEDED}):
+        if name.partition(".")[0] != "rdbg":
+            try:
+                __import__(name)
+            except ImportError as error:
+                found.append((error.name or name).partition(".")[0])
+    return sorted({*found})
 
 
 def start(words: Sequence[str]) -> int:
@@ -27,8 +61,6 @@ def start(words: Sequence[str]) -> int:
     except Terminated:
         ENDING.leave(signal.SIGTERM)
     except ImportError as error:
-        from rdbg.lacking import lacking
-
         missing = lacking()
         lacks = f"this Python lacks {', '.join(missing)}: install python3"
         print(f"rdbg: {lacks if missing else error}", file=sys.stderr)

@@ -132,3 +132,15 @@ def objects(node: Optional[Node]) -> List[Object]:
     """The objects of a list; none where it is missing."""
     values = node.value if node is not None and isinstance(node.value, tuple) else ()
     return [each.value for each in values if isinstance(each.value, Object)]
+
+
+@dataclasses.dataclass(frozen=True)
+class Fault:
+    """A fault: where it is, its kind as rdbg says it (`L3 Limit`), and what would be right."""
+
+    place: Place
+    kind: str
+    message: str
+
+    def __str__(self) -> str:
+        return f"{self.place}: {self.message}"

@@ -1,8 +1,7 @@
 """Files that are written whole, or stay as they were.
 
 What is written stands beside the file until all of it is there, and then takes its place: who reads
-the file finds the old text or the new one, also where the writing fails or is ended.
-"""
+the file finds the old text or the new one, also where the writing fails or is ended."""
 import contextlib
 import errno
 import os
@@ -50,13 +49,6 @@ def beside(path: str) -> Tuple[int, str]:
         number += 1
 
 
-def keep_owner(made: int, there: os.stat_result) -> None:
-    """Gives a new file the owner and the mode of the one whose place it takes, as far as it may."""
-    with contextlib.suppress(OSError):
-        os.fchown(made, there.st_uid, there.st_gid)
-    os.fchmod(made, stat.S_IMODE(there.st_mode))
-
-
 def check(path: str) -> None:
     """Raises `Failure` where a file couldn't be written, as it is now. Nothing of it changes."""
     with trying(f"write {path}"):
@@ -92,7 +84,9 @@ def written(path: str) -> Iterator[IO[str]]:
         yield file
         with trying(f"write {path}"):
             if real and there is not None:
-                keep_owner(number, there)
+                with contextlib.suppress(OSError):
+                    os.fchown(number, there.st_uid, there.st_gid)
+                os.fchmod(number, stat.S_IMODE(there.st_mode))
             file.close()
             if real:
                 os.replace(made, real)

@@ -1,6 +1,7 @@
-"""How things of a file are shown in a message: on one line, and not too long."""
-
-from typing import Dict, Mapping
+"""How things of a file are shown in a message, on one line; and tables of words."""
+import difflib
+import re
+from typing import Dict, Iterable, List, Mapping, Optional
 
 MOST_SHOWN = 60
 
@@ -29,3 +30,16 @@ def by_word(table: Mapping[str, str]) -> Dict[str, str]:
 def with_article(noun: str) -> str:
     """`a queue`, `an event group`."""
     return f"an {noun}" if noun[0] in "aeiou" else f"a {noun}"
+
+
+def nearest(word: str, others: Iterable[str]) -> Optional[str]:
+    """The word that a slip would have made this one of, or none where nothing is near."""
+    found = difflib.get_close_matches(word.lower(), list(others), n=1, cutoff=0.6)
+    return found[0] if found else None
+
+
+def rows(table: str) -> List[List[str]]:
+    """The rows of a table, a line each, with `|` between their cells. A line that begins with
+    spaces goes on with the row above it."""
+    lines = re.sub(r"\n +", " ", table.strip()).split("\n")
+    return [[cell.strip() for cell in re.split(r" \|(?= |$)", line)] for line in lines]

@@ -1,8 +1,7 @@
 """A network of its own, in which another user connects to each port that is new, as fast as it can,
 while a room of root's opens, is asked lines, and ends. Prints what came of it as JSON.
 
-usage: alone.py FILE PORT LINES COMPANION, or what starts one
-"""
+usage: alone.py FILE PORT LINES COMPANION, or what starts one"""
 import ctypes
 import fcntl
 import json
@@ -13,12 +12,14 @@ import struct
 import subprocess
 import sys
 import time
-from typing import List
+from typing import Iterable, List, Set
 
 NEW_NETWORK, GET_FLAGS, SET_FLAGS, UP = 0x40000000, 0x8913, 0x8914, 1
 NOBODY = 65534
-PATIENCE = 60.0
-# Connects to each port of root's that it finds, says two lines there, and prints its number.
+# (as long as a room may take on a machine that has much to do)
+PATIENCE = 600.0
+# Prints an empty line where it begins to look. Then it connects to each port of root's that it finds,
+# says two lines there, and prints its number.
 ATTACKER = """
 import contextlib, socket, threading
 def come(port):
@@ -27,6 +28,7 @@ def come(port):
         there.settimeout(0.5)
         there.recv(100)
 seen = set()
+print(flush=True)
 while True:
     with open("/proc/net/tcp") as table:
         rows = [row.split() for row in table.readlines()[1:]]
@@ -72,27 +74,46 @@ def ask_all(port: int, count: int) -> List[str]:
     return replies
 
 
+def up_to(last: str, lines: Iterable[str]) -> Set[str]:
+    """The lines up to the first one that says this."""
+    found: Set[str] = set()
+    for line in lines:
+        found.add(line)
+        if line == f"{last}\n":
+            break
+    return found
+
+
 def main(file: str, port: str, count: str, *companion: str) -> None:
     """Says when the room listened, what it answered, how it ended, and where another came."""
     enter()
     attacker = subprocess.Popen(
-        ["/usr/bin/python3", "-I", "-c", ATTACKER], preexec_fn=become, stdout=subprocess.PIPE
+        ["/usr/bin/python3", "-I", "-c", ATTACKER],
+        preexec_fn=become,
+        stdout=subprocess.PIPE,
+        text=True,
     )
+    assert attacker.stdout is not None
+    attacker.stdout.readline()
     words = ["room", file, "--port", port, "--sessions", "8", "--history", "400"]
     room = subprocess.Popen(
         [*companion, *words], stdout=subprocess.PIPE, stderr=subprocess.PIPE, text=True
     )
     assert room.stdout is not None
+    replies, found = [], set()  # type: List[str], Set[str]
     try:
         listening = room.stdout.readline()
-        replies = ask_all(int(port), int(count)) if listening else []
+        if listening:
+            replies = ask_all(int(port), int(count))
+            found = up_to(port, attacker.stdout)
         room.send_signal(signal.SIGTERM)
         output, errors = room.communicate(timeout=PATIENCE)
     finally:
         room.kill()
         attacker.kill()
-        found = attacker.communicate()[0].split()
-    print(json.dumps([listening, replies, output, errors, room.returncode, len(set(found))]))
+        found.update(attacker.stdout)
+        attacker.wait()
+    print(json.dumps([listening, replies, output, errors, room.returncode, len(found)]))
 
 
 if __name__ == "__main__":

@@ -1,8 +1,7 @@
 """Broken applications, made from those of examples/ and bench/: the same ones each time.
 
 A file is broken once, or a few times, by edits that are picked by a seed: of its keys and values,
-of the words of its instructions, and of its bytes. Some of them are still accepted.
-"""
+of the words of its instructions, and of its bytes. Some of them are still accepted."""
 import json
 import pathlib
 import random

@@ -48,8 +48,16 @@ KEYS: Dict[str, Tuple[str, int, str]] = {
 }
 
 
+# What the browser answers where another page has come in the place of the one that was asked.
+GONE = ("Inspected target navigated or closed", "Execution context was destroyed.")
+
+
 class Missing(AssertionError):
     """There is no browser, or it doesn't answer."""
+
+
+class Gone(AssertionError):
+    """Another page has come in the place of the one that was asked."""
 
 
 def high(descriptor: int) -> int:
@@ -181,7 +189,8 @@ class Browser:
             answer = self._message(until)
             if answer.get("id") == self._number:
                 if "error" in answer:
-                    raise AssertionError(f"{method}: {answer['error']}")
+                    is_gone = answer["error"]["message"] in GONE
+                    raise (Gone if is_gone else AssertionError)(f"{method}: {answer['error']}")
                 result: Message = answer["result"]
                 return result
             self._take(answer)
@@ -243,13 +252,21 @@ class Browser:
         return answer["result"].get("value")
 
     def until(self, expression: str, seconds: float = PATIENCE) -> None:
-        """Waits until an expression is true on the page. Raises `Missing` where it doesn't come."""
+        """Waits until an expression is true on the page, which may be loaded anew meanwhile, and
+        what was asked for is shown. Raises `Missing` where it doesn't come."""
         end = time.monotonic() + seconds
-        while not self.value(expression):
+        while not self._has_come(expression):
             if time.monotonic() > end:
                 raise Missing(f"it doesn't come: {expression}")
             time.sleep(0.02)
-        self.settle()
+
+    def _has_come(self, expression: str) -> bool:
+        """Whether an expression is true; what was asked for is shown then."""
+        with contextlib.suppress(Gone):
+            if self.value(expression):
+                self.settle()
+                return True
+        return False
 
     def settle(self) -> None:
         """Waits until what was asked for is shown."""

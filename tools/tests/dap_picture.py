@@ -3,8 +3,7 @@
 usage, in tools/: python3 -B -m tests.dap_picture FILE.png
 
 It wants tmux, Emacs with dap-mode, and chromium. The program is that of `RDBG_PROGRAM`, or of the
-wrapper.
-"""
+wrapper."""
 import html
 import os
 import pathlib

@@ -1,5 +1,6 @@
-"""The scripts of the pages, as they are joined, and a look at them: `python3 -B -m tests.page_scripts`
-names each thing in them, and in their tests, that a rule of `javascript/eslint.json` forbids."""
+"""The scripts of the pages, as they are joined, and a look at them, and at those for editors:
+`python3 -B -m tests.page_scripts` names each thing in them, and in their tests, that a rule of
+`javascript/eslint.json` forbids."""
 import json
 import os
 import pathlib
@@ -10,19 +11,21 @@ from typing import Dict, Iterator, Sequence, Tuple
 from rdbg.page.document import SCRIPTS, joined_scripts
 from rdbg.rooms import web_document
 from rdbg.tracing.page import document as run_document
+from tests.paths import TOP
 
 HERE = pathlib.Path(__file__).resolve().parent / "javascript"
 PAGES: Dict[str, Tuple[pathlib.Path, ...]] = {
     "run": (*SCRIPTS, *run_document.SCRIPTS),
     "room": (*SCRIPTS, *web_document.SCRIPTS),
 }
-# What pages use of a browser, and tests of node.
+EDITORS = TOP / "tools" / "editors"
+# What pages use of a browser, and tests and editors of node.
 BROWSER = (
-    "Blob EventSource ResizeObserver URL URLSearchParams addEventListener clearTimeout document fetch"
-    " getComputedStyle history innerHeight localStorage location matchMedia navigator"
+    "Blob EventSource ResizeObserver URL URLSearchParams addEventListener clearTimeout document"
+    " fetch getComputedStyle history innerHeight localStorage location matchMedia navigator"
     " requestAnimationFrame sessionStorage setTimeout window"
 ).split()
-NODE = "global module process require".split()
+NODE = "__dirname __filename clearTimeout global module process require setTimeout".split()
 # Where Debian's programs find their modules, with any node.
 MODULES = "/usr/share/nodejs"
 
@@ -52,7 +55,7 @@ def main() -> int:
         for line, fault in faults(joined_scripts(files), BROWSER):
             file, own = file_at(files, line)
             found.add((str(file), own, fault))
-    for file in HERE.glob("*.js"):
+    for file in (*HERE.glob("*.js"), *EDITORS.rglob("*.js")):
         found |= {(str(file), *it) for it in faults(file.read_text(encoding="utf-8"), NODE)}
     for path, line, fault in sorted(found):
         print(f"{os.path.relpath(path)}:{line}: {fault}")

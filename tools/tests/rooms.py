@@ -12,7 +12,8 @@ from typing import Iterator, List, Optional, Sequence
 from tests.paths import COMPANION, EXAMPLES
 
 LOST = str(EXAMPLES / "lost_item.json")
-PATIENCE = 30.0
+# (long enough for a machine that has much to do)
+PATIENCE = 120.0
 
 
 def free_port() -> int:

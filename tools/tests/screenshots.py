@@ -5,8 +5,7 @@ usage, in tools/: python3 -B -m tests.screenshots FOLDER
 
 `light.png` is of the lost item and stands in README, `dark.png` of the full buffer, `long.png` of a
 long run with many objects; `room.png` is of a room with three and stands in docs/TOGETHER.md,
-`room_dark.png` is the same in dark. The program is that of `RDBG_PROGRAM`, or of the wrapper.
-"""
+`room_dark.png` is the same in dark. The program is that of `RDBG_PROGRAM`, or of the wrapper."""
 import dataclasses
 import pathlib
 import sys

@@ -1,4 +1,5 @@
-"""Searches for the tests: `rdbg reach` over a program that says what a test wants, or the real one."""
+"""Searches for the tests: `rdbg reach` over a program that says what a test wants, or the real
+one."""
 import contextlib
 import io
 import os
@@ -61,7 +62,8 @@ def real() -> Optional[str]:
 
 
 def said(*words: str) -> Tuple[int, str, List[str]]:
-    """The status of `rdbg reach` on these words, its standard output, and the lines of the other."""
+    """The status of `rdbg reach` on these words, its standard output, and the lines of the
+    other."""
     output, errors = io.StringIO(), io.StringIO()
     with contextlib.redirect_stdout(output), contextlib.redirect_stderr(errors):
         status = main(["reach", *words])

@@ -2,10 +2,8 @@
 
 A session is a fenced block that begins with `$`. Each line that begins so is a command for the
 shell, with the next lines where it ends with a backslash, and with its here-document where it has
-one; below it stands what it prints, on standard output
-and standard error. All sessions of a document run one after the other in one scratch folder, where
-`./rdbg` and `examples/` are.
-"""
+one; below it stands what it prints, on standard output and standard error. All sessions of a
+document run one after the other in one scratch folder, where `./rdbg` and `examples/` are."""
 import dataclasses
 import os
 import pathlib

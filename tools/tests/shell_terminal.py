@@ -15,8 +15,8 @@ PATIENCE = 30.0
 
 
 class Terminal:
-    """A companion with a terminal of its own, started by what stands in `head`. It waits for what it expects, however long that takes
-    on a busy machine."""
+    """A companion with a terminal of its own, started by what stands in `head`. It waits for what
+    it expects, however long that takes on a busy machine."""
 
     def __init__(
         self, *words: str, environment: Dict[str, str], head: Sequence[str] = (), name: str = "sh"

@@ -1,4 +1,5 @@
-"""docs/BUILD.md: its files have the form that they should, and its lines have words that there are."""
+"""docs/BUILD.md: its files have the form that they should, and its lines have words that there
+are."""
 import importlib
 import importlib.util
 import pathlib

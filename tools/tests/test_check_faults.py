@@ -2,8 +2,7 @@
 import unittest
 from typing import List
 
-from rdbg.checking.faults import MOST_FAULTS, faults_of
-from rdbg.checking.remarks import remarks_of
+from rdbg.checking.faults import MOST_FAULTS, faults_of, remarks_of
 from rdbg.files.source import source
 from rdbg.tree import Node, Place
 from tests.paths import EXAMPLES

@@ -2,8 +2,8 @@
 import unittest
 from typing import List
 
+from rdbg.checking.slips import statement
 from rdbg.files.source import source
-from rdbg.checking.statements import statement
 from tests.test_check_faults import FILE, faults, of_code
 
 

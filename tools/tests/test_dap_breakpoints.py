@@ -336,7 +336,7 @@ class Places(Held):
             worker = client.thread("worker")
             client.stopped("next", threadId=worker)
             said = client.refused("next", threadId=worker)
-            self.assertIn("worker is on no core: it waits at recv:jobs without end", said)
+            self.assertIn("worker is on no core: it waits at recv:jobs with no limit of time", said)
             self.assertIn("Step Out runs until it goes on", said)
             client.event("stopped")
             stop = client.stopped("stepOut", threadId=worker)

@@ -85,6 +85,8 @@ class Folders(Held):
         found = keys("| Key of `attach` | What it says |")
         self.assertEqual(set(attributes["attach"]["properties"]), found)
         self.assertEqual(attributes["attach"]["required"], ["port"])
+        for name in self.package["contributes"]["configuration"]["properties"]:
+            self.assertIn(f"`{name}`", PAGE)
 
     def test_the_files_are_there(self) -> None:
         language = self.package["contributes"]["languages"][0]

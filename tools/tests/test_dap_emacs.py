@@ -1,7 +1,6 @@
 """`rdbg dap`, driven by a client that isn't ours: Emacs with dap-mode, in batch.
 
-The hunts of docs/LOST_ITEM.md and docs/HUNTING.md are gone through in an editor's words.
-"""
+The hunts of docs/LOST_ITEM.md and docs/HUNTING.md are gone through in an editor's words."""
 import dataclasses
 import os
 import pathlib
@@ -61,8 +60,8 @@ HUNTS = (
             "step | at 6: producer 2 end, left core 1 (ended), poller took core 1",
             "step | at 7: poller 1 jump 0",
             "step | at 8: poller 0 recv jobs 0 -> 1, data 41, jobs 0/1",
-            "step | at 9: worker 0 recv jobs max, left core 0 (waits without end)",
-            "phase = waits at recv:jobs without end",
+            "step | at 9: worker 0 recv jobs max, left core 0 (waits with no limit of time)",
+            "phase = waits at recv:jobs with no limit of time",
             "function breakpoint | at 8: changes jobs",
             "step | at 7, before: poller 0 recv jobs 0 -> 1, data 41, jobs 0/1",
             "queue jobs = 1/1 41",
@@ -114,7 +113,8 @@ HUNTS = (
             "step | at 2: right 0 gset there 2 -> 3, there bits 3",
             "step | at 3: left 1 gwait there 3 all keep max -> 3",
             "step | at 4: left 2 gclear there 3 -> 3, there bits 0",
-            "exception | at 11: asleep: left waits at group:there without end; right waits at group:there without end",
+            "exception | at 11: asleep: left waits at group:there with no limit of time;"
+            " right waits at group:there with no limit of time",
             "function breakpoint | at 9: changes there",
             "function breakpoint | at 4: changes there",
             "group there = 0x000000",
@@ -143,7 +143,8 @@ HUNTS = (
             "entry | at 0: the start",
             "step | at 1: host 0 data 4142",
             "step | at 2: host 1 swrite rx 0 -> 2, rx 2/8 bytes",
-            "exception | at 26: asleep: parser waits at sread:rx without end; host waits at recv:acks without end",
+            "exception | at 26: asleep: parser waits at sread:rx with no limit of time;"
+            " host waits at recv:acks with no limit of time",
             "stream rx = 2/8 bytes 4344, waits: read: parser",
             "function breakpoint | at 24: changes rx",
             "function breakpoint | at 4: changes rx",
@@ -202,7 +203,8 @@ HUNTS = (
             "entry | at 0: the start",
             "function breakpoint | at 5: worker comes to 1",
             "step | at 6: worker 1 recv items 0 -> 0",
-            "exception | at 12: asleep: sender waits at recv:acks without end; worker waits at note:0 without end",
+            "exception | at 12: asleep: sender waits at recv:acks with no limit of time;"
+            " worker waits at note:0 with no limit of time",
             "queue items = 1/4 41",
             "function breakpoint | at 8: changes items",
             "function breakpoint | at 5: worker comes to 1",

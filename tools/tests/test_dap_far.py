@@ -1,4 +1,5 @@
-"""`rdbg dap` where a breakpoint is far: few lines find it, and what is known isn't looked for again."""
+"""`rdbg dap` where a breakpoint is far: few lines find it, and what is known isn't looked for
+again."""
 import pathlib
 import tempfile
 import time

@@ -173,10 +173,10 @@ class Pauses(Held):
         with editor() as client:
             client.begin(EXAMPLES / "turns.json", limit=1_000_000, moves=1_000_000)
             names = [it["name"] for it in client.ask("threads")["threads"]][1:]
-            asked = [{"name": f"reg {it.split(':')[0]} 7 > 1"} for it in names for _ in range(8)]
+            asked = [{"name": f"reg {it.split(':')[0]} 7 > 1"} for it in names for _ in range(30)]
             client.ask("setFunctionBreakpoints", breakpoints=asked)
             client.ask("continue", threadId=2)
-            time.sleep(0.2)
+            time.sleep(0.02)
             self.assertEqual(
                 client.refused("stackTrace", threadId=2), "the target runs: Pause first"
             )

@@ -103,7 +103,7 @@ class Ends(InFile):
             client.event("terminated")
 
     def test_a_long_continue_is_shown_and_cancelled(self) -> None:
-        with mock.patch("rdbg.adapter.progress.MOMENT", 0.0), editor() as client:
+        with mock.patch("rdbg.adapter.debugger.MOMENT", 0.0), editor() as client:
             client.ask("initialize", adapterID="rdbg", supportsProgressReporting=True)
             client.ask("launch", program=str(EXAMPLES / "turns.json"), limit=1_000_000)
             client.event("initialized")

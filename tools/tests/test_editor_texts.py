@@ -1,5 +1,5 @@
-"""What editors know of a text in lines: the words of both grammars, Emacs' mode, and what `check` says
-while one types."""
+"""What editors know of a text in lines: the words of both grammars, Emacs' mode, and what `check`
+says while one types."""
 import json
 import os
 import pathlib
@@ -211,7 +211,8 @@ class Emacs(unittest.TestCase):
             "              (not (memq 'rdbg-check-flymake (flymake-reporting-backends))))\n"
             "    (accept-process-output nil 0.05)))\n"
             "(dolist (it (sort (flymake-diagnostics)\n"
-            "                  (lambda (a b) (< (flymake-diagnostic-beg a) (flymake-diagnostic-beg b)))))\n"
+            "                  (lambda (a b) (< (flymake-diagnostic-beg a) (flymake-diagnostic-beg"
+            " b)))))\n"
             "  (goto-char (flymake-diagnostic-beg it))\n"
             '  (princ (format "%s %s:%s %s\\n" (flymake-diagnostic-type it) (line-number-at-pos)\n'
             "                 (1+ (current-column)) (flymake-diagnostic-text it))))\n"

@@ -1,5 +1,5 @@
-"""examples/faults: each fault is found, each right mend holds, and no wrong one passes for it; and the C
-of each is what its lines say."""
+"""examples/faults: each fault is found, each right mend holds, and no wrong one passes for it; and
+the C of each is what its lines say."""
 import contextlib
 import io
 import json
@@ -39,8 +39,8 @@ def pairs() -> Iterator[Tuple[Dict[str, Any], pathlib.Path]]:
 
 
 def calls_of_tasks() -> Iterator[Tuple[pathlib.Path, List[str], Call]]:
-    """The calls of FreeRTOS that the tasks of the faults make, by themselves or by another function of
-    theirs: with the file and its rows."""
+    """The calls of FreeRTOS that the tasks of the faults make, by themselves or by another function
+    of theirs: with the file and its rows."""
     for file in (FAULTS / name / f"{name}.c" for name in sorted(os.listdir(FAULTS))):
         text = file.read_text() if file.exists() else ""
         for block in blocks([it for it in pieces(text) if it.is_code]):

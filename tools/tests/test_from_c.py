@@ -270,7 +270,10 @@ class Drift(unittest.TestCase):
         self.assertRegex(said, "send done max: xQueueSend in line [0-9]+ has jobs as its object$")
 
     def test_a_handle_of_another_name(self) -> None:
-        body = "  xQueueReset(ctx->inbox); // rdbg: qreset q\n  xQueueReset(ctx->inbox); // rdbg: qreset other"
+        body = (
+            "  xQueueReset(ctx->inbox); // rdbg: qreset q\n"
+            "  xQueueReset(ctx->inbox); // rdbg: qreset other"
+        )
         (said,) = told(in_task(body, "queue other length 1 item 1"))
         self.assertRegex(said, "has ctx->inbox as its object, which is q in line 9$")
 
@@ -307,12 +310,16 @@ class Drift(unittest.TestCase):
         body = (
             '  printf("xQueueSend(q)"); // xQueueSend(q, 0, 0)\n'
             "  /* xQueueReset(q);\n     xQueueReset(q); */\n"
-            "#define SEND(q) xQueueSend(q, \\\n  0, 0)\n  char c = '\"'; xQueueReset(q); // rdbg: qreset q"
+            "#define SEND(q) xQueueSend(q, \\\n  0, 0)\n  char c = '\"'; xQueueReset(q); // rdbg:"
+            " qreset q"
         )
         self.assertEqual(told(in_task(body)), [])
 
     def test_two_calls_in_a_line(self) -> None:
-        body = "  // rdbg: count q\n  // rdbg: recv q 0\n  if (uxQueueMessagesWaiting(q) && xQueueReceive(q, &x, 0)) { }"
+        body = (
+            "  // rdbg: count q\n"
+            "  // rdbg: recv q 0\n  if (uxQueueMessagesWaiting(q) && xQueueReceive(q, &x, 0)) { }"
+        )
         self.assertEqual(told(in_task(body)), [])
         self.assertEqual(len(told(in_task(body.replace("// rdbg: count q", "")))), 1)
 
@@ -415,7 +422,8 @@ class Through(unittest.TestCase):
         come = SHARED.replace("    return", "    xQueueReset(q);\n    return")
         (said,) = self.told(come)
         self.assertEqual(
-            "22:3: xQueueReset in line 6, which get calls, has no line here: // rdbg(get): qreset q",
+            "22:3: xQueueReset in line 6, which get calls, has no line here: // rdbg(get): qreset"
+            " q",
             said,
         )
         left = GET.replace("  get(&x", "  // rdbg(get): skip\n  get(&x")

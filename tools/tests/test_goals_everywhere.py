@@ -92,7 +92,8 @@ class Everywhere(unittest.TestCase):
             try:
                 for goal, _ in WRONG:
                     words = ["reach", "lost", "doomed", "until!", "rc!", "until"]
-                    # (as at the prompt: rdbg refuses a name alone itself, and a hint tells which is near)
+                    # (as at the prompt: rdbg refuses a name alone itself, and a hint tells which is
+                    # near)
                     words += ["back until"] if "jbos" not in goal else []
                     for word in words:
                         yield word, goal, page.ask(f"{word} {goal}")

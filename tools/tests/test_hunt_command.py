@@ -13,9 +13,11 @@ from typing import List
 from tests import searches
 from tests.fake import program
 from tests.hunts import path, replayed, said, written
-from tests.paths import COMPANION
+from tests.paths import COMPANION, TOP
 
 LOST = path("lost_item")
+# A search that takes longer than anybody waits: a goal of the tick has each tick told apart.
+LONG = (path("soak"), "tick = 4294967295")
 QUICK = ("--moves", "12", "--surprises", "1")
 
 
@@ -178,8 +180,16 @@ class Statuses(unittest.TestCase):
         ):
             self.assertEqual(status, said(LOST, goal, *QUICK, "--expect", expected)[0])
 
+    def test_differs_ends_with_its_time(self) -> None:
+        # (sixteen tasks that go on for ever are left at many places, each of which is asked of)
+        kernel = str(TOP / "bench" / "kernel.json")
+        began = time.monotonic()
+        status, _, errors = said(kernel, "differs", "--within", "0.5")
+        self.assertLess(time.monotonic() - began, 60)
+        self.assertEqual((2, "that isn't all: the time was up"), (status, errors[-1]))
+
     def test_a_limit_of_time(self) -> None:
-        words = [path("soak"), "reg sensor 7 = 1", "--within", "1"]
+        words = [*LONG, "--within", "1"]
         began = time.monotonic()
         expectations: List[List[str]] = [[], ["--expect", "none"], ["--expect", "found"]]
         for expected in expectations:
@@ -318,23 +328,21 @@ class Interrupted(unittest.TestCase):
     """Ctrl-C."""
 
     def test_it_says_what_was_gone_through(self) -> None:
-        # (a search that takes longer than anybody waits)
-        words = [path("soak"), "reg sensor 7 = 1"]
         ran = subprocess.Popen(
-            [sys.executable, "-B", str(COMPANION), "hunt", *words],
+            [sys.executable, "-B", str(COMPANION), "hunt", *LONG],
             stdout=subprocess.PIPE,
             stderr=subprocess.PIPE,
             text=True,
         )
         # (once it has started a process of its own it is at work)
         children = pathlib.Path(f"/proc/{ran.pid}/task/{ran.pid}/children")
-        while not children.read_text().strip():
+        while ran.poll() is None and not children.read_text().strip():
             time.sleep(0.1)
         time.sleep(2)
         ran.send_signal(signal.SIGINT)
         _, errors = ran.communicate(timeout=60)
         self.assertEqual(130, ran.returncode, errors)
-        self.assertRegex(errors, "none found: reg sensor 7 = 1\nfull: not within")
+        self.assertRegex(errors, "none found: tick = 4294967295\nfull: not within")
         self.assertIn("that isn't all: Ctrl-C came", errors)
         self.assertNotIn("Traceback", errors)
 

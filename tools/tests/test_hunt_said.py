@@ -1,5 +1,5 @@
-"""What `rdbg hunt` says where it finds none: of which orders that is so, and which instructions none of
-them came to. It is asked by its words, and what it prints is read."""
+"""What `rdbg hunt` says where it finds none: of which orders that is so, and which instructions
+none of them came to. It is asked by its words, and what it prints is read."""
 import json
 import re
 import tempfile
@@ -16,7 +16,8 @@ COUNTS = """{"profile": 1, "cores": 1,
 "tasks": [{"name": "a", "priority": 1, "code": ["add r1 1", "jump 0"]}]}"""
 # The first task counts for ever, once it finds the item; by `forward` it finds none, and ends.
 LATE = """{"profile": 1, "cores": 2, "queues": [{"name": "q", "length": 1, "item": 1}],
-"tasks": [{"name": "a", "priority": 1, "code": ["recv q 0", "jumpz r0 4", "add r1 1", "jump 2", "end"]},
+"tasks": [{"name": "a", "priority": 1,
+ "code": ["recv q 0", "jumpz r0 4", "add r1 1", "jump 2", "end"]},
 {"name": "b", "priority": 1, "code": ["data 41", "send q 0", "end"]}]}"""
 # Behind the last surprise, that it finds the item, the first task jumps to where it counts.
 JUMPS = """{"profile": 1, "cores": 2, "queues": [{"name": "q", "length": 1, "item": 1}],
@@ -26,8 +27,9 @@ JUMPS = """{"profile": 1, "cores": 2, "queues": [{"name": "q", "length": 1, "ite
 # Two that go round and round, a core each: one surprise, and they go round otherwise.
 ROUND = """{"profile": 1, "cores": 2, "tasks": [
 {"name": "a", "priority": 1, "code": ["set r1 1", "set r1 0", "jump 0"]},
-{"name": "b", "priority": 1, "code": ["set r1 1", "set r1 2", "set r1 3", "set r1 0", "jump 0"]}]}"""
-# It waits without end, until an interrupt comes.
+{"name": "b", "priority": 1,
+ "code": ["set r1 1", "set r1 2", "set r1 3", "set r1 0", "jump 0"]}]}"""
+# It waits with no limit of time, until an interrupt comes.
 WAITS = """{"profile": 2, "cores": 1,
 "tasks": [{"name": "a", "priority": 1, "code": ["take 0 clear max", "add r1 1", "jump 1"]}]}"""
 ITEM = re.compile(r"(\w+) (\d+): ")
@@ -123,8 +125,8 @@ class Instructions(Asked):
         return frozenset((task, int(pc)) for task, pc in ITEM.findall("\n".join(errors)))
 
     def check(self, seed: int, surprises: int, moves: int, *handlers: str) -> int:
-        """Exactly those are named at which no task is on a core, or waits, in any order. Answers how
-        many."""
+        """Exactly those are named at which no task is on a core, or waits, in any order. Answers
+        how many."""
         text = small(seed)
         isr = [word for handler in handlers for word in ("--isr", handler)]
         tasks = json.loads(text)["tasks"]
@@ -151,7 +153,8 @@ class Instructions(Asked):
             self.check(seed, 1, 5, "notify a 0 1 inc", "send q 41; notify a 0 2 set")
 
     def test_long_orders(self) -> None:
-        # (a loop is five instructions and five ticks: behind 700 of them it counts one more, and jumps)
+        # (a loop is five instructions and five ticks: behind 700 of them it counts one more, and
+        # jumps)
         late = """{"profile": 1, "cores": 1, "tasks": [{"name": "a", "priority": 1,
         "code": ["add r1 1", "move r2 r1", "add r2 4294966595", "jumpz r2 5", "jump 0", "end"]}]}"""
         words = ["--surprises", "0", "--moves"]

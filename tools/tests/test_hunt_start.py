@@ -1,8 +1,7 @@
-"""`rdbg hunt` by its words, held against searches of their own: through every order, with the fewest
-moves, and by surprises; the start, where no move is made yet, is a state as each other.
+"""`rdbg hunt` by its words, held against searches of their own: through every order, with the
+fewest moves, and by surprises; the start, where no move is made yet, is a state as each other.
 
-Whatever searches is held to this: it asks by the command line, and reads what is printed.
-"""
+Whatever searches is held to this: it asks by the command line, and reads what is printed."""
 import tempfile
 import unittest
 from typing import List, Optional, Tuple
@@ -17,7 +16,8 @@ ONE = """{"profile": 1, "cores": 1,
 NEVER = "reg a 7 = 1"
 # Of them several hold at the start of each application, and some never.
 GOALS = (
-    *("reg a 1 = 0", "reg a 1 = 1", "reg a 0 = 1", "pc a = 0", "pc a > 1", "count q = 0", "count q > 0"),
+    *("reg a 1 = 0", "reg a 1 = 1", "reg a 0 = 1", "pc a = 0", "pc a > 1", "count q ="
+        " 0", "count q > 0"),
     *("phase a run", "phase a ended", "phase a wait", "note a 0 < 1", "reg a 1 > 2", STUCK, FAILED),
 )  # fmt: skip
 SEEDS = range(6)

@@ -1,4 +1,5 @@
-"""The pages' scripts in node, without a browser: words, ranges, lanes, keys, ways, a run that grows."""
+"""The pages' scripts in node, without a browser: words, ranges, lanes, keys, ways, a run that
+grows; and the code for VS Code, without that."""
 import json
 import os
 import subprocess
@@ -7,7 +8,7 @@ import unittest
 from tests.page_scripts import HERE, PAGES
 
 # What the tests have in common, which has none of its own.
-COMMON = "page"
+COMMON = {"page", "vscode"}
 
 
 class Scripts(unittest.TestCase):
@@ -20,7 +21,8 @@ class Scripts(unittest.TestCase):
             ["node", str(HERE / f"{name}.js")],
             stdout=subprocess.PIPE,
             stderr=subprocess.STDOUT,
-            env={**os.environ, "RDBG_PAGES": json.dumps(pages)},
+            # (the code for VS Code finds the stand-in for it here)
+            env={**os.environ, "RDBG_PAGES": json.dumps(pages), "NODE_PATH": str(HERE)},
             universal_newlines=True,
         )
         self.assertEqual(0, ran.returncode, ran.stdout)
@@ -58,9 +60,12 @@ class Scripts(unittest.TestCase):
     def test_room(self) -> None:
         self.check("room")
 
+    def test_marks(self) -> None:
+        self.check("marks")
+
     def test_all_are_run(self) -> None:
         run = {it[len("test_") :] for it in dir(self) if it.startswith("test_")} - {"all_are_run"}
-        self.assertEqual({file.stem for file in HERE.glob("*.js")} - {COMMON}, run)
+        self.assertEqual({file.stem for file in HERE.glob("*.js")} - COMMON, run)
 
 
 if __name__ == "__main__":

@@ -1,5 +1,5 @@
-"""`if`, `while`, `loop` and their kin in a text in lines: what they become, and that it does what is
-written, at the cost that is said."""
+"""`if`, `while`, `loop` and their kin in a text in lines: what they become, and that it does what
+is written, at the cost that is said."""
 import json
 import pathlib
 import tempfile
@@ -319,6 +319,12 @@ class Shown(unittest.TestCase):
         said = [str(it) for it in made(self.TEXT).remarks]
         cost = "6 moves, 7 where it jumps, by entry 1 and r7"
         self.assertEqual([f"7:1: note: {cost}; r0 is another in between, and then as before"], said)
+
+    def test_nothing_is_said_of_a_line_that_is_refused(self) -> None:
+        used = "".join(f"    set r{number} 1\n" for number in range(1, 8))
+        lines = f"cores 1\ntask t priority 1\n{used}    if r1 & 4 goto out\nout:\n    end\n"
+        found = source("x.fw", lines.encode())
+        self.assertEqual(([], 1), (list(found.remarks), len(found.faults)))
 
     def test_it_is_an_application_like_any_other(self) -> None:
         with made(self.TEXT).as_json() as path:

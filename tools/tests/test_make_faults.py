@@ -197,7 +197,8 @@ class Instructions(unittest.TestCase):
         ),
         (
             "data 01 0B1_0000_0001",
-            ":9: {}: 0B1_0000_0001 is no bytes: they are pairs of hexadecimal digits: write data 0101",
+            ":9: {}: 0B1_0000_0001 is no bytes: they are pairs of hexadecimal digits: write data"
+            " 0101",
         ),
         ("gset flags RX|BIT_3", ":15: {}: BIT_3 is no number and no const; write 8"),
         (

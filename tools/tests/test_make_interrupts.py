@@ -85,8 +85,8 @@ class Reads(unittest.TestCase):
         " notify K 0 0 inc",
         "ping: xSemaphoreGiveFromISR(done)": "xSemaphoreGiveFromISR is written give NAME",
         "ping: give dome": "give NAME: dome is no semaphore",
-        "ping: give lock": "lock has an item while it is taken, and no interrupt takes one out: let a"
-        " task of the highest priority play it, with wait for its time (docs/FROM_C.md)",
+        "ping: give lock": "lock has an item while it is taken, and no interrupt takes one out: let"
+        " a task of the highest priority play it, with wait for its time (docs/FROM_C.md)",
     }
     ROUND = ("recv rx 0", "swrite s 0", "gset g 1", "xStreamBufferSendFromISR(s)")
 
@@ -194,7 +194,10 @@ class Searched(unittest.TestCase):
                 self.assertEqual([beside] if beside else [], [it for it in said if "with" in it])
 
     def test_a_task_named_none(self) -> None:
-        text = "cores 1\ntask none priority 1\ntake 0 clear max\nend\ninterrupt go: notify none 0 0 inc\n"
+        text = (
+            "cores 1\ntask none priority 1\ntake 0 clear max\n"
+            "end\ninterrupt go: notify none 0 0 inc\n"
+        )
         pathlib.Path(self.path).write_text(text)
         self.assertEqual("found", self.reach("ended none")[1][0])
         self.assertEqual("never", self.reach("ended none", "--isr=none")[1][0])
@@ -344,7 +347,10 @@ class Waits(unittest.TestCase):
         self.assertEqual(1, application("cores 1\ntask t priority 1\nwait 3\nend\n").profile)
 
     def test_a_queue_that_is_there_already(self) -> None:
-        text = "cores 1\nqueue never length 2 item 3\nqueue q length 1 item 1\ntask t priority 1\nwait 3\n"
+        text = (
+            "cores 1\nqueue never length 2 item 3\n"
+            "queue q length 1 item 1\ntask t priority 1\nwait 3\n"
+        )
         self.assertEqual(["never", "q"], [it.name for it in application(text + "end\n").queues])
         found = faults((text + "send never 0\nend\n").encode())
         said = "queue never is what wait receives from, and nothing may fill it"

@@ -131,7 +131,8 @@ class Lines(unittest.TestCase):
             "char a[10];": "no line begins with char: a script has no variables:"
             " r0 to r7 stand for them",
             "}": "there are no braces: loop, while and if end with end",
-            "for (r1 = 3; r1; r1--) {": "for is written loop, or set R N and while R with add R -1 in it",
+            "for (r1 = 3; r1; r1--) {": "for is written loop, or set R N and while R with add R -1"
+            " in it",
             "do {": "do is written loop, with if TEST break in it",
             "switch (r0) {": "switch is written if R = N goto L, a line for each N",
             "endif": "endif is written end",

@@ -7,9 +7,9 @@ from typing import List, Mapping
 
 from rdbg.application import Application
 from rdbg.client import Session
+from rdbg.companions.make import expansions
 from rdbg.failure import Failure
 from rdbg.files.source import Source, source
-from rdbg.firmware.expansion import expansions
 from rdbg.firmware.writer import jumps_of, text_of
 from rdbg.json_layout import json_of
 from rdbg.page.recorder import code_of
@@ -85,7 +85,8 @@ class Semaphores(unittest.TestCase):
     """Semaphores and mutexes."""
 
     def answers(self, *lines: str) -> List[int]:
-        """What lines are answered, one behind the other, of which none waits; and the data stays."""
+        """What lines are answered, one behind the other, of which none waits; and the data
+        stays."""
         text = LOCKS.format("\n".join(lines))
         found: List[int] = []
         with made(text).as_json() as path, Session.run(path) as session:
@@ -163,13 +164,16 @@ class Semaphores(unittest.TestCase):
 
     def test_queues_keep_their_order(self) -> None:
         app = application(
-            "cores 1\nqueue a length 1 item 1\nmutex b\nqueue c length 1 item 1\ntask t priority 1\nend\n"
+            "cores 1\nqueue a length 1 item 1\nmutex b\nqueue c length 1 item 1\ntask t priority"
+            " 1\nend\n"
         )
         self.assertEqual(["a", "b", "c"], [it.name for it in app.queues])
 
     REFUSED = {
-        "recv lock max": 'task t, instruction 1: "recv lock max": lock is a mutex: take lock T, give lock',
-        "send done 0": 'task t, instruction 1: "send done 0": done is a semaphore: take done T, give done',
+        "recv lock max": 'task t, instruction 1: "recv lock max": lock is a mutex: take lock T,'
+        " give lock",
+        "send done 0": 'task t, instruction 1: "send done 0": done is a semaphore: take done T,'
+        " give done",
         "take lock": "take NAME T lacks its block time (max, a number, or r0 to r7)",
         "take lock 5 6": "take NAME T: 6 is too much",
         "give jobs": "give NAME: jobs is no semaphore and no mutex; there is lock, done, pool",
@@ -191,8 +195,8 @@ class Semaphores(unittest.TestCase):
         "semaphore s given 3": "3 is no key: semaphore NAME length N given",
         "semaphore s length": "a number is missing behind length",
         "mutex lock": "queue lock stands twice; the first is at 2:7",
-        "set s length 3 members lock": "lock is given at the start, and has an item while it is taken:"
-        " in a set it would be seen as it is taken, not as it is given",
+        "set s length 3 members lock": "lock is given at the start, and has an item while it is"
+        " taken: in a set it would be seen as it is taken, not as it is given",
     }
 
     def test_refused_objects(self) -> None:
@@ -208,7 +212,10 @@ class Semaphores(unittest.TestCase):
 class Given(unittest.TestCase):
     """Consts that are given beside the text."""
 
-    TEXT = "cores 1\nconst LONG 5\nconst MORE LONG|8\ntask t priority 1\nset r1 LONG\nset r2 MORE\nend\n"
+    TEXT = (
+        "cores 1\nconst LONG 5\nconst MORE LONG|8\n"
+        "task t priority 1\nset r1 LONG\nset r2 MORE\nend\n"
+    )
 
     def test_they_stand_for_those_of_the_text(self) -> None:
         found = application(self.TEXT, {"LONG": 3})
@@ -243,7 +250,8 @@ class Comments(unittest.TestCase):
     """Comments go to where pages show them."""
 
     TEXT = (
-        "// of the file\ncores 1\ntask t priority 1  // of the task\n  // one\n  /* two */ # three\n"
+        "// of the file\ncores 1\ntask t priority 1  // of the task\n  // one\n  /* two */ #"
+        " three\n"
         "  add r1 1 // beside\n\n  loop // of no instruction\n    /* a long\n     * one */\n"
         "    add r2 1\n  end\n"
     )

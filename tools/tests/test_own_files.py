@@ -1,5 +1,5 @@
-"""Files that have what somebody typed: who reads them, through which links they are written, and onto
-which files they aren't."""
+"""Files that have what somebody typed: who reads them, through which links they are written, and
+onto which files they aren't."""
 import os
 import pathlib
 import stat
@@ -154,6 +154,15 @@ class Links(Case):
         with example("lost_item") as shell:
             answers = said(shell, f"save! {link}")
         self.assertEqual([f"# cannot write {link}: {OF_ANOTHER}"], answers)
+
+    @unittest.skipUnless(os.geteuid() == 0, "of root alone")
+    def test_no_folder_is_made_behind_one_of_another_user(self) -> None:
+        (self.folder / "there").mkdir()
+        link = self.folder / "link"
+        link.symlink_to(self.folder / "there")
+        os.lchown(link, NOBODY, -1)
+        type_a_line(str(link / "rdbg" / "history"))
+        self.assertEqual([], [*(self.folder / "there").iterdir()])
 
     def test_ones_own_are_followed(self) -> None:
         for name, way in ALL.items():

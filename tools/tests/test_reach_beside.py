@@ -1,5 +1,5 @@
-"""What is told beside an answer about a text in lines, and that the interrupts that it declares come to
-each search of which nothing else is said."""
+"""What is told beside an answer about a text in lines, and that the interrupts that it declares
+come to each search of which nothing else is said."""
 import contextlib
 import io
 import os
@@ -134,7 +134,10 @@ class Told(unittest.TestCase):
 
     def application(self, script: str) -> Application:
         """One of a task of this script, and one that waits without a deadline."""
-        text = "cores 1\nqueue q length 1 item 1\ntask u priority 1\nrecv q max\nend\ntask t priority 1\n"
+        text = (
+            "cores 1\nqueue q length 1 item 1\ntask u priority 1\n"
+            "recv q max\nend\ntask t priority 1\n"
+        )
         found = source("x.fw", f"{text}{script}\n".encode())
         assert found.application is not None, found.faults
         return found.application

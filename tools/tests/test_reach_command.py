@@ -172,6 +172,12 @@ class Ended(InFolder):
                 head = f"full: not within 13 moves and {surprises} surprises\n"
                 self.assertTrue(output.startswith(head), output)
 
+    def test_what_is_lost_or_doomed_has_no_bound(self) -> None:
+        wanted = SAID_FURTHER.replace("full: not within 13 moves", "full")
+        for option in ("--lost", "--doomed"):
+            with self.subTest(option), program("", FURTHER, SLEEPS):
+                self.assertEqual((2, wanted, []), said(*ASKED, option, "--within", "1"))
+
     def test_half_a_line_says_nothing(self) -> None:
         for half in (FURTHER[:-8], FURTHER[:20], FURTHER[:3]):
             with self.subTest(half), program("", FAR + half, SLEEPS):
@@ -245,6 +251,12 @@ class Files(InFolder):
                 said(*ASKED, "-o", "found.commands")
                 self.assertEqual("tick\n", self.file.read_text())
         self.assertEqual(["found.commands"], os.listdir("."))
+
+    def test_not_where_a_goal_could_never_come(self) -> None:
+        self.file.write_text("tick\n")
+        with program("lost at 0\nstates 5 moves 9 deepest 4\n"):
+            self.assertEqual(0, said(*ASKED, "--lost", "-o", "found.commands")[0])
+        self.assertEqual("tick\n", self.file.read_text())
 
     def test_a_place_where_it_cant_be_written_is_refused_before_the_search(self) -> None:
         os.mkdir("folder")

@@ -115,7 +115,8 @@ class Settings(Real):
     """What the lines change, and the answers, which are those that one question has."""
 
     def check(self, file: str, *turns: Tuple[str, Sequence[str]]) -> None:
-        """That each goal is answered as by a program with these options, behind the lines before."""
+        """That each goal is answered as by a program with these options, behind the lines
+        before."""
         lines, wanted = [], []
         for line, options in turns:
             lines.append(line)

@@ -1,5 +1,5 @@
-"""The enumeration that the search through orders is held against: its worked figures, its clock, what
-it takes for one, and what it finds wrong."""
+"""The enumeration that the search through orders is held against: its worked figures, its clock,
+what it takes for one, and what it finds wrong."""
 import contextlib
 import json
 import pathlib
@@ -19,6 +19,7 @@ from tests.reaching.machine import Alike, Machine
 from tests.reaching.questions import EXACT, SURPRISES
 from tests.reaching.saying import AT_LAST_TICK, Asked, Tally, said
 from tests.reaching.states import State, by_clock, by_laws
+from tests.reaching import unread as unread_
 from tests.reaching.unread import unread, without
 from tests.reaching.worked import UNREAD, WORKED
 
@@ -50,40 +51,62 @@ class Worked(unittest.TestCase):
     def test_figures_without_what_nobody_reads(self) -> None:
         for name, expected in UNREAD.items():
             file = EXAMPLES / f"{name}.json"
-            registers = unread(json.loads(file.read_text()), NOWHERE.words)
+            hidden = unread(json.loads(file.read_text()), NOWHERE.words)
             with self.subTest(name), Machine(program(), file) as machine:
-                alike = Alike(machine, lambda state: without(registers, by_laws(state)))
+                alike = Alike(machine, lambda state: without(hidden, by_laws(state)))
                 there = Enumeration(alike, Rules(Schedule()), 1_000, MOST_PLACES)
                 self.assertTrue(there.is_all)
                 self.assertEqual((len(there.places), there.made), expected)
 
 
 class Unread(unittest.TestCase):
-    """Which registers nobody reads."""
+    """What nobody reads."""
 
     def out(self, *code: str, words: str = "asleep") -> List[int]:
         """The registers of a task with this script that it counts in and nobody reads."""
         application = {"tasks": [{"name": "a", "code": [*code, "jump 0"]}]}
         left = unread(application, words)
-        return [number for number in range(8) if ("a", number) in left]
+        return [number for number in range(8) if ("a", number) in left.registers]
 
     def test_what_only_counts(self) -> None:
         self.assertEqual(self.out("set r2 7", "add r3 1", "unpack r4", "recv r5 max"), [3])
 
     def test_what_counts_round_by_round(self) -> None:
         code = ["add r1 1", "add r2 1", "jumpz r0 1", "add r3 1", "end"]
-        self.assertEqual(unread({"tasks": [{"name": "a", "code": code}]}, "asleep"), {("a", 2)})
+        left = unread({"tasks": [{"name": "a", "code": code}]}, "asleep")
+        self.assertEqual(left.registers, {("a", 2)})
 
-    def test_what_is_tested_packed_or_an_operand(self) -> None:
+    def between(self, sends: List[str], receives: List[str]) -> unread_.Unread:
+        """What nobody reads of two tasks of these scripts, round by round, and a queue between
+        them."""
+        tasks = [
+            {"name": "a", "code": [*sends, "jump 0"]},
+            {"name": "b", "code": [*receives, "jump 0"]},
+        ]
+        return unread({"tasks": tasks}, "asleep")
+
+    def test_what_is_packed_into_what_nobody_reads(self) -> None:
+        self.assertEqual(self.out("add r7 1", "pack r7"), [7])
+        self.assertEqual(self.out("add r7 1", "pack r7", "swrite w max"), [])
+        self.assertEqual(self.out("add r7 1", "pack r7", "unpack r2", "jumpz r2 0"), [])
+
+    def test_what_goes_through_a_queue(self) -> None:
+        sends = ["add r7 1", "pack r7", "send q max"]
+        left = self.between(sends, ["recv q max", "unpack r1"])
+        self.assertEqual(left, ({("a", 7), ("b", 1)}, {"a", "b"}, {"q"}))
+        for reads in (["recv q max", "unpack r1", "jumpz r1 0"], ["peek q max", "mwrite m max"]):
+            with self.subTest(reads):
+                self.assertEqual(self.between(sends, reads), (set(), set(), set()))
+
+    def test_what_is_tested_or_an_operand(self) -> None:
         self.assertEqual(self.out("add r2 1", "add r3 1", "jumpz r2 0"), [3])
-        self.assertEqual(self.out("add r7 1", "pack r7"), [])
         self.assertEqual(self.out("add r3 1", "sread w 4 r3"), [])
         self.assertEqual(self.out(*(f"add r{it} 1" for it in range(5)), "gsync g r1 r2 r4"), [0, 3])
         self.assertEqual(self.out("add r6 1", "notify a 0 r6 inc"), [])
 
     def test_what_is_moved_on(self) -> None:
         self.assertEqual(self.out("add r1 1", "move r2 r1", "move r3 r2"), [1, 2, 3])
-        self.assertEqual(self.out("add r1 1", "move r2 r1", "move r3 r2", "pack r3"), [])
+        self.assertEqual(self.out("add r1 1", "move r2 r1", "move r3 r2", "jumpz r3 0"), [])
 
     def test_what_the_goal_speaks_of(self) -> None:
         code = ("add r2 1", "add r3 1", "move r4 r2")
@@ -92,8 +115,11 @@ class Unread(unittest.TestCase):
 
     def test_what_is_shown(self) -> None:
         view = "task a core - pc 0 phase run regs 4,5,6 data 05 notes 0:waiting"
-        (seen,) = without(frozenset([("a", 1), ("b", 0)]), (view,))
-        self.assertEqual(seen, view.replace("4,5,6", "4,-,6"))
+        queue = "queue q 2/3 items 05 07 recv - send b set -"
+        hidden = unread_.Unread(frozenset([("a", 1), ("b", 0)]), frozenset("a"), frozenset("q"))
+        seen = without(hidden, (view, queue))
+        self.assertEqual(seen[0], view.replace("4,5,6", "4,-,6").replace("data 05", "data 2"))
+        self.assertEqual(seen[1], queue.replace("05 07", "-"))
 
 
 def shown(tick: int, turn: int, phase: str) -> State:

@@ -1,6 +1,7 @@
 """What `ci/release` makes: the same each time, and an rdbg that wants nothing of a checkout."""
 import gzip
 import hashlib
+import json
 import os
 import pathlib
 import re
@@ -246,6 +247,16 @@ class Installed(Released):
                 self.assertEqual(said[1], f"rdbg is not proved; its SHA-256 is {summed}")
                 self.assertRegex(said[2], "^rdreach is not proved; its SHA-256 is [0-9a-f]{64}$")
 
+    def test_a_report_says_which_it_is(self) -> None:
+        place = self.places()["tar.gz"]
+        meeting = str(place / "share/rdbg/examples/meeting.json")
+        self.run_it(place, "hunt", meeting, "asleep", "--report", "found.sarif", status=1)
+        report = json.loads((self.folder / "home" / "found.sarif").read_text())
+        driver = report["runs"][0]["tool"]["driver"]
+        self.assertEqual(driver["version"], VERSION)
+        said = self.run_it(place, "--version").stdout.splitlines()
+        self.assertEqual(driver["fullName"], "; ".join(said))
+
     def test_another_program_in_its_place(self) -> None:
         place = self.folder / "other"
         shutil.copytree(self.places()["deb"], place)
@@ -278,6 +289,7 @@ class Installed(Released):
                     f"share/zsh/{zsh}/_rdbg",
                     "share/rdbg/docs/application.schema.json",
                     "share/rdbg/editors/emacs/rdbg-dap.el",
+                    "share/rdbg/editors/vscode/extension.js",
                     "share/rdbg/README.md",
                     "share/doc/rdbg/copyright",
                 ):

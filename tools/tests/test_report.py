@@ -1,4 +1,4 @@
-"""`hunt --report` and `reach --report`: what came of a search, as SARIF."""
+"""`hunt --report` and `reach --report`: what came of a search, as SARIF or JUnit's XML."""
 import json
 import os
 import pathlib
@@ -7,13 +7,16 @@ import sys
 import tempfile
 import unittest
 from typing import Any, Dict, List
+from xml.etree import ElementTree
 
 from rdbg.reaching.asking import program
-from tests.hunts import said
-from tests.paths import COMPANION, EXAMPLES
+from tests.hunts import replayed, said
+from tests.paths import COMPANION, EXAMPLES, TOP
 from tests.test_schema import jsonschema
+from tests.test_test_command import misshapen
 
 SCHEMA = json.loads((pathlib.Path(__file__).parent / "sarif.schema.json").read_text())
+VERSION = (TOP / "VERSION").read_text().strip()
 MEETING, MENDED = EXAMPLES / "meeting.json", EXAMPLES / "meeting_mended.json"
 
 
@@ -44,6 +47,8 @@ class Form(unittest.TestCase):
         step = {"location": {"physicalLocation": place}}
         result = {
             "message": {"text": "so"},
+            "ruleId": "rule",
+            "kind": "fail",
             "level": "error",
             "locations": [step["location"]],
             "codeFlows": [{"threadFlows": [{"locations": [step]}]}],
@@ -54,8 +59,18 @@ class Form(unittest.TestCase):
         text = json.dumps(right)
         for one, other in (
             ('"2.1.0"', '"2.1"'),
+            ('"version"', '"versions"'),
+            ('"runs"', '"run"'),
+            ('"tool"', '"tools"'),
+            ('"driver"', '"drivers"'),
             ('"name"', '"title"'),
+            ('"rdbg"', "1"),
+            ('"rule"', "7"),
+            ('"kind": "fail"', '"kind": "failed"'),
             ('"startLine": 1', '"startLine": 0'),
+            ('"startLine": 1', '"startLine": "1"'),
+            ('"startLine"', '"line"'),
+            ('"artifactLocation"', '"artifact"'),
             ('"uri"', '"url"'),
             ('"a.json"', '"a b.json"'),
             ('"text"', '"said"'),
@@ -78,7 +93,11 @@ class Report(unittest.TestCase):
             self.assertEqual(ran[0], status, ran)
             report = report_of(path)
         self.assertEqual((report["version"], len(report["runs"])), ("2.1.0", 1))
-        rules = [it["id"] for it in report["runs"][0]["tool"]["driver"]["rules"]]
+        self.assertEqual(report["$schema"], "https://json.schemastore.org/sarif-2.1.0.json")
+        driver = report["runs"][0]["tool"]["driver"]
+        self.assertEqual((driver["name"], driver["version"]), ("rdbg", VERSION))
+        self.assertTrue(driver["fullName"].startswith(f"rdbg {VERSION} at commit "))
+        rules = [it["id"] for it in driver["rules"]]
         results: List[Dict[str, Any]] = report["runs"][0]["results"]
         self.assertEqual({it["ruleId"] for it in results} - {*rules}, set())
         return results
@@ -161,11 +180,73 @@ class Reach(unittest.TestCase):
         told = [it["location"]["message"]["text"] for it in steps]
         self.assertEqual(result["properties"]["moves"], len(steps))
         self.assertEqual([it.split()[1:3] for it in told[:2]], [["core", "0"], ["core", "1"]])
-        self.assertIn("waits without end", told[-1])
+        self.assertIn("waits with no limit of time", told[-1])
 
     def test_none(self) -> None:
         result = self.result(0, str(MENDED), "asleep")
         self.assertEqual((result["kind"], result["message"]["text"]), ("pass", "asleep: never"))
+
+
+class JUnit(unittest.TestCase):
+    """The same as JUnit's XML, which its file's name asks for: a case with its order."""
+
+    def setUp(self) -> None:
+        folder = tempfile.TemporaryDirectory()
+        self.addCleanup(folder.cleanup)
+        self.path = os.path.join(folder.name, "report.xml")
+
+    def case(self) -> ElementTree.Element:
+        """The one case of the report, which is as build servers read it."""
+        root = ElementTree.parse(self.path).getroot()
+        self.assertEqual([], [it for it in map(misshapen, root.iter()) if it])
+        ((found,),) = root
+        counts = [root.get(it) for it in ("tests", "failures", "errors")]
+        there = [str(len(found.findall(it))) for it in ("failure", "error")]
+        self.assertEqual(["1", *there], counts)
+        return found
+
+    def hunted(self, status: int, *words: str) -> ElementTree.Element:
+        """The case of a hunt that ends with this status."""
+        ran = said(*words, "--report", self.path)
+        self.assertEqual(ran[0], status, ran)
+        return self.case()
+
+    def test_a_find(self) -> None:
+        case = self.hunted(1, str(MEETING), "asleep")
+        self.assertEqual((case.get("classname"), case.get("name")), (str(MEETING), "asleep: none"))
+        failure, output = case
+        self.assertTrue(str(failure.get("message")).startswith("asleep: so behind 8 moves"))
+        told = str(output.text).splitlines()
+        self.assertEqual([it.split()[0] for it in told[1:9]], list(map(str, range(1, 9))))
+        self.assertEqual(told[9], "lines:")
+        again = replayed(str(MEETING), [*told[10:], "show moves"])
+        self.assertEqual(again[-1], "moves 8 undone 0 kept 8")
+
+    def test_what_is_expected(self) -> None:
+        case = self.hunted(0, str(MEETING), "asleep", "--expect", "found")
+        self.assertEqual([it.tag for it in case], ["system-out"])
+        case = self.hunted(1, str(MENDED), "asleep", "--expect", "found")
+        self.assertEqual([it.tag for it in case], ["failure", "system-out"])
+        case = self.hunted(0, str(MENDED), "asleep")
+        self.assertEqual([it.tag for it in case], ["system-out"])
+
+    def test_what_isnt_known(self) -> None:
+        case = self.hunted(2, str(MENDED), "asleep", "--states", "3")
+        self.assertEqual([it.tag for it in case], ["error", "system-out"])
+
+    def test_of_reach(self) -> None:
+        for status, file, tags in (
+            (1, MEETING, ["failure", "system-out"]),
+            (0, MENDED, ["system-out"]),
+        ):
+            words = ["reach", str(file), "asleep", "--report", self.path]
+            ran = subprocess.run(
+                [sys.executable, "-B", str(COMPANION), *words],
+                env={**os.environ, "RDBG_REACH": program()},
+                stdout=subprocess.PIPE,
+            )
+            self.assertEqual(ran.returncode, status)
+            self.assertEqual([it.tag for it in self.case()], tags)
 
 
 if __name__ == "__main__":

@@ -201,7 +201,7 @@ class Told(unittest.TestCase):
                 heard,
                 [
                     "# right: step 0 -> ok at 1, worker 0 recv jobs max, left core 0 (waits"
-                    " without end), poller took core 0",
+                    " with no limit of time), poller took core 0",
                     "# right: step 1 -> ok at 2, producer 0 data 41",
                     "# right: tick -> ok at 3, tick 1",
                     "# right: back 1 -> ok at 2, next: poller 0 recv jobs 0 (core 0), producer 1"

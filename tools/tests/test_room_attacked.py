@@ -10,9 +10,24 @@ from tests.paths import COMPANION
 from tests.rooms import LOST
 from tests.strangers import IS_ROOT, before
 
-PORT, LINES, ROUNDS = "7000", 120, 3
-# The system has no networks for programs.
-TOGETHER = "import rdbg.rooms.apart; rdbg.rooms.apart.IS_TRIED = False"
+PORT, LINES = "7000", 120
+# The room tries no way to tell whose a connection is: that takes a port for a moment.
+KNOWN = "import rdbg.owners; rdbg.owners.way_to_tell = lambda: rdbg.owners.listed"
+# The system has no networks for programs, and of the first program sessions are taken once the other
+# user has come to it.
+TOGETHER = """
+import time
+from rdbg import owners
+from rdbg.rooms import apart, host
+apart.IS_TRIED, take = False, host.Host._take
+def late(program, port, count):
+    host.Host._take = take
+    end = time.monotonic() + 600
+    while not owners.callers(port) and time.monotonic() < end:
+        time.sleep(0.01)
+    take(program, port, count)
+host.Host._take = late
+"""
 
 
 @IS_ROOT
@@ -37,12 +52,10 @@ class Attacked(unittest.TestCase):
         return int(found)
 
     def test_no_port_of_a_program_is_found(self) -> None:
-        self.assertEqual(1, self.attacked([]))
+        self.assertEqual(1, self.attacked(before(KNOWN)))
 
     def test_others_take_sessions(self) -> None:
-        for at in range(ROUNDS):
-            with self.subTest(at):
-                self.assertLess(1, self.attacked(before(TOGETHER)))
+        self.assertLess(1, self.attacked(before(TOGETHER)))
 
 
 if __name__ == "__main__":

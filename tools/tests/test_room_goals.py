@@ -52,7 +52,7 @@ class Goals(unittest.TestCase):
         way = "`back 2` goes before it, and from there it can still come: tick; step 0"
         self.assertEqual(f"lost at 8: {move}; {way}", lost)
         self.assertEqual(("found: from here no order leads there", "never"), (doomed, never))
-        self.assertEqual("lost at 0: no order leads there from boot: it could never come", nowhere)
+        self.assertEqual("lost at 0: no order leads there from boot", nowhere)
         self.assertEqual(nowhere, again)
 
     @unittest.skipUnless(real(), "no program that searches")

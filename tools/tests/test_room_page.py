@@ -98,9 +98,7 @@ class Wheel(OnPage):
             left.on_notice = heard.append
             self.visit(room)
             left.tell("wheel take")
-            self.browser.until(
-                "document.querySelector('#wheel').textContent.startsWith('left has')"
-            )
+            self.wheel("left has")
             self.click("#tick")
             self.said("tick -> no Held 1: left has the wheel")
             self.at(0)
@@ -108,16 +106,14 @@ class Wheel(OnPage):
             self.said("web asks for the wheel")
             left.tell("wheel give")
             self.assertIn("# web asks for the wheel", heard)
-            self.browser.until("document.querySelector('#wheel').textContent.includes('is free')")
+            self.wheel("The wheel is free")
             self.click("#take")
-            self.browser.until(
-                "document.querySelector('#wheel').textContent.startsWith('You have')"
-            )
+            self.wheel("You have")
             self.assertEqual("no Held 2", left.tell("step 0"))
             self.click("#tick")
             self.at(1)
             self.click("#give")
-            self.browser.until("document.querySelector('#wheel').textContent.includes('is free')")
+            self.wheel("The wheel is free")
             self.assertEqual("ok at 2", left.tell("step 0"))
 
 

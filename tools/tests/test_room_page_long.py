@@ -1,4 +1,5 @@
 """The page of a room that is shown much, and one whose room ends."""
+import re
 import signal
 import time
 import unittest
@@ -20,9 +21,9 @@ class Long(OnPage):
         with web_room() as room:
             self.visit(room)
             self.assertGreater(len(self.enabled("#top", "button")), 10)
-            self.browser.key("s")
-            self.browser.key("s")
-            self.at(2)
+            for place in (1, 2):
+                self.browser.key("s")
+                self.at(place)
             room.end_well()
             self.browser.until("document.querySelector('#connection').textContent !== ''")
             self.assertEqual("The room has ended.", self.browser.text("#connection"))
@@ -30,7 +31,10 @@ class Long(OnPage):
             self.assertEqual("1", self.value("document.querySelector('#count').value"))
             used = "button, input, select"
             self.assertGreater(len(self.enabled("#top nav", used)), 10)
-            self.assertEqual([], self.enabled("#top", f":is({used}):not(nav *)"))
+            self.assertEqual(["save", "save-talk"], self.named(f":is({used}):not(nav *)"))
+            moves, talk = self.saved()
+            self.assertEqual("step 0\nstep 1\n", moves)
+            self.assertRegex(talk, r"(?m)^\d{4}-\S+Z\tthe room has ended: closed \d+")
             said = self.browser.texts("#talk li")
             for key in ("s", "k", "b", "r", "f", "l"):
                 self.browser.key(key)
@@ -43,6 +47,11 @@ class Long(OnPage):
             self.assertIn("State at place 2:", self.browser.text("#state-title"))
             self.browser.key("?")
             self.assertTrue(self.value("document.querySelector('#help').open"))
+
+    def named(self, selector: str) -> List[str]:
+        """The names of the elements at the top that can be used."""
+        found = (re.search('id="(.*?)"', it) for it in self.enabled("#top", selector))
+        return [it.group(1) if it else "" for it in found]
 
     def enabled(self, within: str, selector: str) -> List[str]:
         """The elements that can be used."""
@@ -60,6 +69,7 @@ class Long(OnPage):
             self.spares_errors = True  # (the browser tells each request that fails)
             room.end(signal.SIGKILL)
             self.browser.until("document.querySelector('#connection').textContent !== ''")
+            self.assertEqual(["save-talk"], self.named("button:not(nav *)"))
             text = "The room doesn't answer: trying again .."
             self.assertEqual(text, self.browser.text("#connection"))
             self.value("new Promise((done) => setTimeout(done, 2500))")

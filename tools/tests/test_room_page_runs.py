@@ -47,7 +47,7 @@ class Runs(OnPage):
             left.on_notice = heard.append
             self.visit(room)
             self.click("#take")
-            self.browser.until("document.querySelector('#wheel').textContent.startsWith('You')")
+            self.wheel("You")
             self.browser.visit("about:blank")
             end = time.monotonic() + 20
             while "# web is away, with the wheel" not in heard and time.monotonic() < end:
@@ -56,7 +56,7 @@ class Runs(OnPage):
             self.assertIn("# web is away, with the wheel", heard)
             self.assertEqual("no Held 2", left.tell("step 0"))
             self.visit(room)
-            self.browser.until("document.querySelector('#wheel').textContent.startsWith('You')")
+            self.wheel("You")
             self.click("#tick")
             self.at(1)
 
@@ -68,7 +68,7 @@ class People(OnPage):
         with web_room() as room, Browser() as other:
             self.visit(room, "ada")
             self.click("#take")
-            self.browser.until("document.querySelector('#wheel').textContent.startsWith('You')")
+            self.wheel("You")
             self.fill("#goal", "tick > 0")
             self.click("#watch")
             self.browser.until("document.querySelector('#watches').textContent !== ''")
@@ -85,7 +85,7 @@ class People(OnPage):
             )
             # (who was there has it all again, and isn't asked)
             self.assertFalse(come_in(self.browser, room.address, "eve"))
-            self.browser.until("document.querySelector('#wheel').textContent.startsWith('You')")
+            self.wheel("You")
             self.browser.until("document.querySelector('#watches').textContent.includes('fails')")
             self.assertEqual([], other.errors)
 

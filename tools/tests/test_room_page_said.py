@@ -3,10 +3,8 @@ import shutil
 import unittest
 from typing import List
 
-from tests.rooms import LOST, until
+from tests.rooms import LOST
 from tests.web_rooms import OnPage, session, web_room
-
-WHEEL = "document.querySelector('#wheel').textContent"
 
 
 class Said(OnPage):
@@ -31,14 +29,9 @@ class Said(OnPage):
             self.said("web to bo: and now?")
             bo.tell("show moves")
             self.assertIn("# web to you: and now?", heard)
-            with self.browser.saving(self.folder):
-                self.click("#save")
-                self.click("#save-talk")
-                moves, talk = (self.folder / f"lost_item.{it}" for it in ("commands", "talk.txt"))
-                # (a file stands there empty until it is there whole)
-                until(lambda: all(it.exists() and it.stat().st_size for it in (moves, talk)))
-            self.assertEqual("step 1\n", moves.read_text())
-            self.assertRegex(talk.read_text(), r"(?m)^\d{4}-\S+Z\tada says: that was the producer$")
+            moves, talk = self.saved()
+            self.assertEqual("step 1\n", moves)
+            self.assertRegex(talk, r"(?m)^\d{4}-\S+Z\tada says: that was the producer$")
 
     def test_breakpoints_in_the_script(self) -> None:
         with web_room() as room:
@@ -66,13 +59,13 @@ class Said(OnPage):
             self.click("#reload")
             self.said("no: who has the wheel reads the file anew: `wheel take`")
             self.browser.key("h")
-            self.browser.until(f"{WHEEL}.startsWith('You have')")
+            self.wheel("You have")
             path.write_text(path.read_text().replace('"poller"', '"polls"'))
             self.click("#reload")
             self.browser.until("document.querySelector('#tasks')?.textContent.includes('polls')")
             self.at(1)
             self.said("web has the file read anew: all 1 moves are the same on")
-            self.browser.until(f"{WHEEL}.startsWith('You have')")
+            self.wheel("You have")
 
 
 if __name__ == "__main__":

@@ -1,8 +1,11 @@
 """The page of a room in small windows, and by keys that the page of a run hasn't."""
 import unittest
+from typing import Sequence
 
+from tests.paths import TOP
 from tests.web_rooms import OnPage, session, web_room
 
+SIXTEEN = TOP / "bench" / "sixteen.json"
 # What matters while one debugs, and where it has to be: in the window, without scrolling.
 MATTERS = (
     "#steps button:last-child",
@@ -20,7 +23,6 @@ MATTERS = (
 )
 FOLDED = "[...document.querySelectorAll('details.fold')].map((it) => it.open)"
 FOCUSED = "document.activeElement.id"
-WHEEL = "document.querySelector('#wheel').textContent"
 
 
 class Small(OnPage):
@@ -51,15 +53,36 @@ class Small(OnPage):
                         self.browser.until(f"!{FOLDED}.includes(false)")
                         self.value("document.activeElement.blur()")
 
-    def in_sight(self, width: int, height: int) -> None:
+    def test_sixteen_cores(self) -> None:
+        with web_room(str(SIXTEEN)) as room, session(room, "ada") as ada:
+            self.visit(room)
+            ada.tell("forward 40")
+            self.at(40)
+            rows = [f"#cores tbody tr:nth-child({row})" for row in (1, 3)]
+            for width, height in ((800, 600), (390, 844)):
+                with self.subTest(width):
+                    self.browser.size(width, height)
+                    self.browser.until(f"!{FOLDED}.includes(true)")
+                    self.in_sight(width, height, [*MATTERS[:-1], *rows])
+            last = "(({title, textContent}) => [title, textContent])"
+            title, text = self.value(f"{last}(document.querySelector({MATTERS[0]!r}))")
+            self.assertEqual(text, title)
+
+    def in_sight(self, width: int, height: int, matters: Sequence[str] = MATTERS) -> None:
         """Whether all that matters is seen, and nothing stands beside the window."""
         self.assertLessEqual(self.value("document.documentElement.scrollWidth"), width)
-        for it in MATTERS:
+        for it in matters:
             box = self.value(f"document.querySelector({it!r}).getBoundingClientRect().toJSON()")
             self.assertGreater(box["height"], 0, it)
             self.assertGreaterEqual(box["top"], 0, it)
             self.assertLessEqual(box["bottom"], height, it)
             self.assertLessEqual(box["right"], width, it)
+        end, begin = (
+            "#tasks').getBoundingClientRect().bottom",
+            "#objects').getBoundingClientRect().top",
+        )
+        covers = self.value(f"document.querySelector('{end} > document.querySelector('{begin}")
+        self.assertFalse(covers, "the table of objects begins behind that of tasks")
 
     def test_what_is_said_while_the_talk_is_folded_away(self) -> None:
         with web_room() as room, session(room, "ada") as ada:
@@ -105,9 +128,9 @@ class Keys(OnPage):
             self.visit(room)
             for words in ("You have", "The wheel is free"):
                 self.browser.key("h")
-                self.browser.until(f"{WHEEL}.startsWith('{words}')")
+                self.wheel(words)
             ada.tell("wheel take")
-            self.browser.until(f"{WHEEL}.startsWith('ada has')")
+            self.wheel("ada has")
             self.browser.key("h")
             self.said("web asks for the wheel")
             self.browser.key("1")

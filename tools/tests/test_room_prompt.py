@@ -189,7 +189,7 @@ class Prompts(unittest.TestCase):
                     "# 3  core 0  worker 0 recv jobs max",
                     "ok at 2",
                     "# at 2",
-                    "# .. 1 moves before these",
+                    "# .. 1 move before these",
                     "# 2  tick 1",
                     "# at 2; `redo` can make 1 more",
                 ],

@@ -4,7 +4,6 @@ import json
 import pathlib
 import shutil
 import tempfile
-import time
 import unittest
 from typing import Iterator, List, Tuple
 
@@ -162,8 +161,8 @@ class Reloaded(unittest.TestCase):
             page.ask("wheel take")
             self.path.write_text("{}")
             page.ask("reload")
-            self.told(own, "no: ")
-            self.assertTrue(own[-1].endswith("the target stays as it is"), own)
+            said = self.told(own, "no: ")
+            self.assertTrue(said.endswith("the target stays as it is"), said)
             self.assertTrue(page.ask("back 1").startswith("ok at 0"))
             self.assertEqual([], [it for it in heard if "anew" in it])
 
@@ -177,20 +176,18 @@ class Reloaded(unittest.TestCase):
             page.ask("wheel take")
             self.edit('"name": "poller"', '"name": "polls"')
             page.ask("reload")
-            old = served.follower
-            until(lambda: served.follower is not old)
+            until(lambda: not room.is_reloading)
             self.assertEqual([("anew", "null")], page.take(room, served.follower))
             self.assertIn('"polls"', served.of_room)
             served.pages.close(page)
             again = served.pages.open("ada")
             again.ask("step 0")
-            end = time.monotonic() + 20
-            while served.follower.count_done < 1 and time.monotonic() < end:
-                time.sleep(0.01)
+            until(lambda: served.follower.count_done == 1)
             kinds = dict(again.take(room, served.follower))
             self.assertIn('"done":2', kinds["run"])
             self.assertIn("polls", kinds["run"])
             self.assertIn("has the file read anew", kinds["past"])
+            served.pages.close(again)
         finally:
             audits = room.close()
             served.close()

@@ -402,7 +402,7 @@ class Lines(unittest.TestCase):
             room.close()
             here.close()
             raw.expect("notice", "the room has ended")
-            raw.expect("end")
+            raw.expect("end", "forward 5")
             self.assertEqual(b"", raw.connection.recv(1))
         with self.assertRaises(OSError):
             Raw(here)

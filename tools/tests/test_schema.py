@@ -2,8 +2,7 @@
 as far as a schema can say.
 
 The validator is jsonschema, of Debian's package python3-jsonschema: where this interpreter hasn't
-got it, the tests are run by the one that Debian's packages are for.
-"""
+got it, the tests are run by the one that Debian's packages are for."""
 import contextlib
 import importlib
 import io
@@ -67,7 +66,8 @@ class Schema(unittest.TestCase):
     @unittest.skipIf(jsonschema, "this interpreter has jsonschema")
     def test_by_the_other_interpreter(self) -> None:
         self.assertNotIn(OTHER, os.environ, "jsonschema isn't there: install python3-jsonschema")
-        words = [DEBIAN, "-B", "-m", "unittest", "tests.test_schema", "tests.test_report"]
+        modules = ("tests.test_schema", "tests.test_report", "tests.test_vscode")
+        words = [DEBIAN, "-B", "-m", "unittest", *modules]
         done = subprocess.run(
             words,
             cwd=str(TOP / "tools"),

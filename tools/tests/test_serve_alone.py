@@ -1,5 +1,5 @@
-"""`rdbg serve` by itself, as docs/TOGETHER.md says it: numbers, who comes late, who doesn't come, and
-a history that is full."""
+"""`rdbg serve` by itself, as docs/TOGETHER.md says it: numbers, who comes late, who doesn't come,
+and a history that is full."""
 import contextlib
 import subprocess
 import unittest

@@ -27,7 +27,7 @@ class Examples(unittest.TestCase):
     def test_lost_item(self) -> None:
         lines = ["until count jobs > 0 50", "step 1", "step 1", "step 1", "step 0", "back 2"]
         expected = [
-            "1  core 0  worker 0 recv jobs max, left core 0 (waits without end),"
+            "1  core 0  worker 0 recv jobs max, left core 0 (waits with no limit of time),"
             " poller took core 0",
             "2  core 1  producer 0 data 41",
             "3  tick 1",
@@ -37,7 +37,7 @@ class Examples(unittest.TestCase):
             "producer 2 end, left core 1 (ended), poller took core 1",
             "poller 1 jump 0",
             "poller 0 recv jobs 0 -> 1, data 41, jobs 0/1",
-            "worker 0 recv jobs max, left core 0 (waits without end)",
+            "worker 0 recv jobs max, left core 0 (waits with no limit of time)",
             "at 7, next: worker 0 recv jobs max (core 0), poller 0 recv jobs 0 (core 1)",
         ]
         self.check("lost_item", lines, expected)
@@ -45,9 +45,9 @@ class Examples(unittest.TestCase):
     def test_waiting_order(self) -> None:
         lines = ["forward 2", "until count orders > 1 50", "step 1", "step 0", "back 4", "step 1"]
         expected = [
-            "1  core 0  display 0 peek orders max, left core 0 (waits without end),"
+            "1  core 0  display 0 peek orders max, left core 0 (waits with no limit of time),"
             " planner took core 0",
-            "2  core 1  motor 0 recv orders max, left core 1 (waits without end),"
+            "2  core 1  motor 0 recv orders max, left core 1 (waits with no limit of time),"
             " guard took core 1",
             "3  tick 1",
             "4  core 0  planner 0 data 01",
@@ -104,7 +104,8 @@ class Examples(unittest.TestCase):
         lines = ["step 0", "isr notify worker 0 0 inc", "isr notify worker 0 0 inc", "step 0"]
         lines += ["isr send rx 4142", "isr send rx 43", "isr send rx 44", "back 1", "redo 1"]
         expected = [
-            "worker 0 take 0 dec max, left core 0 (waits without end), console took core 0",
+            "worker 0 take 0 dec max, left core 0 (waits with no limit of time),"
+            " console took core 0",
             "isr notify worker 0 0 inc -> 1, worker's note 0 = 1:received, woke worker (core 0),"
             " console left core 0 (displaced)",
             "isr notify worker 0 0 inc -> 1, worker's note 0 = 2:received",

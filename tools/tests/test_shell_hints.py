@@ -28,7 +28,8 @@ SYNTAX = {
     "forward 0": "a COUNT (a number, 1 to 1000000), and not '0'",
     "forward 1,000": "`forward 1000`",
     "back": "`back 1`",
-    "until count jobs>0": "word 2, 'jobs>0': the name of a queue is wanted there; `count jobs > 0` would",
+    "until count jobs>0": "word 2, 'jobs>0': the name of a queue is wanted there; `count jobs > 0`"
+    " would",
     "until": "or another goal: `help until`",
     "until count jobs > 0 and phase worker": "it ends too early: the name of a phase is wanted",
     "until count jobs > 0 || phase worker wait 9": "`count jobs > 0 or phase worker wait` would",

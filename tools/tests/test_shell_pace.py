@@ -167,8 +167,8 @@ class Go(unittest.TestCase):
                 self.check(shell, least)
 
     def check(self, shell: Shell, least: int) -> None:
-        """Sees that no tick comes before each busy core has made enough since the last one, and that
-        none makes more."""
+        """Sees that no tick comes before each busy core has made enough since the last one, and
+        that none makes more."""
         made: Dict[int, int] = {}
         running = shell.look().cores.running
         walk = shell.walk

@@ -1,4 +1,5 @@
-"""`reach` and `again`: what can still come from where the prompt is, and what a mend has changed."""
+"""`reach` and `again`: what can still come from where the prompt is, and what a mend has
+changed."""
 import pathlib
 import shutil
 import tempfile
@@ -11,7 +12,7 @@ from tests.shell_talk import both, example, file, opened, said
 
 # A run in which the poller takes the item, and the worker waits again.
 RUN = ("until count jobs > 0 50", "step 1", "step 1", "step 1", "step 0")
-NOWHERE = "#   no order leads there from boot: it could never come"
+NOWHERE = "#   no order leads there from boot"
 
 
 class Reach(unittest.TestCase):
@@ -173,9 +174,9 @@ class Again(unittest.TestCase):
 
     def test_what_cant_be(self) -> None:
         with file(self.file) as shell:
-            self.assertIn("what `reach GOAL` asked last", said(shell, "again")[0])
+            self.assertIn("asked last, of the file as it is now", said(shell, "again")[0])
             said(shell, "reach stuck")
-            self.assertIn("what `reach GOAL` asked last", said(shell, "again stuck")[0])
+            self.assertIn("asked last, of the file as it is now", said(shell, "again stuck")[0])
             self.file.write_text("{}")
             answers, _ = both(shell, "again")
             self.assertIn("the target stays as it is", " ".join(answers))

@@ -5,19 +5,19 @@ from unittest import mock
 
 from rdbg import commands, instructions
 from rdbg.checking.freertos import WRITTEN
-from rdbg.shell import glossary
-from rdbg.shell.completion import candidates
-from rdbg.shell.gdb import HINTS
-from rdbg.shell.words import BY_NAME, WORDS
 from rdbg.driving.target import Limits
 from rdbg.files.source import source
+from rdbg.shell import glossary
+from rdbg.shell.completion import candidates
+from rdbg.shell.glossary import HINTS
+from rdbg.shell.words import BY_NAME, WORDS
 from tests.shell_talk import both, example, opened, said
-
 
 # Words on which `help` says something.
 OTHERS = (
     "vTaskDelay(5)", "xTimerCreate", "registers", "r0", "r7", "goal", "notask", "portMAX_DELAY",
-    "xQueueGenericSend", "xTaskCreateStatic", "pdTRUE", "configTICK_RATE_HZ", "L5", "deepest", "within", "Instr", "L7 Memory",
+    "xQueueGenericSend", "xTaskCreateStatic", "pdTRUE", "configTICK_RATE_HZ", "L5",
+    "deepest", "within", "Instr", "L7 Memory",
 )  # fmt: skip
 # An interrupt that stands as a task which never waits.
 BUSY = """cores 2
@@ -93,7 +93,9 @@ class Views(unittest.TestCase):
     def test_one_task(self) -> None:
         with example("lost_item") as shell:
             answers = said(shell, "step 0", "info worker")
-            expected = "# task worker, priority 2, on no core, waits at recv:jobs without end"
+            expected = (
+                "# task worker, priority 2, on no core, waits at recv:jobs with no limit of time"
+            )
             self.assertEqual(answers[1], expected)
             self.assertEqual(len(said(shell, "info registers worker")), 1)
 
@@ -105,7 +107,9 @@ class Moves(unittest.TestCase):
         with example("lost_item") as shell:
             answers = said(shell, "step producer 2", "step worker", "step worker", "step pruducer")
             self.assertEqual(answers[:3], ["ok at 1", "ok at 2", "ok at 3"])
-            waits = "it waits at recv:jobs without end; poller on core 0, producer on core 1"
+            waits = (
+                "it waits at recv:jobs with no limit of time; poller on core 0, producer on core 1"
+            )
             self.assertRegex(answers[3], "^ok at 4$|^# worker is on no core")
             answers = said(shell, "goto 0", "step worker", "step worker")
             self.assertEqual(answers[-1], f"# worker is on no core: {waits}")
@@ -229,14 +233,14 @@ class Moves(unittest.TestCase):
             self.assertIn("# not stuck: isr is busy on core 0, and no instruction", answers[1])
             self.assertIn("so `stuck` can't come", answers[2])
             self.assertRegex(answers[5], r"^# at 10 met: sleeps flash")
-            self.assertRegex(answers[6], "flash 1 .* left core 1 .waits without end.")
+            self.assertRegex(answers[6], "flash 1 .* left core 1 .waits with no limit of time.")
 
     def test_a_target_that_is_asleep(self) -> None:
         with example("waiting_order") as shell:
             answers = said(shell, "until asleep", "until! asleep", "c", "tick 3", "rc! asleep")
             self.assertRegex(answers[0], r"^# at 22 met: asleep \(\d+ lines asked\)$")
             self.assertRegex(
-                answers[2], "^# display ended; motor waits at recv:orders without end; "
+                answers[2], "^# display ended; motor waits at recv:orders with no limit of time; "
             )
             self.assertRegex(answers[3], "^# asleep already; ")
             self.assertEqual(answers[4], answers[3])
@@ -267,7 +271,8 @@ class Moves(unittest.TestCase):
 
     def test_words_that_are_wrong(self) -> None:
         wrong = [
-            "until stuck x", "until wakes", "until wakes jobs", "until changes worker", "until changes task worker",
+            "until stuck x", "until wakes", "until wakes jobs", "until changes"
+                " worker", "until changes task worker",
             "rc! nothing", "until! count jobs 5", "rc stuck 5", "c x", "break", "break worker",
             "delete", "goto x", "moves x", "save", "info", "info nothing", "list nothing", "print",
             "print r0 nothing", "set moves maybe", "help nothing", "tick x", "step worker x",

@@ -6,6 +6,7 @@ import signal
 import subprocess
 import sys
 import tempfile
+import time
 import unittest
 from typing import List, Optional
 from unittest import mock
@@ -110,7 +111,7 @@ class Running(unittest.TestCase):
             before = other.tell("show moves")
             started = Started("trace", TURNS, "--port", str(port), "--from", "1")
             while other.tell("show wheel") == "wheel -":
-                pass
+                time.sleep(0.005)  # (each look takes a place of the history)
             self.check(started, "trace", signal.SIGTERM)
             self.assertEqual("wheel -", other.tell("show wheel"))
             self.assertEqual(before, other.tell("show moves"))
@@ -124,7 +125,7 @@ class Running(unittest.TestCase):
 
     def test_a_group_that_is_ended(self) -> None:
         # (as `timeout` and a shell do: the program that searches has the signal, too)
-        started = Started("hunt", str(EXAMPLES / "soak.json"), "reg sensor 7 = 1")
+        started = Started("hunt", str(EXAMPLES / "soak.json"), "tick = 4294967295")
         started.wait_for(2)
         self.check(started, "hunt", signal.SIGTERM)
 

@@ -11,9 +11,9 @@ from typing import Any, Dict, List, Tuple
 from unittest import mock
 from xml.etree import ElementTree
 
+from rdbg.companions.test import Shown
 from rdbg.testing import schema
 from rdbg.testing.cases import NAMES, Case
-from rdbg.testing.progress import Shown
 from rdbg.tree import Place
 from tests.paths import DOCS, EXAMPLES
 from tests.started import Started, sleeper
@@ -112,11 +112,13 @@ class Answers(InFolder):
         self.assertIn("       found: tick = 0, at 0, without a surprise", output)
 
     def test_the_time_is_up(self) -> None:
-        late = {"file": "slow.json", "goal": "asleep", "expect": "never", "within": 0.2}
+        late = {"file": "slow.json", "goal": "tick = 9999999", "expect": "never", "within": 0.2}
         shutil.copy(str(EXAMPLES / "lost_wakeup.json"), os.path.join(self.folder, "slow.json"))
         status, output, errors = self.try_all(late)
         self.assertEqual((1, []), (status, errors), output)
-        self.assertRegex(output[0], "^wrong  slow.json: reach asleep: never was expected; full")
+        self.assertRegex(
+            output[0], "^wrong  slow.json: reach tick = 9999999: never was expected; full"
+        )
         self.assertIn("       that isn't all: the time was up", output)
 
     def test_refused_by_the_program(self) -> None:
@@ -134,6 +136,18 @@ class Answers(InFolder):
             self.assertEqual(1, status)
             heads.append([line.rpartition(" (")[0] for line in output if line[0] != " "])
         self.assertEqual(*heads)
+
+    def test_parts_are_all_together(self) -> None:
+        listing(self.folder, NEVER, FOUND, {**NEVER, "moves": 7, "expect": "not within"})
+        each = []
+        for part in ("1/2", "2/2"):
+            status, output, _ = tested(self.folder, "--part", part)
+            self.assertEqual(0, status)
+            each.append([line.rpartition(" (")[0] for line in output[:-1]])
+        whole = [line.rpartition(" (")[0] for line in tested(self.folder)[1][:-1]]
+        self.assertEqual((whole[::2], whole[1::2]), tuple(each))
+        status, output, _ = tested(self.folder, "--part", "4/4")
+        self.assertEqual((0, ["0 cases: none in this part"]), (status, output))
 
     def test_a_file_by_its_name_and_this_folder(self) -> None:
         listing(self.folder, NEVER)
@@ -226,7 +240,8 @@ class Refused(InFolder):
         status, _, errors = tested(os.path.join(self.folder, "none.json"))
         self.assertEqual(2, status)
         self.assertRegex(errors[0], "cannot read .*none.json: No such file or directory")
-        for word in ("--jobs=0", "--jobs=many", "--job7"):
+        parts = ("--part=0/2", "--part=3/2", "--part=2", "--part=1/x")
+        for word in ("--jobs=0", "--jobs=many", "--job7", *parts):
             self.assertEqual(2, tested(self.folder, word)[0], word)
 
     def test_a_report_that_cannot_be_written(self) -> None:
@@ -239,8 +254,8 @@ class Refused(InFolder):
 # What an element of JUnit's XML has to have, what besides, and what may stand in it.
 SHAPES = {
     "testsuites": ("", "name tests failures errors skipped time", "testsuite"),
-    "testsuite": ("name tests failures errors time", "skipped timestamp hostname", "testcase"),
-    "testcase": ("name classname time", "", "skipped error failure system-out system-err"),
+    "testsuite": ("name tests failures errors", "time skipped timestamp hostname", "testcase"),
+    "testcase": ("name classname", "time", "skipped error failure system-out system-err"),
     "failure": ("", "message type", ""),
     "error": ("", "message type", ""),
     "system-out": ("", "", ""),

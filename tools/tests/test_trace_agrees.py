@@ -1,8 +1,7 @@
 """A trace says the same as views alone do, asked move by move from boot, over random applications.
 
 Beside the trace stands a reader of its own here: it reads views as texts, and takes what a move was
-from the words of two of them.
-"""
+from the words of two of them."""
 import json
 import pathlib
 import random

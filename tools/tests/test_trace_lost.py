@@ -1,4 +1,5 @@
-"""`rdbg trace --lost`: the move that lost a goal, marked in rows and in a page, and told in words."""
+"""`rdbg trace --lost`: the move that lost a goal, marked in rows and in a page, and told in
+words."""
 import unittest
 
 from tests.page_shown import RUN, Shown
@@ -39,7 +40,7 @@ class Rows(Traced):
         _, lines, _ = self.traced(RUN[:3], "--lost", "at worker 1", "--from", "7")
         self.assertEqual([ROWS[6], "still: tick; step 0"], lines[1:])
         _, lines, _ = self.traced(RUN, "--lost", "failed", "--from", "9")
-        nowhere = "lost at 0: no order leads there from boot: it could never come"
+        nowhere = "lost at 0: no order leads there from boot"
         self.assertEqual([ROWS[8], nowhere], lines[1:])
         _, lines, _ = self.traced(RUN, "--lost", "waits worker", "--from", "9")
         self.assertEqual([ROWS[8], "still: it holds here"], lines[1:])

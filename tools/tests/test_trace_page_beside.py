@@ -1,4 +1,5 @@
-"""Two runs of an application on one page: where they first differ, their lanes one above the other."""
+"""Two runs of an application on one page: where they first differ, their lanes one above the
+other."""
 import unittest
 from typing import Sequence
 

@@ -1,5 +1,5 @@
-"""The lanes of a page as they are read: pinned, folded, left out, in another order; ranges, bookmarks
-and zoom; windows that are small."""
+"""The lanes of a page as they are read: pinned, folded, left out, in another order; ranges,
+bookmarks and zoom; windows that are small."""
 import json
 import pathlib
 import unittest

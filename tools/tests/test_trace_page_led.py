@@ -1,5 +1,5 @@
-"""A page that opens where a task waits: what led there, its lanes first, all moves in sight; and what
-stands before them, in small windows too."""
+"""A page that opens where a task waits: what led there, its lanes first, all moves in sight; and
+what stands before them, in small windows too."""
 import unittest
 
 from tests.page_shown import Shown
@@ -36,13 +36,13 @@ class Led(Shown):
             ],
             self.browser.texts("#led li"),
         )
-        self.assertIn("reader0 (ready), whose next instruction is send line0 max", self.ends())
+        wakes_nobody = "what is put into it wakes nobody who waits at line0. No other task "
+        self.assertIn(f"As long as line0 is in set lines, {wakes_nobody}", self.ends())
         pinned = "pinned: marks, task server, queue line0, task reader0, task monitor"
         self.assertEqual(f"Lanes: places 0 to 26 of 0 to 26, at 26; {pinned}", self.label())
         self.browser.click(*self.browser.middle("#led li:nth-child(3) a"))
         self.assertEqual(17, self.reader.place())
-        self.browser.value("new Promise((done) => setTimeout(done, 400))")
-        self.assertEqual("#17", self.browser.value("location.hash"))
+        self.browser.until("location.hash === '#17'")
         self.assertEqual(4, len(self.browser.texts("#led li")))
 
     def ends(self) -> str:
@@ -52,6 +52,16 @@ class Led(Shown):
     def test_a_link_has_its_own_pins(self) -> None:
         self.show_wait("#26&pin=task+monitor")
         self.assertTrue(self.label().endswith("pinned: task monitor"))
+
+    def test_a_link_says_that_none_is_pinned(self) -> None:
+        self.show_wait("#26&pin=task+monitor")
+        self.browser.value("(document.querySelector('#lane').value = 'task monitor')")
+        self.browser.value("document.querySelector('#lane-pin').click()")
+        self.browser.value("new Promise((done) => setTimeout(done, 400))")
+        link = self.browser.value("location.hash")
+        self.assertEqual("#26&pin=", link)
+        self.show_wait(link)
+        self.assertNotIn("pinned", self.label())
 
     def test_nobody_waits(self) -> None:
         self.show()

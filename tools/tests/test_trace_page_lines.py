@@ -1,4 +1,5 @@
-"""A page of a text in lines: a line of several instructions is one row, and comments stand by it."""
+"""A page of a text in lines: a line of several instructions is one row, and comments stand by
+it."""
 import pathlib
 import tempfile
 import unittest

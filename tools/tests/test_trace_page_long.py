@@ -2,12 +2,13 @@
 import json
 import unittest
 
+from tests.long_runs import RUNS, opened, written
 from tests.page_shown import LOST, Shown
 from tests.pages import Asked, page_of
 
 LONG = 20_000
 # How many seconds of a processor the page of a long run may take to be there, and for a step.
-OPENED, STEPPED = 2.0, 0.1
+OPENED, STEPPED = 1.0, 0.1
 
 
 class Long(Shown):
@@ -38,12 +39,23 @@ class Long(Shown):
         self.browser.value("new Promise((done) => setTimeout(done, 400))")
         self.assertLess(self.browser.value("document.querySelector('#lanes').scrollTop"), here)
 
+    def test_it_is_made_and_there_within_bounds(self) -> None:
+        # (a quarter of each run, in a quarter of its time; and in seconds of processors, since of
+        # those by the clock a busy machine takes more)
+        for whole in RUNS:
+            run = whole._replace(moves=whole.moves // 4, seconds=whole.seconds / 4)
+            with self.subTest(run.name):
+                page, took = written(self.folder, run)
+                self.assertLess(took.work, run.seconds)
+                self.assertLess(page.stat().st_size, 1_500_000)
+                self.assertLess(opened(self.browser, page).work, OPENED)
+                self.browser.key("End")
+                self.assertEqual(run.moves, self.reader.place())
+
     def test_a_long_run(self) -> None:
         page = page_of(self.folder, LOST, [f"forward {LONG}"])
         self.assertLess(page.stat().st_size, 2_000_000)
-        before = self.browser.busy()
-        self.browser.open(page)
-        opened = self.browser.busy() - before
+        took = opened(self.browser, page)
         self.browser.key("End")
         self.assertEqual(LONG, self.reader.place())
         self.assertEqual(["forward 20000"], self.reader.lines())
@@ -53,7 +65,7 @@ class Long(Shown):
             for _ in range(10):
                 self.browser.key("ArrowLeft")
             self.assertLess((self.browser.busy() - before) / 10, STEPPED, key)
-        self.assertLess(opened, OPENED)
+        self.assertLess(took.work, OPENED)
         here = self.reader.place()
         self.assertEqual(Asked(LOST).behind([f"forward {here}"]), self.reader.answers())
 

@@ -1,4 +1,5 @@
-"""What a page says beside its run: who made it of what, a note, and the question that it answers."""
+"""What a page says beside its run: who made it of what, a note, and the question that it
+answers."""
 import contextlib
 import io
 import os
@@ -8,7 +9,7 @@ import unittest
 from typing import List, Tuple
 from unittest import mock
 
-from rdbg import version
+from rdbg import client
 from rdbg.main import main
 from rdbg.reaching.asking import DOOMED, LOST as LOST_AT, REACH
 from rdbg.reaching.said import read
@@ -257,15 +258,23 @@ class Words(unittest.TestCase):
 
     def test_version(self) -> None:
         said = "rdbg at commit 0123; kit; proved"
-        with mock.patch.object(version, "of_wrapper", lambda: said):
+        with mock.patch.object(client, "of_wrapper", lambda: said):
             with mock.patch.dict(os.environ, {"RDBG_PROGRAM": "/x"}):
-                self.assertEqual(f"rdbg at commit 0123; kit; {version.NAMED}", version.version())
+                self.assertEqual(f"rdbg at commit 0123; kit; {client.NAMED}", client.version())
             with mock.patch.dict(os.environ):
                 os.environ.pop("RDBG_PROGRAM", None)
-                self.assertEqual(said, version.version())
-            self.assertIn("the port isn't known to be proved", version.version(port=True))
-        with mock.patch.object(version, "of_wrapper", lambda: ""):
-            self.assertIn("whose commit isn't known", version.version())
+                self.assertEqual(said, client.version())
+            self.assertIn("the port isn't known to be proved", client.version(port=True))
+        with mock.patch.object(client, "of_wrapper", lambda: ""):
+            self.assertIn("whose commit isn't known", client.version())
+        lines = ["rdbg 1.0.0 at commit 0123; kit", "rdbg is proved; 45", "rdreach is proved; 67"]
+        with mock.patch.object(client, "of_wrapper", lambda: "\n".join(lines)):
+            with mock.patch.dict(os.environ, {"RDBG_PROGRAM": "/a/program"}):
+                self.assertEqual(f"{lines[0]}; {client.NAMED}", client.version())
+            self.assertEqual(f"{lines[0]}; {client.AT_A_PORT}", client.version(port=True))
+            with mock.patch.dict(os.environ):
+                os.environ.pop("RDBG_PROGRAM", None)
+                self.assertEqual("; ".join(lines), client.version())
 
 
 if __name__ == "__main__":

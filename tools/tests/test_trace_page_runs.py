@@ -108,7 +108,8 @@ class Runs(Shown):
     def test_a_text_in_lines(self) -> None:
         path = self.folder / "talk.fw"
         path.write_text(
-            "cores 1\nqueue q length 1 item 1\ntask t priority 1\n    send(q, portMAX_DELAY);\n    end\n"
+            "cores 1\nqueue q length 1 item 1\ntask t priority 1\n    send(q, portMAX_DELAY);\n   "
+            " end\n"
         )
         self.show(["step 0"], application=path, link="#1")
         self.assertEqual("./rdbg sh talk.fw", self.browser.text("#way-where"))

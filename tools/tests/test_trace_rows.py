@@ -20,8 +20,8 @@ HEAD = "place  tick  core  who       pc  does                effects"
 # A run in which the poller takes the item, and the worker waits again.
 RUN = ["until count jobs > 0 50", "step 1", "step 1", "step 1", "step 0"]
 ROWS = [
-    "    1     0     0  worker     0  recv jobs max       left core 0 (waits without end),"
-    " poller took core 0",
+    "    1     0     0  worker     0  recv jobs max       left core 0 (waits with no limit of"
+    " time), poller took core 0",
     "    2     0     1  producer   0  data 41",
     "    3     1        tick",
     "    4     1     0  poller     0  recv jobs 0 -> 0",
@@ -30,7 +30,8 @@ ROWS = [
     "    6     1     1  producer   2  end                 left core 1 (ended), poller took core 1",
     "    7     1     1  poller     1  jump 0",
     "    8     1     1  poller     0  recv jobs 0 -> 1    data 41, jobs 0/1",
-    "    9     1     0  worker     0  recv jobs max       left core 0 (waits without end)",
+    "    9     1     0  worker     0  recv jobs max       left core 0 (waits with no limit of"
+    " time)",
 ]
 
 
@@ -73,8 +74,8 @@ class Rows(Traced):
         status, rows, errors = self.said(str(EXAMPLES / "interrupt.json"), "run.commands")
         expected = [
             "place  tick  core  who      pc  does                            effects",
-            "    1     0     0  worker    0  take 0 dec max                  left core 0 (waits without"
-            " end), console took core 0",
+            "    1     0     0  worker    0  take 0 dec max                  left core 0 (waits"
+            " with no limit of time), console took core 0",
             "    2     0        isr          isr notify worker 0 0 inc -> 1  worker's note 0 ="
             " 1:received, woke worker (core 0), console left core 0 (displaced)",
         ]
@@ -116,8 +117,8 @@ class Rows(Traced):
         expected = [
             "    1     0        edit          poke reg worker 0 7",
             "    2     0        edit          poke reg worker 0 7",
-            "    3     0     0  worker     0  recv jobs max       left core 0 (waits without end),"
-            " poller took core 0",
+            "    3     0     0  worker     0  recv jobs max       left core 0 (waits with no limit"
+            " of time), poller took core 0",
         ]
         # (places and ticks of one digit leave the columns as wide as their heads)
         self.assertEqual([HEAD, *expected], self.traced(lines)[1])

@@ -1,4 +1,5 @@
-"""What `./rdbg` builds and what it doesn't, in a checkout of a few files whose `rt` builds nothing."""
+"""What `./rdbg` builds and what it doesn't, in a checkout of a few files whose `rt` builds
+nothing."""
 import os
 import pathlib
 import re

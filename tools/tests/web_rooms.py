@@ -18,7 +18,7 @@ from tests.browsing import Browsing
 from tests.chromium import Browser
 from tests.pages import Asked, Reader
 from tests.paths import EXAMPLES
-from tests.rooms import LOST, Process
+from tests.rooms import LOST, Process, until
 
 ENDED = (0, "")
 # Where a page asks who comes, and how one knows that it is let in.
@@ -172,13 +172,17 @@ class OnPage(Browsing):
             "#state-title": f"State at place {place}:",
             "#about": f"the target is at {place}",
         }
-        found = "document.querySelector('{}').textContent.startsWith('{}')"
+        found = "document.querySelector('{}')?.textContent.startsWith('{}')"
         self.browser.until(" && ".join(found.format(*it) for it in texts.items()))
 
     def said(self, text: str) -> None:
         """Waits until something was said on the page."""
         items = "[...document.querySelectorAll('#talk li')].map((it) => it.textContent)"
         self.browser.until(f"{items}.some((it) => it.includes({text!r}))")
+
+    def wheel(self, text: str) -> None:
+        """Waits until what is said of the wheel begins so."""
+        self.browser.until(f"document.querySelector('#wheel')?.textContent.startsWith({text!r})")
 
     def click(self, selector: str) -> None:
         """Clicks on an element."""
@@ -188,6 +192,17 @@ class OnPage(Browsing):
         """Types a text into a field, in place of what is there."""
         self.value(f"document.querySelector({selector!r}).select()")
         self.browser.call("Input.insertText", text=text)
+
+    def saved(self) -> Tuple[str, str]:
+        """The moves and the talk of the lost item, which the page gives as files."""
+        files = [self.folder / f"lost_item.{it}" for it in ("commands", "talk.txt")]
+        with self.browser.saving(self.folder):
+            self.click("#save")
+            self.click("#save-talk")
+            # (a file stands there empty until it is there whole)
+            until(lambda: all(it.exists() and it.stat().st_size for it in files))
+        moves, talk = (it.read_text() for it in files)
+        return moves, talk
 
     def rows(self, selector: str) -> List[List[str]]:
         """The cells of a table."""

@@ -187,7 +187,7 @@ impl Program {
         Program::new(alloc, parts)
     }
 
-    /// The limits that every program keeps.
+    /// For contracts alone: the limits that every program keeps.
     pub fn limits(&self)
         ensures { IsApplication self.now }
     {
@@ -248,7 +248,7 @@ impl Program {
     }
 }
 
-/// The limits of applications, as numbers.
+/// For contracts alone: the limits of applications, as numbers.
 pub fn limits_of_applications()
     ensures cores { max_cores Profile.One ≡ 8 }
     ensures more_cores { max_cores Profile.Two ≡ 16 }

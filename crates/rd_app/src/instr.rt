@@ -286,7 +286,7 @@ impl Instr {
     }
 }
 
-/// How many registers a task has, as a number.
+/// For contracts alone: how many registers a task has, as a number.
 pub fn count_of_registers()
     ensures { REGISTERS ≡ 8 }
 {}

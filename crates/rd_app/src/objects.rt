@@ -163,7 +163,7 @@ impl ObjectShapes {
     }
 }
 
-/// The limits of objects, as numbers.
+/// For contracts alone: the limits of objects, as numbers.
 pub fn limits_of_objects()
     ensures queues { MAX_QUEUES ≡ 32 }
     ensures queue_sets { MAX_QUEUE_SETS ≡ 32 }

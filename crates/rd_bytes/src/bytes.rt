@@ -100,7 +100,7 @@ impl Bytes {
     }
 }
 
-/// How many bytes `Bytes` has at the most, as a number.
+/// For contracts alone: how many bytes `Bytes` has at the most, as a number.
 pub fn limit_of_bytes()
     ensures { MAX_BYTES ≡ 256 }
 {}

@@ -272,15 +272,15 @@ pub fn play(
     }
 }
 
-/// How many bytes the record of a move takes at the most, as a number: 64 for each task that there
-/// may be, 96 for each core, and 73,984 besides.
+/// For contracts alone: how many bytes the record of a move takes at the most, as a number: 64 for
+/// each task that there may be, 96 for each core, and 73,984 besides.
 pub fn limits_of_records()
     ensures bytes { MAX_RECORD_BYTES ≡ 77568 }
     ensures grows { MAX_RECORD_BYTES ≡ 64 * MAX_TASKS + 96 * MAX_CORES + 73984 }
 {}
 
-/// A call that is tried for the first time waits exactly where
-/// its block time isn't 0, if it can't be done.
+/// A law: a call that is tried for the first time waits exactly where its block time isn't 0, if it
+/// can't be done.
 pub fn first_tries_wait()
     ensures { FirstTriesWait }
 {}

@@ -74,8 +74,8 @@ impl<'w, 'l> Command<'w, 'l> {
         }
     }
 
-    /// What holds of every command: the words of its operands have the forms that its keyword asks
-    /// for, that of a count the form of one.
+    /// For contracts alone: what holds of every command: the words of its operands have the forms
+    /// that its keyword asks for, that of a count the form of one.
     pub fn keeps(&self)
         ensures { AreOperands (spelling_of self.now.keyword).operands self.now.operands }
     {

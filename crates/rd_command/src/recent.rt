@@ -78,7 +78,7 @@ fn lasting(bound: Bound<'_>) -> Option<Bound<'static>>
         Bound::TakesWheel => Some(Bound::TakesWheel),
         Bound::GivesWheel => Some(Bound::GivesWheel),
         Bound::Looks { view } => Some(Bound::Looks { view }),
-        _ => None,
+        Bound::Keeps { .. } | Bound::Drops { .. } => None,
     }
 }
 

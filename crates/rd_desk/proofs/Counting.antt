@@ -15,8 +15,7 @@ use Rattle.rd_moves.specs.Moves.{PlainMove}
 use Rattle.rd_moves.specs.Requests.{PlainRequest, request_for}
 use Rattle.rd_timeline.specs.Answers.{answer_of, answer_to}
 use Rattle.rd_timeline.specs.RunLaws.{is_refusal}
-use Rattle.rd_timeline.specs.History.{state_after}
-use Rattle.rd_timeline.specs.Policy.{state_or}
+use Rattle.rd_timeline.specs.History.{state_after, state_or}
 use Rattle.rd_timeline.specs.Runs.{Leaves, Moves, Plain, Refuses, Response, answered, back_at, kept, moved_on, moves_after, response_to}
 use Rattle.rd_timeline.proofs.Offered.{refused_request, went_on}
 use Rattle.rd_command.specs.declared.view.Overview.TheVariants as overview

@@ -174,9 +174,10 @@ impl Desk {
         })
     }
 
-    /// The history is one of the sequential debugger, each session that is present has a place for
-    /// its departure, and the moves done, and not undone, give the target from the start, from
-    /// which the records that are held lead back. There are as many names as things in it.
+    /// For contracts alone: the history is one of the sequential debugger, each session that is
+    /// present has a place for its departure, and the moves done, and not undone, give the target
+    /// from the start, from which the records that are held lead back. There are as many names as
+    /// things in it.
     pub fn keeps(&self)
         ensures { IsKept self.now.desk }
     {

@@ -1,5 +1,8 @@
 //! A sequential debugger of many sessions, with its history: who did what, and what was replied.
-//! Page: `docs/decisions/SESSIONS.md`.
+//! Page: `docs/decisions/SESSIONS.md`. Definitions in reading order (`specs/`): `Sessions`,
+//! `SessionsInside`, `TallyView`, `Asked`, `Debugger`, `Views`, `Serving`, `HistoryView`, `Kept`,
+//! `MachineInside`, `Rows`, `RowsInside`, `HistoryInside`, `Legal`, `DeskView`, `DeskInside`,
+//! `Refusals`, `Memory`, `Wheel`, `Laws`.
 #![tactic(auto)]
 
 pub mod asked;

@@ -128,9 +128,9 @@ impl DeskMachine {
         })
     }
 
-    /// The moves done, and not undone, give the target from the start, and the records that it
-    /// holds, those of the last ones from the base on, lead back from it. There are as many names
-    /// as things in it, and fewer than 4,294,967,296 moves, done and undone.
+    /// For contracts alone: the moves done, and not undone, give the target from the start, and the
+    /// records that it holds, those of the last ones from the base on, lead back from it. There are
+    /// as many names as things in it, and fewer than 4,294,967,296 moves, done and undone.
     pub fn keeps(&self)
         ensures leads { state_after self.now.debugger.app.runs self.now.debugger.moves.done
             ≡ Ok (target_of self.now.debugger) }

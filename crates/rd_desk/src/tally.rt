@@ -61,7 +61,7 @@ impl Tally {
         self.present
     }
 
-    /// How many entries there may be.
+    /// For tests alone: how many entries there may be.
     pub fn limit(&self) -> usize
         ensures { result ≡ self.now.limit }
     {

@@ -10,7 +10,7 @@ use rd_app::app::Program;
 use rd_moves::edit::Edit;
 use rd_state::state::State;
 
-/// A valid state stays valid after an edit that can be made, whichever it is.
+/// A law: a valid state stays valid after an edit that can be made, whichever it is.
 pub fn edits_keep_validity(app: &Program, state: &State, edit: &Edit)
     requires valid { IsValid app.now state.now }
     requires named { IsEditOf app.now edit.now }
@@ -22,16 +22,16 @@ pub fn edits_keep_validity(app: &Program, state: &State, edit: &Edit)
     edit.sizes();
 }
 
-/// An edit changes one thing: the tick, the turn, who is on the cores and who is ready stay, and so
-/// do all other tasks and objects. Of the thing itself it leaves the phase, what its entries wait
-/// for, who waits where and whom a place names. So whoever waited waits on, and nothing is left to
-/// be scheduled if nothing was.
+/// A law: an edit changes one thing: the tick, the turn, who is on the cores and who is ready stay,
+/// and so do all other tasks and objects. Of the thing itself it leaves the phase, what its entries
+/// wait for, who waits where and whom a place names. So whoever waited waits on, and nothing is
+/// left to be scheduled if nothing was.
 pub fn edits_change_one_thing()
     ensures { EditsChangeOneThing }
 {}
 
-/// An edit that can be made writes what it says at its spot, and nothing elsewhere: each other
-/// register, data, next instruction, value of an entry, bits, item and byte stays as it was.
+/// A law: an edit that can be made writes what it says at its spot, and nothing elsewhere: each
+/// other register, data, next instruction, value of an entry, bits, item and byte stays as it was.
 pub fn edits_write_one_spot()
     ensures { EditsWriteOneSpot }
 {}

@@ -91,7 +91,7 @@ impl Group {
         self.bits == other.bits && has_same_wishes && self.waiting.same(&other.waiting)
     }
 
-    /// The sizes that every group keeps.
+    /// For contracts alone: the sizes that every group keeps.
     pub fn sizes(&self)
         ensures { IsSizedGroup self.now }
     {
@@ -182,7 +182,7 @@ impl Group {
     }
 }
 
-/// For how many tasks an event group has room at the most, as a number.
+/// For contracts alone: for how many tasks an event group has room at the most, as a number.
 pub fn limit_of_waiters()
     ensures { MAX_WAITERS ≡ 32 }
 {}

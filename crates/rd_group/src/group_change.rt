@@ -60,7 +60,7 @@ impl Group {
     }
 }
 
-/// Each change of an event group is undone by its inverse, to the last field of the group.
+/// A law: each change of an event group is undone by its inverse, to the last field of the group.
 pub fn each_group_change_is_undone()
     ensures { EachGroupChangeIsUndone }
 {}

@@ -58,7 +58,7 @@ impl Wish {
     }
 }
 
-/// The bits that can be used, as a number.
+/// For contracts alone: the bits that can be used, as a number.
 pub fn limit_of_bits()
     ensures { MAX_BITS ≡ 16777215 }
 {}

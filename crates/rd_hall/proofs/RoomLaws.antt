@@ -1,19 +1,16 @@
 -- What an event leaves of a debugger as it was, and what is known at its end.
-use Rattle.std.proofs.Common.{◌≡◌, ◌∙◌, ℕ, ◌+◌, ◌<◌, ◌≤◌, List, [], ◌∷◌, ◌++◌, length, map, ap, subst, sym}
-use Rattle.std.specs.Prelude.{Result, Ok, Err, IfOk, OnErr}
+use Rattle.std.proofs.Common.{◌≡◌, ◌∙◌, ℕ, ◌+◌, ◌<◌, ◌≤◌, List, [], ◌∷◌, ◌++◌, length, ap, subst, sym}
+use Rattle.std.specs.Prelude.{Result, Ok, Err, IfOk}
 use Rattle.std.proofs.lemmas.List.{length_push}
 use Rattle.rd_names.specs.Apps.{AppView}
 use Rattle.rd_desk.specs.declared.entry.Event.{Event}
-use Rattle.rd_desk.specs.declared.entry.Noted.{Noted}
 use Rattle.rd_desk.specs.declared.entry.Receipt.{Receipt}
-use Rattle.rd_desk.specs.Rows.{receipt_of}
 use Rattle.rd_desk.specs.Debugger.{Debugger, opening}
 use Rattle.rd_desk.specs.DeskView.{DeskView, Does, IsKept, used}
 use Rattle.rd_desk.specs.Legal.{IsLegal, Leads}
 use Rattle.rd_desk.proofs.Offered.{same_served}
 use Rattle.rd_hall.specs.Account.{ClosedView}
-use Rattle.rd_hall.proofs.SeatLaws.{receipts_push}
-use Rattle.rd_hall.specs.SeatView.{SeatView, seat_of, with_receipt}
+use Rattle.rd_hall.specs.SeatView.{ReceiptsView, SeatView, seat_with, with_receipt}
 use Rattle.rd_desk.specs.declared.entry.HistoryEntry.{HistoryEntry}
 use Rattle.rd_hall.specs.Seats.{Finds, IsFound, IsOf, RoomView, Serves}
 
@@ -40,34 +37,22 @@ pub found_so : (seen now : RoomView) (app : AppView) (moves entries share : ℕ)
 found_so seen now app moves entries share same kept set_up backed =
     subst (λ (room : RoomView). IsFound app moves entries share room.desk) (sym same) (record { kept = kept; set_up = set_up; backed = backed })
 
+-- receipts with one more, which the ledger counts
+with_one : (kept longer : ReceiptsView) (share counted : ℕ) (receipt : Receipt) → longer.who ≡ kept.who → longer.receipts ≡ kept.receipts ++ receipt ∷ [] → counted ≡ share + 1
+    → seat_with longer counted ≡ with_receipt (seat_with kept share) receipt
+with_one kept longer share counted receipt same more one =
+    ap (λ (who : ℕ). seat_with (record longer { who = who }) counted) same
+    ∙ ap (λ (receipts : List Receipt). seat_with (record kept { receipts = receipts }) counted) more
+    ∙ ap (seat_with (record kept { receipts = kept.receipts ++ receipt ∷ [] })) one
+
 -- what was served then for what a seat keeps, whose receipt it keeps now
-pub serves_seat : (seat : SeatView) (who : ℕ) (noted longer : List Noted) (share counted : ℕ) (receipt : Receipt) (event asked : Event) (app : AppView) (moves entries : ℕ)
-    → seat_of who noted share ≡ seat → event ≡ asked
-    → longer ≡ noted ++ record { number = receipt.place; event = receipt.entry.event; reply = receipt.entry.reply } ∷ [] → receipt.entry.who ≡ who
-    → counted ≡ share + 1 → Finds app moves entries share (λ d. (used d < d.most_entries) × (new : DeskView) × Does d who event new receipt)
-    → Finds app moves entries seat.share (λ d. (used d < d.most_entries) × Serves d seat asked (seat_of who longer counted))
-serves_seat seat who noted longer share counted receipt event asked app moves entries seen same is by one found =
-    let last : Noted = record { number = receipt.place; event = receipt.entry.event; reply = receipt.entry.reply } in
-    let own : receipt_of who last ≡ receipt =
-    ap (λ (who : ℕ). receipt_of who last) (sym by) in
-    let receipts = receipts_push who noted longer last receipt is own in
-    let after : seat_of who longer counted ≡ with_receipt (seat_of who noted share) receipt =
-    ap (λ (receipts : List Receipt). record { who = who; receipts = receipts; share = counted }) receipts
-    ∙ ap (λ (share : ℕ). record { who = who; receipts = map (receipt_of who) noted ++ receipt ∷ []; share = share }) one in
-    let does : Does found.0 who asked found.2.1 receipt = subst (λ (event : Event). Does found.0 who event found.2.1 receipt) same found.2.2 in
-    subst (λ (seat : SeatView). Finds app moves entries seat.share (λ d. (used d < d.most_entries) × Serves d seat asked (seat_of who longer counted))) seen
-    (found.0, found.1, (found.2.0, (found.2.1, (receipt, does, after))))
-
--- a seat that keeps what it kept
-pub seat_stays : (who : ℕ) (noted kept : List Noted) (share counted : ℕ) (seat : SeatView) → seat_of who noted share ≡ seat → kept ≡ noted → counted ≡ share
-    → seat_of who kept counted ≡ seat
-seat_stays who noted kept share counted seat seen same one =
-    ap (λ (noted : List Noted). seat_of who noted counted) same ∙ ap (λ (share : ℕ). seat_of who noted share) one ∙ seen
-
--- What holds in any case holds where something is refused.
-pub on_err : {T E : Type 0} (result : Result T E) (P : Type 0) → P → OnErr result P
-on_err (Ok value) P holds = tt
-on_err (Err error) P holds = holds
+pub serves_seat : (seat : SeatView) (kept longer : ReceiptsView) (share counted : ℕ) (receipt : Receipt) (asked : Event) (app : AppView) (moves entries : ℕ)
+    → seat_with kept share ≡ seat → longer.who ≡ kept.who → longer.receipts ≡ kept.receipts ++ receipt ∷ [] → counted ≡ share + 1
+    → Finds app moves entries share (λ d. (used d < d.most_entries) × (new : DeskView) × Does d kept.who asked new receipt)
+    → Finds app moves entries seat.share (λ d. (used d < d.most_entries) × Serves d seat asked (seat_with longer counted))
+serves_seat seat kept longer share counted receipt asked app moves entries seen same more one found =
+    subst (λ (seat : SeatView). Finds app moves entries seat.share (λ d. (used d < d.most_entries) × Serves d seat asked (seat_with longer counted))) seen
+    (found.0, found.1, (found.2.0, (found.2.1, (receipt, found.2.2, with_one kept longer share counted receipt same more one))))
 
 -- ---- what is known of a debugger that has ended
 

@@ -11,7 +11,7 @@ use Rattle.rd_desk.specs.DeskView.{used, DeskView, Does, IsKept}
 use Rattle.rd_desk.specs.Memory.{MayLackMemory}
 use Rattle.rd_desk.specs.Refusals.{tally_of}
 use Rattle.rd_desk.specs.Sessions.{IsPresent}
-use Rattle.rd_hall.specs.SeatView.{RoomedSeat, SeatView, next_place, with_receipt}
+use Rattle.rd_hall.specs.SeatView.{ReceiptsView, RoomedSeat, SeatView, next_place, with_receipt}
 
 -- what a contract sees of a room: the desk, the total of the ledger, for how many entries more the
 -- history has room, and for how many bytes of theirs
@@ -36,6 +36,10 @@ pub record IsOf (d : DeskView) (used_app : AppView) (moves entries : ℕ) : Type
 pub record ReachesTo (d : DeskView) (who place : ℕ) : Type 0 where
   pub past : place ≤ length d.history
   pub present : IsPresent d.debugger.sessions who
+
+-- The history reaches past the last of these receipts, and their session is present.
+abbrev pub ReachesPast : DeskView → ReceiptsView → Type 0
+ReachesPast d kept = ReachesTo d kept.who (next_place 0 kept.receipts)
 
 -- The history reaches past the seat's last receipt, and its session is present.
 abbrev pub Reaches : DeskView → SeatView → Type 0

@@ -1,6 +1,6 @@
 //! The receipts that are handed in at the end, against the history.
 
-ghost use Rattle.std.specs.Prelude.{◌≡◌, ◌↔◌, ◌≤◌, [], length, nat_eq, if◌then◌else◌, All, IsTrue};
+ghost use Rattle.std.specs.Prelude.{◌≡◌, ◌↔◌, [], length, nat_eq, if◌then◌else◌, All, IsTrue};
 ghost use Rattle.rd_hall.specs.SeatView.{IsSeries, next_place};
 ghost use Rattle.rd_desk.specs.HistoryView.{IsEntered};
 ghost use Rattle.rd_hall.specs.Account.{IsAccount, IsAccounted, Fits, AllFit};
@@ -118,14 +118,14 @@ impl<L: Setup> Closed<L> {
         self.history.len()
     }
 
-    /// The history.
+    /// For tests alone: the history.
     pub fn history(&self) -> &History
         ensures { result.now.entries ≡ self.now.history }
     {
         &self.history
     }
 
-    /// The sessions with their receipts, as they were handed in.
+    /// For tests alone: the sessions with their receipts, as they were handed in.
     pub fn gones(&self) -> &[Gone<L>]
         ensures { result.now ≡ self.now.gones }
     {

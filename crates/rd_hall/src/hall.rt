@@ -15,7 +15,7 @@ ghost use Rattle.rd_hall.specs.Seats.{newcomer};
 use crate::account::{Broken, Closed};
 use crate::look::Look;
 use crate::room::Room;
-use crate::seat::{Gone, Pass, Seat, put_receipt};
+use crate::seat::{Gone, Pass, Seat};
 use crate::setup::Setup;
 use rd_bytes::no_memory::NoMemory;
 use rd_command::known::Known;
@@ -93,7 +93,7 @@ impl<L: Setup> Hall<L> {
         self.room.lock(rt)
     }
 
-    /// How many entries the history may have.
+    /// For tests alone: how many entries the history may have.
     pub fn limit(&self) -> usize
         ensures { result ≡ L.most_entries }
     {
@@ -107,19 +107,22 @@ impl<L: Setup> Hall<L> {
         &self.known
     }
 
-    /// What stands behind the lock now, beside the target itself. It takes no memory.
+    /// For tests alone: what stands behind the lock now, beside the target itself. It takes no
+    /// memory.
     pub fn look(&self, rt: &impl Wait) -> Look {
         let room = self.enter(rt);
         room.look()
     }
 
-    /// A copy of the target behind the lock. `NoMemory` where a growth was refused.
+    /// For tests alone: a copy of the target behind the lock. `NoMemory` where a growth was
+    /// refused.
     pub fn copy_target(&self, rt: &impl Wait, alloc: Global) -> Result<State, NoMemory> {
         let room = self.enter(rt);
         room.target().copy(alloc)
     }
 
-    /// Whether the target behind the lock is this state, to the last field. It takes no memory.
+    /// For tests alone: whether the target behind the lock is this state, to the last field. It
+    /// takes no memory.
     pub fn is_target(&self, rt: &impl Wait, state: &State) -> bool {
         let room = self.enter(rt);
         room.target().same(state)
@@ -175,25 +178,18 @@ impl<L: Setup> Hall<L> {
         // The seat grows before the lock. That there was no memory for it is said under it, where
         // it is known whether the history is the seat's own.
         let made = seat.make_room(order.line().len());
-        let (who, next) = (seat.who, seat.next);
         let receipt = {
             let mut room = self.enter(rt);
             room.keeps();
             room.backs(&mut seat.share);
-            room.serve(who, next, &mut seat.share, &mut seat.receipts, made, order)?
+            room.serve(&mut seat.share, &mut seat.receipts, made, order)?
         };
         // Nobody else sees what a seat keeps, so its receipt is put there behind the lock.
-        put_receipt(
-            &mut seat.receipts,
-            &mut seat.last,
-            &mut seat.next,
-            receipt,
-            order,
-        );
+        seat.receipts.put(receipt, order);
         Ok(())
     }
 
-    /// The same for a seat that is handed in, and back.
+    /// For tests alone: the same for a seat that is handed in, and back.
     pub fn ask(
         &self,
         rt: &impl Wait,

@@ -5,8 +5,7 @@ ghost use Rattle.std.specs.Prelude.{Ok, IfOk, IfErr, OnOk, OnErr, IsTrue, IsOk, 
 ghost use Rattle.rd_command.specs.Bindings.{known_of};
 ghost use Rattle.rd_desk.specs.Debugger.{opening};
 ghost use Rattle.rd_desk.specs.DeskView.{Does, IsKept, LeadsBack, used};
-ghost use Rattle.rd_desk.specs.HistoryView.{reply_bytes};
-ghost use Rattle.rd_desk.specs.Kept.{IsNarrow, IsShort};
+ghost use Rattle.rd_desk.specs.Kept.{IsShort};
 ghost use Rattle.rd_desk.specs.Legal.{IsLegal};
 ghost use Rattle.rd_desk.specs.Refusals.{tally_of, IfEnterFull, IfServeFull, is_serve_full};
 ghost use Rattle.rd_desk.specs.Refusals.{KeepsOut, LetsIn};
@@ -15,12 +14,14 @@ ghost use Rattle.rd_desk.specs.declared.sessions.TheConstants.{MAX_JOINS};
 ghost use Rattle.rd_timeline.specs.History.{state_after};
 ghost use Rattle.rd_hall.specs.Account.{IsAccount, IsAccounted};
 ghost use Rattle.rd_hall.specs.Looks.{look_of};
-ghost use Rattle.rd_hall.specs.Seats.{newcomer, DoesFor, IsOf, LetsGo, Reaches, ReachesTo};
+ghost use Rattle.rd_hall.specs.SeatView.{Follows, StayWithRoom};
+ghost use Rattle.rd_hall.specs.Seats.{newcomer, DoesFor, IsOf, LetsGo, Reaches, ReachesPast};
 ghost use Rattle.rd_hall.specs.Seats.{IsUnchanged, LacksRoomFor, MayBeShort};
 
 use crate::account::{Broken, Closed, is_account};
 use crate::look::Look;
-use crate::seat::{Gone, Pass, Seat, put_receipt};
+use crate::receipts::Receipts;
+use crate::seat::{Gone, Pass, Seat};
 use crate::setup::Setup;
 use rd_bytes::no_memory::NoMemory;
 use rd_command::order::Order;
@@ -107,8 +108,8 @@ impl<L: Setup> Room<L> {
         Ok((Room { alloc, desk, book }, passes))
     }
 
-    /// The history is one of the sequential debugger, and as long as the ledger's total. The
-    /// debugger is the one that the hall is set up for.
+    /// For contracts alone: the history is one of the sequential debugger, and as long as the
+    /// ledger's total. The debugger is the one that the hall is set up for.
     pub fn keeps(&self)
         ensures kept { IsKept self.now.desk }
         ensures counted { length self.now.desk.history ≡ self.now.total }
@@ -117,10 +118,11 @@ impl<L: Setup> Room<L> {
         self.desk.keeps();
     }
 
-    /// The target: the state that the moves done, and not undone, give from the start, whichever
-    /// sessions made them. The history is one of the sequential debugger from its opening on, and
-    /// as long as the ledger's total. The records that the room holds are of the moves done from
-    /// the base on, one of each, and going back by them gives the whole state before each.
+    /// For contracts and tests alone: the target, which is the state that the moves done, and not
+    /// undone, give from the start, whichever sessions made them. The history is one of the
+    /// sequential debugger from its opening on, and as long as the ledger's total. The records that
+    /// the room holds are of the moves done from the base on, one of each, and going back by them
+    /// gives the whole state before each.
     pub fn target(&self) -> &State
         ensures legal { IsLegal self.now.desk.history self.now.desk.debugger }
         ensures leads { state_after self.now.desk.debugger.app.runs
@@ -133,7 +135,8 @@ impl<L: Setup> Room<L> {
         self.desk.target()
     }
 
-    /// What stands in the debugger now, beside the target itself. It takes no memory.
+    /// For tests alone: what stands in the debugger now, beside the target itself. It takes no
+    /// memory.
     pub fn look(&self) -> Look
         ensures { result ≡ look_of self.now.desk }
     {
@@ -164,8 +167,8 @@ impl<L: Setup> Room<L> {
         if let Err(error) = self.desk.may_enter() {
             return Err((pass, error));
         }
-        let mut receipts = Rows::new(self.alloc);
-        let Ok(()) = receipts.make_room(2, 0) else {
+        let mut rows = Rows::new(self.alloc);
+        let Ok(()) = rows.make_room(2, 0) else {
             return Err((pass, EnterError::NoMemory));
         };
         match self.desk.enter() {
@@ -173,14 +176,14 @@ impl<L: Setup> Room<L> {
                 let Pass { mut share } = pass;
                 self.book.add(&mut share, 1);
                 let next = self.desk.entries();
-                receipts.push(entered.place as u32, Deed::Enter, &[], &DeskReply::Done);
-                Ok(Seat {
+                rows.push(entered.place as u32, Deed::Enter, &[], &DeskReply::Done);
+                let receipts = Receipts {
                     who: entered.entry.who,
-                    receipts,
+                    rows,
                     last: entered,
                     next,
-                    share,
-                })
+                };
+                Ok(Seat { receipts, share })
             }
             Err(error) => Err((pass, error)),
         }
@@ -197,19 +200,20 @@ impl<L: Setup> Room<L> {
         self.book.audit(share);
     }
 
-    // Whether the history reaches to this place, and the session is present.
-    fn reaches(&self, who: u32, next: usize) -> bool
-        ensures { IsTrue result ↔ ReachesTo self.now.desk who next }
+    // Whether the history reaches past the last of these receipts, and their session is present.
+    fn reaches(&self, receipts: &Receipts) -> bool
+        ensures { IsTrue result ↔ ReachesPast self.now.desk receipts.now }
     {
-        next <= self.desk.entries() && self.desk.is_present(who)
+        receipts.next() <= self.desk.entries() && self.desk.is_present(receipts.who())
     }
 
-    /// Serves a command that was bound for the application; the seat gets the receipt of that.
-    /// `Broken` where the history doesn't reach past the seat's last receipt, or its session isn't
-    /// present, else `NoMemory` where the seat has no room for two more receipts, this and that of
-    /// its leave, or for the line of this one, else `HistoryFull` where no place is free, else
-    /// `NoMemory` where the debugger has none, or the seat none for the text of a view. A refusal
-    /// changes nothing. It takes no memory beside that of the debugger and of a view's text.
+    /// For tests alone: serves a command that was bound for the application; the seat gets the
+    /// receipt of that. `Broken` where the history doesn't reach past the seat's last receipt, or
+    /// its session isn't present, else `NoMemory` where the seat has no room for two more receipts,
+    /// this and that of its leave, or for the line of this one, else `HistoryFull` where no place
+    /// is free, else `NoMemory` where the debugger has none, or the seat none for the text of a
+    /// view. A refusal changes nothing. It takes no memory beside that of the debugger and of a
+    /// view's text.
     pub fn ask(&mut self, seat: &mut Seat<L>, order: &Order<'_, '_>) -> Result<(), NotServed>
         requires application { order.now.known ≡ known_of L.app }
         ensures ok { OnOk result (DoesFor self.old.desk seat.old.session
@@ -235,16 +239,9 @@ impl<L: Setup> Room<L> {
         ensures bytes_kept { OnErr result (seat.old.byte_room ≤ seat.new.byte_room) }
         ensures room_taken { OnOk result (seat.old.room ≤ seat.new.room + 1) }
     {
-        let (who, next) = (seat.who, seat.next);
-        let made = seat.room_for(order.line().len());
-        let receipt = self.serve(who, next, &mut seat.share, &mut seat.receipts, made, order)?;
-        put_receipt(
-            &mut seat.receipts,
-            &mut seat.last,
-            &mut seat.next,
-            receipt,
-            order,
-        );
+        let made = seat.receipts.room_for(order.line().len());
+        let receipt = self.serve(&mut seat.share, &mut seat.receipts, made, order)?;
+        seat.receipts.put(receipt, order);
         Ok(())
     }
 
@@ -258,35 +255,31 @@ impl<L: Setup> Room<L> {
     /// view's text.
     pub(crate) fn serve(
         &mut self,
-        who: u32,
-        next: usize,
         share: &mut Share<L>,
-        receipts: &mut Rows,
+        receipts: &mut Receipts,
         made: Result<(), NoMemory>,
         order: &Order<'_, '_>,
     ) -> Result<Receipt, NotServed>
         requires application { order.now.known ≡ known_of L.app }
         requires part { 0 < share.old.parts }
-        requires rows_made { OnOk made (2 ≤ receipts.old.row_room) }
+        requires rows_made { OnOk made (2 ≤ receipts.old.room) }
         requires bytes_made { OnOk made (length order.now.line ≤ receipts.old.byte_room) }
         requires not_made { OnErr made
-            (LacksRoomFor receipts.old.row_room receipts.old.byte_room order.now.line) }
-        ensures ok { IfOk result (Does self.old.desk who (Ask order.now.command) self.new.desk) }
-        ensures who { IfOk result (λ receipt. receipt.entry.who ≡ who) }
-        ensures event { IfOk result (λ receipt. receipt.entry.event ≡ Ask order.now.command) }
-        ensures behind { IfOk result (λ receipt. next ≤ receipt.place) }
-        ensures short { IfOk result (λ receipt. IsShort receipt.place) }
-        ensures narrow { IfOk result (λ receipt. IsNarrow receipt.entry.reply) }
+            (LacksRoomFor receipts.old.room receipts.old.byte_room order.now.line) }
+        ensures ok { IfOk result
+            (Does self.old.desk receipts.old.who (Ask order.now.command) self.new.desk) }
+        ensures follows { IfOk result
+            (Follows receipts.new order.now.line order.now.command) }
         ensures broken { IsErrOf result NotServed.Broken
-            ↔ (¬ ReachesTo self.old.desk who next) }
+            ↔ (¬ ReachesPast self.old.desk receipts.old) }
         ensures history_full { IsTrue (is_serve_full result)
-            ↔ (ReachesTo self.old.desk who next
+            ↔ (ReachesPast self.old.desk receipts.old
             × (self.old.desk.most_entries ≡ used self.old.desk)
-            × (2 ≤ receipts.old.row_room)
+            × (2 ≤ receipts.old.room)
             × (length order.now.line ≤ receipts.old.byte_room)) }
         ensures no_memory { IsErrOf result NotServed.NoMemory
-            → ReachesTo self.old.desk who next
-            × MayBeShort self.old who receipts.new.row_room receipts.new.byte_room
+            → ReachesPast self.old.desk receipts.old
+            × MayBeShort self.old receipts.old.who receipts.new.room receipts.new.byte_room
             order.now.line order.now.command }
         ensures room { OnOk result (used self.old.desk < self.old.desk.most_entries) }
         ensures tally { IfErr result (λ error. IfServeFull error (λ tally.
@@ -296,19 +289,13 @@ impl<L: Setup> Room<L> {
         ensures amount { OnOk result (share.new.amount ≡ share.old.amount + 1) }
         ensures no_amount { OnErr result (share.new.amount ≡ share.old.amount) }
         ensures parts { share.new.parts ≡ share.old.parts }
-        ensures noted { receipts.new.noted ≡ receipts.old.noted }
-        ensures rows { receipts.old.row_room ≤ receipts.new.row_room }
-        ensures some_rows { OnOk result (2 ≤ receipts.new.row_room) }
-        ensures bytes { receipts.old.byte_room ≤ receipts.new.byte_room }
-        ensures receipt_bytes { IfOk result (λ receipt.
-            length order.now.line + length (reply_bytes receipt.entry.reply)
-            ≤ receipts.new.byte_room) }
+        ensures stay { StayWithRoom receipts.old receipts.new }
     {
-        if !self.reaches(who, next) {
+        if !self.reaches(receipts) {
             return Err(NotServed::Broken);
         }
         made?;
-        let receipt = self.desk.serve(who, order, receipts)?;
+        let receipt = self.desk.serve(receipts.who, order, &mut receipts.rows)?;
         self.book.add(share, 1);
         Ok(receipt)
     }
@@ -323,11 +310,11 @@ impl<L: Setup> Room<L> {
             → (self.new ≡ self.old) × (result ≡ seat.session) }
         ensures lets_go { LetsGo self.old.desk seat.session result }
     {
-        if !self.reaches(seat.who, seat.next) {
+        if !self.reaches(&seat.receipts) {
             return seat.gone();
         }
         self.desk.keeps();
-        let left = self.desk.depart(seat.who);
+        let left = self.desk.depart(seat.who());
         let next = self.desk.entries();
         seat.leave(&mut self.book, left, next)
     }

@@ -1,18 +1,18 @@
 //! The sessions of a hall: who may join, who has joined, and who has left.
 
-ghost use Rattle.std.specs.Prelude.{◌≡◌, ◌↔◌, ◌+◌, ◌-◌, ◌<◌, ◌≤◌, ◌⊎◌, ◌∷◌, ◌++◌, []};
+ghost use Rattle.std.specs.Prelude.{◌≡◌, ◌↔◌, ◌+◌, ◌-◌, ◌<◌, ◌≤◌, ◌⊎◌};
 ghost use Rattle.std.specs.Prelude.{length, slice_get};
 ghost use Rattle.std.specs.Prelude.{IfOk, IsSomeAnd, IsTrue, OnErr, OnOk, Some};
-ghost use Rattle.rd_desk.specs.HistoryView.{reply_bytes, IsEntered};
-ghost use Rattle.rd_desk.specs.Kept.{IsNarrow, IsShort};
-ghost use Rattle.rd_desk.specs.declared.entry.Event.TheVariants.{Ask, Leave};
+ghost use Rattle.rd_desk.specs.HistoryView.{IsEntered};
+ghost use Rattle.rd_desk.specs.Kept.{IsShort};
+ghost use Rattle.rd_desk.specs.declared.entry.Event.TheVariants.{Leave};
 ghost use Rattle.rd_desk.specs.declared.reply.DeskReply.TheVariants.{Done};
 ghost use Rattle.rd_hall.specs.Account.{ends_in_leave, first_place};
 ghost use Rattle.rd_hall.specs.SeatView.{IsSeries, next_place, with_receipt};
 
+use crate::receipts::Receipts;
 use crate::setup::Setup;
 use rd_bytes::no_memory::NoMemory;
-use rd_command::order::Order;
 use rd_desk::entry::{HistoryEntry, Receipt};
 use rd_desk::history::History;
 use rd_desk::reply::DeskReply;
@@ -43,33 +43,28 @@ impl<L: Setup> Pass<L> {
     }
 }
 
-/// A session that has joined, with its receipts, of which the last also stands by itself. It must
-/// be spent: it ends in `leave`.
+/// A session that has joined, with its receipts. It must be spent: it ends in `leave`.
 pub struct Seat<L: Setup> {
-    pub(crate) who: u32,
-    pub(crate) receipts: Rows,
-    pub(crate) last: Receipt,
-    pub(crate) next: usize,
+    pub(crate) receipts: Receipts,
     pub(crate) share: Share<L>,
 }
 
 impl<L: Setup> Model for Seat<L> {
-    ghost use Rattle.std.specs.Prelude.{◌<◌};
-    ghost use Rattle.rd_hall.specs.SeatView.{RoomedSeat, seat_of, IsLast, IsSeat};
+    ghost use Rattle.std.specs.Prelude.{◌≡◌, ◌<◌, length};
+    ghost use Rattle.rd_hall.specs.SeatView.{RoomedSeat, seat_with};
 
     ghost Value = { RoomedSeat };
 
     ghost view = { λ s. record {
-      session = seat_of s.who s.receipts.noted s.share.amount;
-      room = s.receipts.row_room;
+      session = seat_with s.receipts s.share.amount;
+      room = s.receipts.room;
       byte_room = s.receipts.byte_room;
     } };
 
     // There is room for the receipt of its leave.
-    ghost invariant = { λ s.
-        IsSeat (seat_of s.who s.receipts.noted s.share.amount) s.next s.share.parts s.share.amount
-        × IsLast (seat_of s.who s.receipts.noted s.share.amount) s.last
-        × (0 < s.receipts.row_room) };
+    ghost invariant = { λ s. (s.share.parts ≡ 1)
+        × (s.share.amount ≡ length s.receipts.receipts)
+        × (0 < s.receipts.room) };
 }
 
 /// A session that has left, with its receipts.
@@ -93,42 +88,12 @@ impl<L: Setup> Model for Gone<L> {
         s.share.amount };
 }
 
-// Puts the receipt of a command behind the others of its session, of which it is the last then.
-// There is room for it.
-pub(crate) fn put_receipt(
-    receipts: &mut Rows,
-    last: &mut Receipt,
-    next: &mut usize,
-    receipt: Receipt,
-    order: &Order<'_, '_>,
-)
-    requires place { IsShort receipt.place }
-    requires event { receipt.entry.event ≡ Ask order.now.command }
-    requires narrow { IsNarrow receipt.entry.reply }
-    requires room { 0 < receipts.old.row_room }
-    requires bytes { length order.now.line + length (reply_bytes receipt.entry.reply)
-        ≤ receipts.old.byte_room }
-    ensures noted { receipts.new.noted ≡ receipts.old.noted ++ record {
-      number = receipt.place;
-      event = receipt.entry.event;
-      reply = receipt.entry.reply;
-    } ∷ [] }
-    ensures room { receipts.new.row_room + 1 ≡ receipts.old.row_room }
-    ensures last { last.new ≡ receipt }
-    ensures next { next.new ≡ receipt.place + 1 }
-{
-    let place = receipt.place as u32;
-    receipts.push(place, Deed::Ask, order.line(), &receipt.entry.reply);
-    *next = receipt.place + 1;
-    *last = receipt;
-}
-
 impl<L: Setup> Seat<L> {
     /// The number of the session, from 1 on.
     pub fn who(&self) -> u32
         ensures { result ≡ self.now.session.who }
     {
-        self.who
+        self.receipts.who()
     }
 
     /// The last receipt.
@@ -136,18 +101,18 @@ impl<L: Setup> Seat<L> {
         ensures { slice_get self.now.session.receipts (length self.now.session.receipts - 1)
             ≡ Some result.now }
     {
-        &self.last
+        self.receipts.last()
     }
 
-    /// There are receipts, all name the session, and they rise in place. The session has as much of
-    /// the ledger as receipts, and room for the receipt of its leave.
+    /// For contracts alone: there are receipts, all name the session, and they rise in place. The
+    /// session has as much of the ledger as receipts, and room for the receipt of its leave.
     pub fn keeps(&self)
         ensures some { 0 < length self.now.session.receipts }
         ensures series { IsSeries self.now.session.who 0 self.now.session.receipts }
         ensures share { self.now.session.share ≡ length self.now.session.receipts }
         ensures room { 0 < self.now.room }
     {
-        let _ = &self.who;
+        self.receipts.keeps();
     }
 }
 
@@ -163,36 +128,23 @@ impl<L: Setup> Seat<L> {
         ensures kept_bytes { self.old.byte_room ≤ self.new.byte_room }
         ensures short { OnErr result ((self.new.room < 2) ⊎ (self.new.byte_room < bytes)) }
     {
-        self.receipts.make_room(2, bytes)
-    }
-
-    // Whether there is that room.
-    pub(crate) fn room_for(&self, bytes: usize) -> Result<(), NoMemory>
-        ensures room { OnOk result (2 ≤ self.now.room) }
-        ensures bytes { OnOk result (bytes ≤ self.now.byte_room) }
-        ensures short { OnErr result ((self.now.room < 2) ⊎ (self.now.byte_room < bytes)) }
-    {
-        if self.receipts.has_room(2, bytes) {
-            Ok(())
-        } else {
-            Err(NoMemory)
-        }
+        self.receipts.make_room(bytes)
     }
 
     // The session as one that has left, without a receipt of that.
     pub(crate) fn gone(self) -> Gone<L>
         ensures { result ≡ self.session }
     {
-        let Seat {
+        let Seat { receipts, share } = self;
+        let Receipts {
             who,
-            receipts,
+            rows,
             last: _last,
             next,
-            share,
-        } = self;
+        } = receipts;
         Gone {
             who,
-            receipts,
+            receipts: rows,
             next,
             share,
         }
@@ -210,17 +162,20 @@ impl<L: Setup> Seat<L> {
         ensures book { book.new.total ≡ book.old.total + 1 }
     {
         let Seat {
-            who,
-            mut receipts,
-            last: _last,
-            next: _,
+            receipts,
             mut share,
         } = self;
+        let Receipts {
+            who,
+            mut rows,
+            last: _last,
+            next: _,
+        } = receipts;
         book.add(&mut share, 1);
-        receipts.push(receipt.place as u32, Deed::Leave, &[], &DeskReply::Done);
+        rows.push(receipt.place as u32, Deed::Leave, &[], &DeskReply::Done);
         Gone {
             who,
-            receipts,
+            receipts: rows,
             next,
             share,
         }
@@ -242,8 +197,8 @@ impl<L: Setup> Gone<L> {
         self.receipts.len()
     }
 
-    /// The receipt at an index, in the order in which they came. An `Err` says that there is no
-    /// memory for it.
+    /// For tests alone: the receipt at an index, in the order in which they came. An `Err` says
+    /// that there is no memory for it.
     pub fn receipt(&self, alloc: Global, index: usize) -> Result<Receipt, NoMemory>
         requires { index < length self.now.receipts }
         ensures { IfOk result (λ receipt. slice_get self.now.receipts index ≡ Some receipt) }
@@ -259,8 +214,8 @@ impl<L: Setup> Gone<L> {
         })
     }
 
-    /// There are receipts, all name the session, and they rise in place. The session has as much of
-    /// the ledger as receipts.
+    /// For contracts alone: there are receipts, all name the session, and they rise in place. The
+    /// session has as much of the ledger as receipts.
     pub fn keeps(&self)
         ensures some { 0 < length self.now.receipts }
         ensures series { IsSeries self.now.who 0 self.now.receipts }

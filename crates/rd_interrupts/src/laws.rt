@@ -4,19 +4,20 @@ ghost use Rattle.rd_interrupts.specs.InterruptLaws.{NotificationsArriveByInterru
 ghost use Rattle.rd_interrupts.specs.InterruptLaws.{RefusedInterruptsChangeNothing};
 ghost use Rattle.rd_interrupts.specs.InterruptLaws.{SendsWakeTheFirst};
 
-/// An interrupt that answers 0 changes nothing where nothing is left to schedule: it was made, and
-/// that is all.
+/// A law: an interrupt that answers 0 changes nothing where nothing is left to schedule: it was
+/// made, and that is all.
 pub fn refused_interrupts_change_nothing()
     ensures { RefusedInterruptsChangeNothing }
 {}
 
-/// An item that an interrupt puts into a queue in no set wakes the first who waits to receive, if
-/// somebody does: that task waits nowhere any more.
+/// A law: an item that an interrupt puts into a queue in no set wakes the first who waits to
+/// receive, if somebody does: that task waits nowhere any more.
 pub fn sends_wake_the_first()
     ensures { SendsWakeTheFirst }
 {}
 
-/// Once an interrupt has notified an entry, it has received, whatever the action and the answer.
+/// A law: once an interrupt has notified an entry, it has received, whatever the action and the
+/// answer.
 pub fn notifications_arrive_by_interrupt()
     ensures { NotificationsArriveByInterrupt }
 {}

@@ -273,8 +273,8 @@ pub fn wake_if_due(editing: &mut Editing, priorities: &[u8], task: usize) -> Res
     }
 }
 
-/// Whoever waits isn't ready, so that in a valid state where somebody waits the ready list has room
-/// to wake them: nobody has to call.
+/// A law: whoever waits isn't ready, so that in a valid state where somebody waits the ready list
+/// has room to wake them: nobody has to call.
 pub fn who_waits_leaves_room()
     ensures { WhoWaitsLeavesRoom }
 {}

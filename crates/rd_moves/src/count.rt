@@ -50,7 +50,7 @@ impl Count {
     }
 }
 
-/// How many moves a command makes or takes back at the most, as a number.
+/// For contracts alone: how many moves a command makes or takes back at the most, as a number.
 pub fn limit_of_counts()
     ensures { MAX_COUNT ≡ 1000000 }
 {}

@@ -1,7 +1,7 @@
 //! What can be asked of a target, as plain data: moves, edits and requests, and what each names of
 //! an application. What they do stands elsewhere.
 //! Page: `docs/MODEL.md`. Definitions in reading order (`specs/`): `Counts`, `Edits`, `Interrupts`,
-//! `Carried`, `Moves`.
+//! `Carried`, `Moves`, `Requests`.
 #![tactic(auto)]
 
 pub mod answer;

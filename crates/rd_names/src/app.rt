@@ -97,8 +97,8 @@ impl App {
         Ok(App::new(program, names).unwrap())
     }
 
-    /// What every application keeps: what runs is within the limits, and each thing has a name of
-    /// its own in its kind.
+    /// For contracts alone: what every application keeps: what runs is within the limits, and each
+    /// thing has a name of its own in its kind.
     pub fn limits(&self)
         ensures { IsApp self.now }
     {

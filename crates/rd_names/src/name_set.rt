@@ -49,7 +49,8 @@ impl NameSet {
         Ok(NameSet { ordered })
     }
 
-    /// What holds of every set: its texts are names, no two of which are equal.
+    /// For contracts alone: what holds of every set: its texts are names, no two of which are
+    /// equal.
     pub fn keeps(&self)
         ensures { AreDistinctNames self.now }
     {

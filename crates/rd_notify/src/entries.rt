@@ -179,7 +179,7 @@ impl Notes {
     }
 }
 
-/// How many notification entries a task has at the most, as a number.
+/// For contracts alone: how many notification entries a task has at the most, as a number.
 pub fn limit_of_entries()
     ensures { MAX_ENTRIES ≡ 4 }
 {}

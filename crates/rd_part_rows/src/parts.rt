@@ -8,6 +8,7 @@ use rd_app::app::Program;
 use rd_bytes::no_memory::NoMemory;
 use rd_calls::play::play;
 use rd_moves::moves::Move;
+use rd_packed::packed::Packed;
 use rd_queue::queue::Queue;
 use rd_queue::waiting_list::WaitingList;
 use rd_refusal::refusal::Refusal;
@@ -15,7 +16,6 @@ use rd_state::change::Change;
 use rd_state::editing::Editing;
 use rd_state::phase::Listed;
 use rd_state::state::State;
-use rd_timeline::log::Log;
 use rd_timeline::timeline::Timeline;
 use std::alloc::Global;
 use std::process::Abort;
@@ -82,12 +82,12 @@ fn moves_full(rt: HostRuntime) -> Result<(), Fail> {
 }
 
 // A move of core 0 is played, and its record is kept.
-fn is_kept(alloc: Global, app: &Program, state: &mut State, log: &mut Log) -> bool
+fn is_kept(alloc: Global, app: &Program, state: &mut State, log: &mut Packed) -> bool
     requires valid { IsValid app.now state.old }
     requires core { 0 < app.now.cores }
 {
     match play(alloc, state, app, &Move::Core { core: 0 }) {
-        Ok(undo) => match Timeline::keep(log, undo) {
+        Ok(undo) => match log.push(undo) {
             Ok(()) => true,
             Err(undo) => {
                 undo.retire();
@@ -104,7 +104,7 @@ fn keeps_a_record(rt: &impl Abort, alloc: Global, timeline: &Timeline) -> Result
     let app = timeline.app();
     assert!(rt; app.cores() > 0);
     let mut state = timeline.target().copy(alloc)?;
-    let mut log = Log::new(alloc);
+    let mut log = Packed::new(alloc);
     let kept = is_kept(alloc, app, &mut state, &mut log);
     let records = log.len();
     log.retire();

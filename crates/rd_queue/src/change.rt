@@ -134,7 +134,7 @@ impl Queue {
     }
 }
 
-/// Each change of a queue is undone by its inverse, to the last field of the queue.
+/// A law: each change of a queue is undone by its inverse, to the last field of the queue.
 pub fn each_queue_change_is_undone()
     ensures { EachQueueChangeIsUndone }
 {}

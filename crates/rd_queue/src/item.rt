@@ -59,7 +59,7 @@ impl Item {
     }
 }
 
-/// How many bytes an item has at the most, as a number.
+/// For contracts alone: how many bytes an item has at the most, as a number.
 pub fn limit_of_item_sizes()
     ensures { MAX_ITEM_SIZE ≡ 64 }
 {}

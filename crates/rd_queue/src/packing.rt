@@ -2,11 +2,10 @@
 
 ghost use Rattle.std.specs.Prelude.{◌≡◌, ◌+◌, ◌<◌, ◌≤◌, ◌++◌, length, IsOk, OnOk, OnErr};
 ghost use Rattle.rd_bytes.specs.Ends.{all_but, bytes_before, end_byte, end_short};
+ghost use Rattle.rd_bytes.specs.Layouts.{EachRowIsReadBack, EndsInRow, HasRoom};
+ghost use Rattle.rd_bytes.specs.Layouts.{laid_out, last_length, last_row};
 ghost use Rattle.rd_queue.specs.Changes.{the_queue_change, Fill};
-ghost use Rattle.rd_queue.specs.PackedChanges.{byte_of_list, list_of_byte, queue_packed};
-ghost use Rattle.rd_queue.specs.PackedChanges.{last_queue, last_queue_change};
-ghost use Rattle.rd_queue.specs.PackedChanges.{queue_change_length, EndsInQueueChange};
-ghost use Rattle.rd_queue.specs.PackedChanges.{QueueHasBytes, EachQueueChangeIsReadBack};
+ghost use Rattle.rd_queue.specs.PackedChanges.{byte_of_list, list_of_byte, queue_layout};
 
 use crate::change::QueueChange;
 use crate::waiting_list::WaitingList;
@@ -44,12 +43,12 @@ impl QueueChange<'_> {
     /// is room for them. Where there is no memory for them, nothing has changed.
     #[inline(always)]
     pub fn pack(self, queue: usize, bytes: &mut ByteStack) -> Result<(), NoMemory>
-        requires { QueueHasBytes queue (the_queue_change self) }
+        requires { HasRoom queue_layout queue (the_queue_change self) }
         ensures ok { OnOk result (bytes.new.bytes
-            ≡ bytes.old.bytes ++ queue_packed queue (the_queue_change self.entry)) }
+            ≡ bytes.old.bytes ++ laid_out queue_layout queue (the_queue_change self.entry)) }
         ensures enough { length bytes.old.bytes
-            + length (queue_packed queue (the_queue_change self.entry)) ≤ bytes.old.capacity
-            → IsOk result }
+            + length (laid_out queue_layout queue (the_queue_change self.entry))
+            ≤ bytes.old.capacity → IsOk result }
         ensures grows { bytes.old.capacity ≤ bytes.new.capacity }
         ensures err { OnErr result (bytes.new ≡ bytes.old) }
     {
@@ -90,10 +89,10 @@ impl QueueChange<'_> {
 fn pack_fill(number: u8, front: &[u8], back: &[u8], bytes: &mut ByteStack) -> Result<(), NoMemory>
     requires { length (front.now ++ back.now) < 65536 }
     ensures ok { OnOk result (bytes.new.bytes
-        ≡ bytes.old.bytes ++ queue_packed number (Fill (front.now ++ back.now))) }
+        ≡ bytes.old.bytes ++ laid_out queue_layout number (Fill (front.now ++ back.now))) }
     ensures enough { length bytes.old.bytes
-        + length (queue_packed number (Fill (front.now ++ back.now))) ≤ bytes.old.capacity
-        → IsOk result }
+        + length (laid_out queue_layout number (Fill (front.now ++ back.now)))
+        ≤ bytes.old.capacity → IsOk result }
     ensures grows { bytes.old.capacity ≤ bytes.new.capacity }
     ensures err { OnErr result (bytes.new ≡ bytes.old) }
 {
@@ -147,9 +146,9 @@ fn carried(bytes: &[u8], fields: usize) -> (&[u8], &[u8])
 fn last_insertion(bytes: &[u8]) -> LastQueueChange<'_>
     requires there { 5 ≤ length bytes.now }
     requires tag { end_byte 1 bytes.now ≡ INS_WAIT }
-    ensures queue { result.queue ≡ last_queue bytes.now }
-    ensures change { the_queue_change result.change ≡ last_queue_change bytes.now }
-    ensures rest { result.rest.now ≡ all_but (queue_change_length bytes.now) bytes.now }
+    ensures row { last_row queue_layout bytes.now
+        ≡ (result.queue, the_queue_change result.change) }
+    ensures rest { result.rest.now ≡ all_but (last_length queue_layout bytes.now) bytes.now }
 {
     let list = list_of_byte(end_byte(bytes, 5));
     let index = usize::from(end_byte(bytes, 3));
@@ -167,9 +166,9 @@ fn last_insertion(bytes: &[u8]) -> LastQueueChange<'_>
 fn last_deletion(bytes: &[u8]) -> LastQueueChange<'_>
     requires there { 4 ≤ length bytes.now }
     requires tag { end_byte 1 bytes.now ≡ DEL_WAIT }
-    ensures queue { result.queue ≡ last_queue bytes.now }
-    ensures change { the_queue_change result.change ≡ last_queue_change bytes.now }
-    ensures rest { result.rest.now ≡ all_but (queue_change_length bytes.now) bytes.now }
+    ensures row { last_row queue_layout bytes.now
+        ≡ (result.queue, the_queue_change result.change) }
+    ensures rest { result.rest.now ≡ all_but (last_length queue_layout bytes.now) bytes.now }
 {
     let list = list_of_byte(end_byte(bytes, 4));
     let index = usize::from(end_byte(bytes, 2));
@@ -184,10 +183,10 @@ fn last_deletion(bytes: &[u8]) -> LastQueueChange<'_>
 /// Reads the change of a queue that stands at the end of the bytes.
 #[inline(always)]
 pub fn last_queue_change(bytes: &[u8]) -> LastQueueChange<'_>
-    requires { EndsInQueueChange bytes.now }
-    ensures queue { result.queue ≡ last_queue bytes.now }
-    ensures change { the_queue_change result.change ≡ last_queue_change bytes.now }
-    ensures rest { result.rest.now ≡ all_but (queue_change_length bytes.now) bytes.now }
+    requires { EndsInRow queue_layout bytes.now }
+    ensures row { last_row queue_layout bytes.now
+        ≡ (result.queue, the_queue_change result.change) }
+    ensures rest { result.rest.now ≡ all_but (last_length queue_layout bytes.now) bytes.now }
 {
     match end_byte(bytes, 1) {
         INS_WAIT => last_insertion(bytes),
@@ -224,7 +223,8 @@ pub fn last_queue_change(bytes: &[u8]) -> LastQueueChange<'_>
     }
 }
 
-/// Each change of a queue that was put behind bytes is read at their end, and leaves those before.
+/// A law: each change of a queue that was put behind bytes is read at their end, and leaves those
+/// before.
 pub fn each_queue_change_is_read_back()
-    ensures { EachQueueChangeIsReadBack }
+    ensures { EachRowIsReadBack queue_layout }
 {}

@@ -158,7 +158,7 @@ impl Queue {
         self.ring.same(&other.ring)
     }
 
-    /// The sizes that every queue keeps.
+    /// For contracts alone: the sizes that every queue keeps.
     pub fn sizes(&self)
         ensures { IsSizedQueue self.now }
     {
@@ -273,7 +273,8 @@ impl Queue {
         Ok(())
     }
 
-    /// Puts an item at the front (`xQueueSendToFront`). A full queue refuses, and stays as it was.
+    /// For tests alone: puts an item at the front (`xQueueSendToFront`). A full queue refuses, and
+    /// stays as it was.
     pub fn put_front(&mut self, item: &[u8]) -> Result<(), Full>
         requires { length item.now ≡ self.old.item_size }
         ensures full { IsErr result ↔ (length self.old.items ≡ self.old.capacity) }
@@ -391,7 +392,7 @@ impl Queue {
         self.push_front(item);
     }
 
-    /// Takes the item at the back out again: what undoes `put_back`.
+    /// For tests alone: takes the item at the back out again: what undoes `put_back`.
     pub fn unput(&mut self) -> Item
         requires { 0 < length self.old.items }
         ensures item { slice_get self.old.items (length self.old.items - 1) ≡ Some result }
@@ -512,7 +513,7 @@ impl Queue {
     }
 }
 
-/// How many items a queue has room for at the most, as a number.
+/// For contracts alone: how many items a queue has room for at the most, as a number.
 pub fn limit_of_items()
     ensures { MAX_ITEMS ≡ 64 }
 {}

@@ -97,7 +97,7 @@ impl QueueSet {
         has_same_sizes && self.handles == other.handles && self.waiting.same(&other.waiting)
     }
 
-    /// The sizes that every set keeps.
+    /// For contracts alone: the sizes that every set keeps.
     pub fn sizes(&self)
         ensures { IsSizedQueueSet self.now }
     {
@@ -223,7 +223,7 @@ impl QueueSet {
     }
 }
 
-/// How many handles a queue set has room for at the most, as a number.
+/// For contracts alone: how many handles a queue set has room for at the most, as a number.
 pub fn limit_of_handles()
     ensures { MAX_HANDLES ≡ 2048 }
 {}

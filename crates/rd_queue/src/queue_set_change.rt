@@ -70,7 +70,7 @@ impl QueueSet {
     }
 }
 
-/// Each change of a queue set is undone by its inverse, to the last field of the set.
+/// A law: each change of a queue set is undone by its inverse, to the last field of the set.
 pub fn each_queue_set_change_is_undone()
     ensures { EachQueueSetChangeIsUndone }
 {}

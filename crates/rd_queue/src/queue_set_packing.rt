@@ -2,11 +2,9 @@
 
 ghost use Rattle.std.specs.Prelude.{◌≡◌, ◌+◌, ◌≤◌, ◌++◌, length, IsOk, OnOk, OnErr};
 ghost use Rattle.rd_bytes.specs.Ends.{all_but};
-ghost use Rattle.rd_queue.specs.PackedQueueSetChanges.{queue_set_packed};
-ghost use Rattle.rd_queue.specs.PackedQueueSetChanges.{last_queue_set, last_queue_set_change};
-ghost use Rattle.rd_queue.specs.PackedQueueSetChanges.{queue_set_change_length};
-ghost use Rattle.rd_queue.specs.PackedQueueSetChanges.{QueueSetHasBytes, EndsInQueueSetChange};
-ghost use Rattle.rd_queue.specs.PackedQueueSetChanges.{EachQueueSetChangeIsReadBack};
+ghost use Rattle.rd_bytes.specs.Layouts.{EachRowIsReadBack, EndsInRow, HasRoom};
+ghost use Rattle.rd_bytes.specs.Layouts.{laid_out, last_length, last_row};
+ghost use Rattle.rd_queue.specs.PackedQueueSetChanges.{queue_set_layout};
 
 use crate::queue_set_change::QueueSetChange;
 use rd_bytes::byte_stack::ByteStack;
@@ -22,11 +20,12 @@ impl QueueSetChange {
     /// what packs changes of all kinds would be larger than what the compiler inlines.)
     #[inline(never)]
     pub fn pack(self, queue_set: usize, bytes: &mut ByteStack) -> Result<(), NoMemory>
-        requires { QueueSetHasBytes queue_set self }
+        requires { HasRoom queue_set_layout queue_set self }
         ensures ok { OnOk result (bytes.new.bytes
-            ≡ bytes.old.bytes ++ queue_set_packed queue_set self) }
-        ensures enough { length bytes.old.bytes + length (queue_set_packed queue_set self)
-            ≤ bytes.old.capacity → IsOk result }
+            ≡ bytes.old.bytes ++ laid_out queue_set_layout queue_set self) }
+        ensures enough { length bytes.old.bytes
+            + length (laid_out queue_set_layout queue_set self) ≤ bytes.old.capacity
+            → IsOk result }
         ensures grows { bytes.old.capacity ≤ bytes.new.capacity }
         ensures err { OnErr result (bytes.new ≡ bytes.old) }
     {
@@ -76,10 +75,9 @@ macro_rules! last {
 /// Reads the change of a queue set that stands at the end of the bytes.
 #[inline(always)]
 pub fn last_queue_set_change(bytes: &[u8]) -> LastQueueSetChange<'_>
-    requires { EndsInQueueSetChange bytes.now }
-    ensures queue_set { result.queue_set ≡ last_queue_set bytes.now }
-    ensures change { result.change ≡ last_queue_set_change bytes.now }
-    ensures rest { result.rest.now ≡ all_but (queue_set_change_length bytes.now) bytes.now }
+    requires { EndsInRow queue_set_layout bytes.now }
+    ensures row { last_row queue_set_layout bytes.now ≡ (result.queue_set, result.change) }
+    ensures rest { result.rest.now ≡ all_but (last_length queue_set_layout bytes.now) bytes.now }
 {
     match end_byte(bytes, 1) {
         INS_WAIT => {
@@ -104,8 +102,8 @@ pub fn last_queue_set_change(bytes: &[u8]) -> LastQueueSetChange<'_>
     }
 }
 
-/// Each change of a queue set that was put behind bytes is read at their end, and leaves those
-/// before.
+/// A law: each change of a queue set that was put behind bytes is read at their end, and leaves
+/// those before.
 pub fn each_queue_set_change_is_read_back()
-    ensures { EachQueueSetChangeIsReadBack }
+    ensures { EachRowIsReadBack queue_set_layout }
 {}

@@ -83,7 +83,7 @@ impl ByteRing {
         }
     }
 
-    /// The sizes that every ring keeps.
+    /// For contracts alone: the sizes that every ring keeps.
     pub fn sizes(&self)
         ensures { IsSizedRing self.now }
     {
@@ -223,14 +223,14 @@ impl ByteRing {
     }
 }
 
-/// What was put in at an end can be taken out again there, and what was taken out, cleared or
-/// replaced can be put in again: the ring is then what it was, and its bytes lie where they lay.
+/// A law: what was put in at an end can be taken out again there, and what was taken out, cleared
+/// or replaced can be put in again: the ring is then what it was, and its bytes lie where they lay.
 pub fn each_ring_change_is_undone()
     ensures { EachRingChangeIsUndone }
 {}
 
-/// A new ring for a number of pieces of one size has them whole, and keeps them whole as long as
-/// whole pieces are put in and taken out at the front.
+/// A law: a new ring for a number of pieces of one size has them whole, and keeps them whole as
+/// long as whole pieces are put in and taken out at the front.
 pub fn whole_pieces_stay_whole()
     ensures { WholePiecesStayWhole }
 {}

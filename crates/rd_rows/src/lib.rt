@@ -1,7 +1,7 @@
 //! Whole runs of the program: what it is asked, what it answers, and how it ends.
 //!
 //! Each test of broken input (files, lines, reads, writes, words, connections) names the promise
-//! that it shows, as docs/PROMISES.md does: a call, and its clauses.
+//! that it shows, as docs/PROMISES.md does: a call, and its clauses. Page: `docs/PROMISES.md`.
 #![tactic(auto)]
 
 #[cfg(test)]

@@ -1,5 +1,5 @@
 //! Runs of the debugger in which a growth can be refused: whoever starts it has one allocation fail
-//! (`ci/refused`), and each run shows that the refusal has changed nothing.
+//! (`ci/refused`), and each run shows that the refusal has changed nothing. Page: `docs/GATE.md`.
 #![tactic(auto)]
 
 mod aim;

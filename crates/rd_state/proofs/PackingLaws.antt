@@ -12,13 +12,14 @@ use Rattle.rd_bytes.specs.declared.tag.TheConstants.{SET_TICK, SET_TURN, SET_COR
 use Rattle.rd_bytes.specs.declared.tag.TheConstants.{SET_READER, SET_WRITER, STREAM_HOLDER}
 use Rattle.rd_queue.proofs.Offered.{queue_change_is_read_back, queue_set_change_is_read_back, queue_inverse_has_bytes, queue_set_inverse_has_bytes}
 use Rattle.rd_group.proofs.Offered.{group_change_is_read_back, group_inverse_has_bytes}
-use Rattle.rd_group.specs.PackedGroupChanges.{last_group, last_group_change, group_change_length, GroupChangeIsAtEnd}
+use Rattle.rd_bytes.specs.Layouts.{encoded, IsLaidAtEnd, last_length, last_row, row_widths}
+use Rattle.rd_group.specs.PackedGroupChanges.{group_layout}
 use Rattle.rd_group.specs.declared.group_change.GroupChange.{GroupChange}
 use Rattle.rd_group.specs.declared.group_change.GroupChange.TheVariants as of_group
 use Rattle.rd_queue.specs.Changes.{QueueChange}
 use Rattle.rd_queue.specs.declared.queue_set_change.QueueSetChange.{QueueSetChange}
-use Rattle.rd_queue.specs.PackedChanges.{last_queue_change, queue_change_length, QueueChangeIsAtEnd}
-use Rattle.rd_queue.specs.PackedQueueSetChanges.{last_queue_set_change, queue_set_change_length, QueueSetChangeIsAtEnd}
+use Rattle.rd_queue.specs.PackedChanges.{queue_layout, queue_row}
+use Rattle.rd_queue.specs.PackedQueueSetChanges.{queue_set_layout}
 use Rattle.rd_stream.proofs.Offered.{message_change_is_read_back, message_inverse_has_bytes, stream_change_is_read_back, stream_inverse_has_bytes}
 use Rattle.rd_stream.specs.MessageChanges.{MessageChange}
 use Rattle.rd_stream.specs.MessageChanges as of_message
@@ -30,8 +31,7 @@ use Rattle.rd_stream.specs.declared.side.Side.TheVariants.{Reader, Writer}
 use Rattle.std.proofs.Common.{◌*◌, ◌≢◌, nat_lt}
 use Rattle.std.proofs.lemmas.List.Sums.{sum_by-cons}
 use Rattle.rd_queue.specs.Changes.{InsWait, DelWait, PutBack, TakeBack, PutFront, TakeFront, SetItem, Clear, Fill, SetMember}
-use Rattle.rd_queue.specs.declared.queue_set_change.QueueSetChange.TheVariants as in_set
-use Rattle.rd_queue.specs.PackedChanges.{queue_fields}
+use Rattle.rd_queue.specs.declared.queue_set_change.QueueSetChange.TheVariants as of_set
 use Rattle.rd_state.specs.Change.{cost_of, saved_bytes, weight_of}
 use Rattle.rd_state.specs.TaskChanges.{SetPc, SetReg, SetPhase, SetEntry, SetData}
 use Rattle.rd_state.specs.PackedTaskChanges.{task_fields}
@@ -39,7 +39,7 @@ use Rattle.rd_state.specs.Change.{Change, SetTick, SetTurn, SetCore, InsReady, D
 use Rattle.rd_state.specs.Objects.{ObjectChange, ObjectsSnapshot, numbers_in, Queue, QueueSet, Stream, Message, Group, group_in, message_in, queue_in, queue_set_in, stream_in, object_inverse_of, AreSizedObjects, ObjectFits}
 use Rattle.rd_state.specs.TaskChanges.{TaskChange}
 use Rattle.rd_state.specs.PackedTaskChanges.{last_task, last_task_change, task_change_length, TaskChangeIsAtEnd}
-use Rattle.rd_state.specs.PackedChanges.{packed, last_object_change, object_change_length, last_change, change_length, before_last}
+use Rattle.rd_state.specs.PackedChanges.{packed, group_change_of, queue_change_of, queue_set_change_of, last_object_change, object_change_length, last_change, change_length, before_last}
 use Rattle.rd_state.specs.PackedChanges.{all_packed, changes_in, AreChanges, EndsInChange, HasBytes, IsAtEnd, ObjectHasBytes, EachIsReadBack}
 use Rattle.rd_state.specs.PackedChanges.{ChangeListView, HasNoRoomForChange}
 use Rattle.std.specs.Prelude.{Result, Ok, Err, OnErr}
@@ -124,22 +124,22 @@ task_read bytes rest task change there =
     (record { same = by.same ∙ ap (λ n. Task n (last_task_change bytes)) there.task ∙ ap (Task task) there.same; length = by.length })
     there.ends.whole there.before
 
-queue_read : (bytes rest : List ℕ) (queue : ℕ) (change : QueueChange) → QueueChangeIsAtEnd bytes rest queue change → IsAtEnd bytes rest (Object (Queue queue change))
+queue_read : (bytes rest : List ℕ) (queue : ℕ) (change : QueueChange) → IsLaidAtEnd queue_layout bytes rest queue change → IsAtEnd bytes rest (Object (Queue queue change))
 queue_read bytes rest queue change there =
     let by = by_object_tag bytes there.tag in
-    at_end bytes rest (Object (Queue queue change)) (queue_change_length bytes) there.ends.some (omega (arith, there.tag))
+    at_end bytes rest (Object (Queue queue change)) (last_length queue_layout bytes) there.ends.some (omega (arith, there.tag))
     (record {
-      same = by.same ∙ ap Object (rw there.kind (ap (λ n. Queue n (last_queue_change bytes)) there.queue ∙ ap (Queue queue) there.same));
+      same = by.same ∙ ap Object (rw there.kind (ap queue_change_of there.same));
       length = by.length ∙ rw there.kind refl;
     })
     there.ends.whole there.before
 
-queue_set_read : (bytes rest : List ℕ) (n : ℕ) (change : QueueSetChange) → QueueSetChangeIsAtEnd bytes rest n change → IsAtEnd bytes rest (Object (QueueSet n change))
+queue_set_read : (bytes rest : List ℕ) (n : ℕ) (change : QueueSetChange) → IsLaidAtEnd queue_set_layout bytes rest n change → IsAtEnd bytes rest (Object (QueueSet n change))
 queue_set_read bytes rest n change there =
     let by = by_object_tag bytes there.tag in
-    at_end bytes rest (Object (QueueSet n change)) (queue_set_change_length bytes) there.ends.some (omega (arith, there.tag))
+    at_end bytes rest (Object (QueueSet n change)) (last_length queue_set_layout bytes) there.ends.some (omega (arith, there.tag))
     (record {
-      same = by.same ∙ ap Object (rw there.kind (ap (λ k. QueueSet k (last_queue_set_change bytes)) there.queue_set ∙ ap (QueueSet n) there.same));
+      same = by.same ∙ ap Object (rw there.kind (ap queue_set_change_of there.same));
       length = by.length ∙ rw there.kind refl;
     })
     there.ends.whole there.before
@@ -164,12 +164,12 @@ message_read bytes rest n change there =
     })
     there.ends.whole there.before
 
-group_read : (bytes rest : List ℕ) (n : ℕ) (change : GroupChange) → GroupChangeIsAtEnd bytes rest n change → IsAtEnd bytes rest (Object (Group n change))
+group_read : (bytes rest : List ℕ) (n : ℕ) (change : GroupChange) → IsLaidAtEnd group_layout bytes rest n change → IsAtEnd bytes rest (Object (Group n change))
 group_read bytes rest n change there =
     let by = by_object_tag bytes (omega (arith, there.tag)) in
-    at_end bytes rest (Object (Group n change)) (group_change_length bytes) there.ends.some (omega (arith, there.tag))
+    at_end bytes rest (Object (Group n change)) (last_length group_layout bytes) there.ends.some (omega (arith, there.tag))
     (record {
-      same = by.same ∙ ap Object (rw there.kind (ap (λ k. Group k (last_group_change bytes)) there.group ∙ ap (Group n) there.same));
+      same = by.same ∙ ap Object (rw there.kind (ap group_change_of there.same));
       length = by.length ∙ rw there.kind refl;
     })
     there.ends.whole there.before
@@ -196,15 +196,13 @@ core_fits (Some task) count there few = omega (arith, there, few)
 object_inverse_has_bytes : (task_count : ℕ) (o : ObjectsSnapshot) (change : ObjectChange) → AreSizedObjects task_count o → ObjectFits o change → task_count ≤ 255
     → ObjectHasBytes (object_inverse_of o change)
 object_inverse_has_bytes task_count o (Queue queue change) sized fits few =
-    let here = queue_in_sized task_count o queue sized fits.0 in (
-      omega (arith, fits.0, sized.few_queues),
-      queue_inverse_has_bytes (queue_in o queue) change here.0 fits.1 (omega (arith, here.1, few)) (omega (arith, here.2, sized.few_queue_sets)),
-    )
+    let here = queue_in_sized task_count o queue sized fits.0 in
+    queue_inverse_has_bytes queue (queue_in o queue) change (omega (arith, fits.0, sized.few_queues)) here.0 fits.1 (omega (arith, here.1, few))
+    (omega (arith, here.2, sized.few_queue_sets))
 object_inverse_has_bytes task_count o (QueueSet n change) sized fits few =
-    let here = queue_set_in_sized task_count o n sized fits.0 in (
-      omega (arith, fits.0, sized.few_queue_sets),
-      queue_set_inverse_has_bytes (queue_set_in o n) change here.0 fits.1 (omega (arith, here.1, few)) (omega (arith, here.2, sized.few_queues)),
-    )
+    let here = queue_set_in_sized task_count o n sized fits.0 in
+    queue_set_inverse_has_bytes n (queue_set_in o n) change (omega (arith, fits.0, sized.few_queue_sets)) here.0 fits.1 (omega (arith, here.1, few))
+    (omega (arith, here.2, sized.few_queues))
 object_inverse_has_bytes task_count o (Stream n change) sized fits few =
     let here = stream_in_sized task_count o n sized fits.0 in
     (omega (arith, fits.0, sized.few_streams), stream_inverse_has_bytes (stream_in o n) change here.0 fits.1 (omega (arith, here.1, few)))
@@ -213,7 +211,7 @@ object_inverse_has_bytes task_count o (Message n change) sized fits few =
     (omega (arith, fits.0, sized.few_messages), message_inverse_has_bytes (message_in o n) change here.0 fits.1 (omega (arith, here.1, few)))
 object_inverse_has_bytes task_count o (Group n change) sized fits few =
     let here = group_in_sized task_count o n sized fits.0 in
-    (omega (arith, fits.0, sized.few_groups), group_inverse_has_bytes (group_in o n) change here.0 fits.1)
+    group_inverse_has_bytes n (group_in o n) change (omega (arith, fits.0, sized.few_groups)) here.0 fits.1
 
 -- There are so few objects that each has a number of one byte.
 few_numbers : (task_count : ℕ) (o : ObjectsSnapshot) → AreSizedObjects task_count o → AreFew (numbers_in o)
@@ -249,10 +247,10 @@ inverse_has_bytes s (Object change) sized fits = object_inverse_has_bytes (lengt
 
 abbrev length_of_kind : ℕ → List ℕ → ℕ
 length_of_kind kind bytes =
-    if kind == OF_QUEUE then queue_change_length bytes
-    else (if kind == OF_QUEUE_SET then queue_set_change_length bytes
+    if kind == OF_QUEUE then last_length queue_layout bytes
+    else (if kind == OF_QUEUE_SET then last_length queue_set_layout bytes
     else (if kind == OF_STREAM then stream_change_length bytes
-    else (if kind == OF_MESSAGE then message_change_length bytes else group_change_length bytes)))
+    else (if kind == OF_MESSAGE then message_change_length bytes else last_length group_layout bytes)))
 
 pub insertion_length : (bytes : List ℕ) → end_byte 1 bytes ≡ INS_WAIT → object_change_length bytes ≡ 5
 insertion_length bytes tag = ap (λ kind. length_of_kind kind bytes) kind ∙ by_list (nat_lt (end_byte 5 bytes) SELECTING_LIST)
@@ -364,8 +362,8 @@ some_by_kind kind a b c d e a1 b1 c1 d1 e1 = grind (arith, nat_tests, a1, b1, c1
 
 object_length_some : (bytes : List ℕ) → 1 ≤ object_change_length bytes
 object_length_some bytes =
-    some_by_kind (last_kind bytes) (queue_change_length bytes) (queue_set_change_length bytes) (stream_change_length bytes) (message_change_length bytes)
-    (group_change_length bytes) (grind (arith, nat_tests)) (grind (arith, nat_tests)) (grind (arith, nat_tests)) (grind (arith, nat_tests)) (grind (arith, nat_tests))
+    some_by_kind (last_kind bytes) (last_length queue_layout bytes) (last_length queue_set_layout bytes) (stream_change_length bytes) (message_change_length bytes)
+    (last_length group_layout bytes) (omega arith) (omega arith) (grind (arith, nat_tests)) (grind (arith, nat_tests)) (omega arith)
 
 task_length_some : (bytes : List ℕ) → 1 ≤ task_change_length bytes
 task_length_some bytes = grind (arith, nat_tests)
@@ -389,6 +387,10 @@ count-le (suc n) bytes are =
 abbrev pub IsBetween : ℕ → ℕ → ℕ → Type 0
 IsBetween low high n = (low - n) + (n - high) ≡ 0
 
+-- the fields of a change of a queue, and its tag
+abbrev fields_of : ℕ → QueueChange → List ℕ
+fields_of queue change = encoded (row_widths queue_layout queue change) (queue_row queue change).1 ++ (queue_row queue change).0 ∷ []
+
 -- A change takes a byte at least, 15 at the most, and those that it carries.
 pub packed_short : (change : Change) → IsBetween (1 + saved_bytes change) (15 + saved_bytes change) (length (packed change))
 packed_short (SetTick tick) = omega arith
@@ -403,20 +405,20 @@ packed_short (Task task (SetEntry index entry)) = omega arith
 packed_short (Task task (SetData d)) = omega (arith, length-append d (task_fields task (SetData d)))
 packed_short (Object (Queue queue (InsWait list index task))) = omega arith
 packed_short (Object (Queue queue (DelWait list index))) = omega arith
-packed_short (Object (Queue queue (PutBack item))) = omega (arith, length-append item (queue_fields queue (PutBack item)))
+packed_short (Object (Queue queue (PutBack item))) = omega (arith, length-append item (fields_of queue (PutBack item)))
 packed_short (Object (Queue queue TakeBack)) = omega arith
-packed_short (Object (Queue queue (PutFront item))) = omega (arith, length-append item (queue_fields queue (PutFront item)))
+packed_short (Object (Queue queue (PutFront item))) = omega (arith, length-append item (fields_of queue (PutFront item)))
 packed_short (Object (Queue queue TakeFront)) = omega arith
-packed_short (Object (Queue queue (SetItem index item))) = omega (arith, length-append item (queue_fields queue (SetItem index item)))
+packed_short (Object (Queue queue (SetItem index item))) = omega (arith, length-append item (fields_of queue (SetItem index item)))
 packed_short (Object (Queue queue Clear)) = omega arith
-packed_short (Object (Queue queue (Fill bytes))) = omega (arith, length-append bytes (queue_fields queue (Fill bytes)))
+packed_short (Object (Queue queue (Fill bytes))) = omega (arith, length-append bytes (fields_of queue (Fill bytes)))
 packed_short (Object (Queue queue (SetMember queue_set))) = omega arith
-packed_short (Object (QueueSet n (in_set.InsWait index task))) = omega arith
-packed_short (Object (QueueSet n (in_set.DelWait index))) = omega arith
-packed_short (Object (QueueSet n (in_set.PushHandle queue))) = omega arith
-packed_short (Object (QueueSet n in_set.DropHandle)) = omega arith
-packed_short (Object (QueueSet n in_set.TakeHandle)) = omega arith
-packed_short (Object (QueueSet n (in_set.UntakeHandle queue))) = omega arith
+packed_short (Object (QueueSet n (of_set.InsWait index task))) = omega arith
+packed_short (Object (QueueSet n (of_set.DelWait index))) = omega arith
+packed_short (Object (QueueSet n (of_set.PushHandle queue))) = omega arith
+packed_short (Object (QueueSet n of_set.DropHandle)) = omega arith
+packed_short (Object (QueueSet n of_set.TakeHandle)) = omega arith
+packed_short (Object (QueueSet n (of_set.UntakeHandle queue))) = omega arith
 packed_short (Object (Stream n (of_stream.PushBytes bytes))) = omega (arith, length-append bytes (stream_fields n (of_stream.PushBytes bytes)))
 packed_short (Object (Stream n (of_stream.DropBytes count))) = omega arith
 packed_short (Object (Stream n (of_stream.TakeBytes count))) = omega arith
@@ -507,8 +509,8 @@ last_change-object bytes is = (by_other_tag bytes is).same
 
 -- A change of an object whose kind is none of the others is one of an event group.
 pub record IsGroupKind (bytes : List ℕ) : Type 0 where
-  pub length : object_change_length bytes ≡ group_change_length bytes
-  pub change : last_object_change bytes ≡ Group (last_group bytes) (last_group_change bytes)
+  pub length : object_change_length bytes ≡ last_length group_layout bytes
+  pub change : last_object_change bytes ≡ group_change_of (last_row group_layout bytes)
 
 pub IsGroupKind-other : (bytes : List ℕ) → last_kind bytes ≢ OF_QUEUE → last_kind bytes ≢ OF_QUEUE_SET → last_kind bytes ≢ OF_STREAM → last_kind bytes ≢ OF_MESSAGE
     → IsGroupKind bytes

@@ -7,13 +7,13 @@ use Rattle.rd_bytes.specs.Tags.{last_kind}
 use Rattle.rd_bytes.specs.declared.tag.TheConstants.{SET_TICK, SET_TURN, SET_CORE, INS_READY}
 use Rattle.rd_bytes.specs.declared.tag.TheConstants.{DEL_READY, OF_QUEUE, OF_QUEUE_SET, OF_STREAM}
 use Rattle.rd_bytes.specs.declared.tag.TheConstants.{OF_MESSAGE}
-use Rattle.rd_group.specs.PackedGroupChanges.{group_change_length, group_packed, last_group}
-use Rattle.rd_group.specs.PackedGroupChanges.{last_group_change, GroupHasBytes}
-use Rattle.rd_queue.specs.PackedChanges.{last_queue, last_queue_change, queue_change_length}
-use Rattle.rd_queue.specs.PackedChanges.{queue_packed, QueueHasBytes}
-use Rattle.rd_queue.specs.PackedQueueSetChanges.{last_queue_set, last_queue_set_change}
-use Rattle.rd_queue.specs.PackedQueueSetChanges.{queue_set_change_length, queue_set_packed}
-use Rattle.rd_queue.specs.PackedQueueSetChanges.{QueueSetHasBytes}
+use Rattle.rd_bytes.specs.Layouts.{HasRoom, laid_out, last_length, last_row}
+use Rattle.rd_group.specs.PackedGroupChanges.{group_layout}
+use Rattle.rd_group.specs.declared.group_change.GroupChange.{GroupChange}
+use Rattle.rd_queue.specs.Changes.{QueueChange}
+use Rattle.rd_queue.specs.PackedChanges.{queue_layout}
+use Rattle.rd_queue.specs.PackedQueueSetChanges.{queue_set_layout}
+use Rattle.rd_queue.specs.declared.queue_set_change.QueueSetChange.{QueueSetChange}
 use Rattle.rd_state.specs.Change.{Change, SetTick, SetTurn, SetCore, InsReady, DelReady, Task}
 use Rattle.rd_state.specs.Change.{Object}
 use Rattle.rd_state.specs.Objects.{ObjectChange, Queue, QueueSet, Stream, Message, Group}
@@ -30,11 +30,11 @@ use Rattle.rd_state.specs.PackedTaskChanges.{task_packed, TaskHasBytes}
 
 -- the bytes of a change of an object
 abbrev pub object_packed : ObjectChange → List ℕ
-object_packed (Queue queue change) = queue_packed queue change
-object_packed (QueueSet queue_set change) = queue_set_packed queue_set change
+object_packed (Queue queue change) = laid_out queue_layout queue change
+object_packed (QueueSet queue_set change) = laid_out queue_set_layout queue_set change
 object_packed (Stream stream change) = stream_packed stream change
 object_packed (Message message change) = message_packed message change
-object_packed (Group group change) = group_packed group change
+object_packed (Group group change) = laid_out group_layout group change
 
 -- the bytes of a change: those that it carries, its fields, and its tag
 abbrev pub packed : Change → List ℕ
@@ -48,11 +48,11 @@ packed (Object change) = object_packed change
 
 -- The numbers of a change have room in their bytes, and none is the one that stands for none.
 abbrev pub ObjectHasBytes : ObjectChange → Type 0
-ObjectHasBytes (Queue queue change) = QueueHasBytes queue change
-ObjectHasBytes (QueueSet queue_set change) = QueueSetHasBytes queue_set change
+ObjectHasBytes (Queue queue change) = HasRoom queue_layout queue change
+ObjectHasBytes (QueueSet queue_set change) = HasRoom queue_set_layout queue_set change
 ObjectHasBytes (Stream stream change) = StreamHasBytes stream change
 ObjectHasBytes (Message message change) = MessageHasBytes message change
-ObjectHasBytes (Group group change) = GroupHasBytes group change
+ObjectHasBytes (Group group change) = HasRoom group_layout group change
 
 abbrev pub HasBytes : Change → Type 0
 HasBytes (SetTick tick) = tick < 2 ^ 32
@@ -63,25 +63,35 @@ HasBytes (DelReady index) = index < 255
 HasBytes (Task task change) = TaskHasBytes task change
 HasBytes (Object change) = ObjectHasBytes change
 
+-- a change of a queue, of a set and of a group, as one of an object
+abbrev pub queue_change_of : ℕ × QueueChange → ObjectChange
+queue_change_of last = Queue last.0 last.1
+
+abbrev pub queue_set_change_of : ℕ × QueueSetChange → ObjectChange
+queue_set_change_of last = QueueSet last.0 last.1
+
+abbrev pub group_change_of : ℕ × GroupChange → ObjectChange
+group_change_of last = Group last.0 last.1
+
 -- the change of an object at the end of bytes, and how many bytes it takes
 abbrev pub last_object_change : List ℕ → ObjectChange
 last_object_change bytes =
-    if last_kind bytes == OF_QUEUE then Queue (last_queue bytes) (last_queue_change bytes)
+    if last_kind bytes == OF_QUEUE then queue_change_of (last_row queue_layout bytes)
     else (if last_kind bytes == OF_QUEUE_SET
-    then QueueSet (last_queue_set bytes) (last_queue_set_change bytes)
+    then queue_set_change_of (last_row queue_set_layout bytes)
     else (if last_kind bytes == OF_STREAM
     then Stream (last_stream bytes) (last_stream_change bytes)
     else (if last_kind bytes == OF_MESSAGE
     then Message (last_message_buffer bytes) (last_message_change bytes)
-    else Group (last_group bytes) (last_group_change bytes))))
+    else group_change_of (last_row group_layout bytes))))
 
 abbrev pub object_change_length : List ℕ → ℕ
 object_change_length bytes =
-    if last_kind bytes == OF_QUEUE then queue_change_length bytes
-    else (if last_kind bytes == OF_QUEUE_SET then queue_set_change_length bytes
+    if last_kind bytes == OF_QUEUE then last_length queue_layout bytes
+    else (if last_kind bytes == OF_QUEUE_SET then last_length queue_set_layout bytes
     else (if last_kind bytes == OF_STREAM then stream_change_length bytes
     else (if last_kind bytes == OF_MESSAGE then message_change_length bytes
-    else group_change_length bytes)))
+    else last_length group_layout bytes)))
 
 -- the change at the end of bytes, and how many bytes it takes
 abbrev pub last_change : List ℕ → Change

@@ -139,7 +139,7 @@ impl Editing {
         self.changes.reserve(more)
     }
 
-    /// What the record got since the move began leads back to where it did.
+    /// For contracts alone: what the record got since the move began leads back to where it did.
     pub fn goes_on(&self)
         ensures { GoesOn self.now self.now.changes }
     {

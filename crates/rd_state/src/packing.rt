@@ -238,7 +238,7 @@ pub fn last_change(bytes: &[u8]) -> LastChange<'_>
     last!(Change::Object { change }, rest)
 }
 
-/// Each change that was put behind bytes is read at their end, and leaves those before.
+/// A law: each change that was put behind bytes is read at their end, and leaves those before.
 pub fn each_change_is_read_back()
     ensures { EachIsReadBack }
 {}

@@ -170,8 +170,8 @@ impl Editing {
     }
 }
 
-/// Scheduling ends with no ready task above a running one and no core idle while one is ready, and
-/// a state that is scheduled isn't changed by scheduling it again.
+/// A law: scheduling ends with no ready task above a running one and no core idle while one is
+/// ready, and a state that is scheduled isn't changed by scheduling it again.
 pub fn scheduling_settles()
     ensures { SchedulingSettles }
 {}

@@ -163,7 +163,7 @@ impl State {
         self.same_scheduling(other) && self.same_objects(other)
     }
 
-    /// The sizes that every state keeps.
+    /// For contracts alone: the sizes that every state keeps.
     pub fn sizes(&self)
         ensures { IsSized self.now }
     {

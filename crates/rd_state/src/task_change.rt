@@ -83,7 +83,7 @@ impl Task {
     }
 }
 
-/// Each change of a task is undone by its inverse, to the last field of the task.
+/// A law: each change of a task is undone by its inverse, to the last field of the task.
 pub fn each_task_change_is_undone()
     ensures { EachTaskChangeIsUndone }
 {}

@@ -77,7 +77,7 @@ impl Undo {
         self.changes.bytes()
     }
 
-    /// How much it takes: the number of its changes and the bytes that they carry.
+    /// For tests alone: how much it takes: the number of its changes and the bytes that they carry.
     pub fn weight(&self) -> usize
         ensures { result ≡ weight_of self.now }
     {
@@ -120,7 +120,7 @@ pub fn act(state: &mut State, undo: &mut Undo, change: Change<'_>) -> Result<(),
     undo.changes.act(state, change)
 }
 
-/// Each change is undone by its inverse, to the last field of the state.
+/// A law: each change is undone by its inverse, to the last field of the state.
 pub fn each_change_is_undone()
     ensures { EachIsUndone }
 {}

@@ -64,7 +64,7 @@ impl Holders {
             && self.task_count == other.task_count
     }
 
-    /// The sizes that the places of every buffer keep.
+    /// For contracts alone: the sizes that the places of every buffer keep.
     pub fn sizes(&self)
         ensures { IsSizedHolders self.now }
     {

@@ -140,7 +140,7 @@ impl MessageBuf {
         self.ring.same(&other.ring)
     }
 
-    /// The sizes that every message buffer keeps.
+    /// For contracts alone: the sizes that every message buffer keeps.
     pub fn sizes(&self)
         ensures { IsSizedMessageBuffer self.now }
     {
@@ -361,27 +361,10 @@ impl MessageBuf {
     {
         self.holder(Side::Writer)
     }
-
-    /// Has the reader's place name this task, or nobody.
-    pub fn set_reader(&mut self, task: Option<usize>)
-        requires { IfSome task (λ t. t < self.old.holders.task_count) }
-        ensures { self.new ≡ with_message_holders self.old
-            (record self.old.holders { reader = task }) }
-    {
-        self.set_holder(Side::Reader, task);
-    }
-
-    /// Has the writer's place name this task, or nobody.
-    pub fn set_writer(&mut self, task: Option<usize>)
-        requires { IfSome task (λ t. t < self.old.holders.task_count) }
-        ensures { self.new ≡ with_message_holders self.old
-            (record self.old.holders { writer = task }) }
-    {
-        self.set_holder(Side::Writer, task);
-    }
 }
 
-/// How many bytes a message buffer has room for at the least and at the most, as numbers.
+/// For contracts alone: how many bytes a message buffer has room for at the least and at the most,
+/// as numbers.
 pub fn limits_of_messages()
     ensures least { MIN_MESSAGE_BUFFER_SIZE ≡ 5 }
     ensures most { MAX_MESSAGE_BUFFER_SIZE ≡ 1024 }

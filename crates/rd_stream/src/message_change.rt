@@ -97,7 +97,8 @@ impl MessageBuf {
     }
 }
 
-/// Each change of a message buffer is undone by its inverse, to the last field of the buffer.
+/// A law: each change of a message buffer is undone by its inverse, to the last field of the
+/// buffer.
 pub fn each_message_change_is_undone()
     ensures { EachMessageChangeIsUndone }
 {}

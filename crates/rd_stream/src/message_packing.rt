@@ -166,8 +166,8 @@ pub fn last_message_change(bytes: &[u8]) -> LastMessageChange<'_>
     }
 }
 
-/// Each change of a message buffer that was put behind bytes is read at their end, and leaves those
-/// before.
+/// A law: each change of a message buffer that was put behind bytes is read at their end, and
+/// leaves those before.
 pub fn each_message_change_is_read_back()
     ensures { EachMessageChangeIsReadBack }
 {}

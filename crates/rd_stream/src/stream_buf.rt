@@ -88,7 +88,7 @@ impl StreamBuf {
             && self.holders.same(&other.holders)
     }
 
-    /// The sizes that every stream buffer keeps.
+    /// For contracts alone: the sizes that every stream buffer keeps.
     pub fn sizes(&self)
         ensures { IsSizedStream self.now }
     {
@@ -298,27 +298,9 @@ impl StreamBuf {
     {
         self.holder(Side::Writer)
     }
-
-    /// Has the reader's place name this task, or nobody.
-    pub fn set_reader(&mut self, task: Option<usize>)
-        requires { IfSome task (λ t. t < self.old.holders.task_count) }
-        ensures { self.new
-            ≡ with_stream_holders self.old (with_holder_of Side.Reader task self.old.holders) }
-    {
-        self.set_holder(Side::Reader, task);
-    }
-
-    /// Has the writer's place name this task, or nobody.
-    pub fn set_writer(&mut self, task: Option<usize>)
-        requires { IfSome task (λ t. t < self.old.holders.task_count) }
-        ensures { self.new
-            ≡ with_stream_holders self.old (with_holder_of Side.Writer task self.old.holders) }
-    {
-        self.set_holder(Side::Writer, task);
-    }
 }
 
-/// How many bytes a stream buffer has room for at the most, as a number.
+/// For contracts alone: how many bytes a stream buffer has room for at the most, as a number.
 pub fn limit_of_streams()
     ensures { MAX_STREAM_SIZE ≡ 1024 }
 {}

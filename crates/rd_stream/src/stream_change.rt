@@ -115,7 +115,7 @@ impl StreamBuf {
     }
 }
 
-/// Each change of a stream buffer is undone by its inverse, to the last field of the buffer.
+/// A law: each change of a stream buffer is undone by its inverse, to the last field of the buffer.
 pub fn each_stream_change_is_undone()
     ensures { EachStreamChangeIsUndone }
 {}

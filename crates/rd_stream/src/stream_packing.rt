@@ -204,8 +204,8 @@ pub fn last_stream_change(bytes: &[u8]) -> LastStreamChange<'_>
     }
 }
 
-/// Each change of a stream buffer that was put behind bytes is read at their end, and leaves those
-/// before.
+/// A law: each change of a stream buffer that was put behind bytes is read at their end, and leaves
+/// those before.
 pub fn each_stream_change_is_read_back()
     ensures { EachStreamChangeIsReadBack }
 {}

@@ -1,8 +1,7 @@
 -- What comes of each kind of request.
-use Rattle.std.proofs.Common.{◌≡◌, ◌≢◌, ◌∙◌, ℕ, ◌-◌, ◌<◌, ◌≤◌, ◌++◌, List, inl, inr, true, false, arith, cond, length, refl, ap, subst, sym, take}
+use Rattle.std.proofs.Common.{◌≡◌, ◌≢◌, ◌∙◌, ℕ, ◌-◌, ◌<◌, ◌≤◌, inl, inr, true, false, arith, cond, length, refl, ap, subst, sym}
 use Rattle.std.specs.Prelude.{Bool, IsTrue, nat_le, Option, None, Some, Result, Ok, Err, IfErr, IfOk, IsErr, IsErrOf, IsOk, OnErr, OnOk, ◌↔◌}
-use Rattle.std.proofs.lemmas.Bool.{cases_lt, eq-eqb, false≢true, le-leb, lt-leb, ne_eqb}
-use Rattle.std.proofs.lemmas.List.{length-append, length-take-le, length_push}
+use Rattle.std.proofs.lemmas.Bool.{cases_lt, false≢true, le-leb, lt-leb}
 use Rattle.rd_app.specs.Application.{Application}
 use Rattle.rd_bytes.specs.declared.no_memory.NoMemory.{NoMemory as NoMemoryError}
 use Rattle.rd_refusal.specs.declared.refusal.Refusal.{Refusal}
@@ -16,21 +15,21 @@ use Rattle.rd_moves.specs.declared.answer.Answer.TheVariants.{Refused}
 use Rattle.rd_moves.specs.declared.answer.SearchEnd.TheVariants.{Met, Limit}
 use Rattle.rd_moves.specs.declared.request.Request.TheVariants.{Go, Back, Forward, Redo, Until}
 use Rattle.rd_timeline.specs.Answers.{Obeys, answer_at, answer_of}
-use Rattle.rd_timeline.specs.Backward.{GoesBack, HasRedone, IsWhyNoRedo}
-use Rattle.rd_timeline.specs.Course.{Course, GoesOn, IsFull, IsWhyNot, base_of}
+use Rattle.rd_timeline.specs.Course.{Course, HasGrown, IsAsItWas, IsFull, IsWhyNot, Room}
 use Rattle.rd_timeline.specs.History.{state_after}
-use Rattle.rd_timeline.specs.Policy.{EndsRun, IsWhyNoRun, ended, moves_by_policy}
-use Rattle.rd_calls.specs.Step.{move_answer}
-use Rattle.rd_timeline.specs.Runs.{Ending, Plain, ending_of, moved, state_of}
-use Rattle.rd_timeline.specs.Runs.{Moves, Leaves, Refuses, Lays, ByPolicy, back_at, can_lay, end_of, go_response, kept, laid_on, lays, makes_move, moved_on, moves_after, moves_of, redone, response_to, run_of, run_response}
-use Rattle.rd_timeline.proofs.PolicyLaws.{made_more}
-use Rattle.rd_timeline.proofs.RunsLaws.{moved_given, run_given, run_needs_memory, target_given}
+use Rattle.rd_calls.specs.Step.{move_answer, step}
+use Rattle.rd_timeline.specs.Redoing.{IsWhyNoRedo}
+use Rattle.rd_timeline.specs.Running.{IsWhyNoRun, run_from}
+use Rattle.rd_timeline.specs.Runs.{Ending, Plain, ended, ending_of, moved, state_of}
+use Rattle.rd_timeline.specs.Runs.{Moves, Leaves, Refuses, Lays, ByPolicy, back_at, can_lay, end_of, go_response, kept, lays, makes_move, moved_on, moves_after, moves_of, redone, response_to, run_of, run_response}
+use Rattle.rd_timeline.proofs.RunsLaws.{moved_there, run_needs_memory, target_given, why_not_moved}
 
 -- ---- what comes of a request
 
 -- A request was done: these are the moves that it leaves, and where it was a search, this is how that came to its end.
 pub record IsAnswered (old : Course) (request : PlainRequest) (new : Course) (end : Ending) : Type 0 where
   pub comes : response_to old.app old.limit (moves_of old) request ≡ Leaves (moves_of new) end
+  pub grows : HasGrown old.room new.room
   pub app : new.app ≡ old.app
   pub limit : new.limit ≡ old.limit
   pub leads : state_after new.app new.done ≡ Ok new.target
@@ -39,8 +38,11 @@ pub record IsAnswered (old : Course) (request : PlainRequest) (new : Course) (en
 abbrev pub IsRefusedAs : Course → PlainRequest → Refusal → Type 0
 IsRefusedAs old request refusal = response_to old.app old.limit (moves_of old) request ≡ Refuses refusal
 
-leads_as_before : (old new : Course) → new ≡ old → state_after old.app old.done ≡ Ok old.target → state_after new.app new.done ≡ Ok new.target
+leads_as_before : (old new : Course) → IsAsItWas old new → state_after old.app old.done ≡ Ok old.target → state_after new.app new.done ≡ Ok new.target
 leads_as_before old new same leads = subst (λ (course : Course). state_after course.app course.done ≡ Ok course.target) (sym same) leads
+
+pub as_it_was : (old new : Course) → new ≡ old → IsAsItWas old new
+as_it_was old new same = same ∙ ap (λ (room : Room). record old { room = room }) (sym (ap (λ (course : Course). course.room) same))
 
 -- What is told then, where no memory is needed.
 pub obeyed : (old new : Course) (request : PlainRequest) (at : ℕ) (end : Ending) → at ≡ length new.done → IsAnswered old request new end
@@ -50,18 +52,20 @@ obeyed old new request at end at_is is = record {
   moves = sym (ap (moves_after (moves_of old)) is.comes);
   no_memory = tt;
   err = tt;
+  grows = is.grows;
   app = is.app;
   limit = is.limit;
   leads = is.leads;
 }
 
-pub nothing_changed : (old new : Course) (request : PlainRequest) (refusal : Refusal) → IsRefusedAs old request refusal → new ≡ old
+pub nothing_changed : (old new : Course) (request : PlainRequest) (refusal : Refusal) → IsRefusedAs old request refusal → IsAsItWas old new → HasGrown old.room new.room
     → state_after old.app old.done ≡ Ok old.target → Obeys old request new (Ok (Refused refusal))
-nothing_changed old new request refusal refused same leads = record {
+nothing_changed old new request refusal refused same grows leads = record {
   ok = sym (ap answer_of refused);
   moves = ap moves_of same ∙ sym (ap (moves_after (moves_of old)) refused);
   no_memory = tt;
   err = tt;
+  grows = grows;
   app = ap (λ (course : Course). course.app) same;
   limit = ap (λ (course : Course). course.limit) same;
   leads = leads_as_before old new same leads;
@@ -71,33 +75,30 @@ nothing_changed old new request refusal refused same leads = record {
 pub obeyed_if : {T : Type 0} (old new : Course) (request : PlainRequest) (made : Result T Refusal) (result : Result Answer NoMemoryError) (at : T → ℕ)
     (end : T → Ending) (Made : T → Type 0) (Why : Refusal → Type 0) → (IsErr result ↔ IsErrOf made NoMemory)
     → IfOk made (λ x. result ≡ Ok (answer_at (at x) (end x))) → IfErr made (λ refusal. refusal ≢ NoMemory → result ≡ Ok (Refused refusal))
-    → IfOk made (λ x. at x ≡ length new.done) → IfOk made Made → IfErr made Why → OnErr made (new ≡ old)
+    → IfOk made (λ x. at x ≡ length new.done) → IfOk made Made → IfErr made Why → OnErr made (IsAsItWas old new) → HasGrown old.room new.room
     → state_after old.app old.done ≡ Ok old.target → ((x : T) → Made x → IsAnswered old request new (end x))
     → ((refusal : Refusal) → refusal ≢ NoMemory → Why refusal → IsRefusedAs old request refusal)
     → (Why NoMemory → IsTrue (makes_move old.app old.limit (moves_of old) request)) → Obeys old request new result
-obeyed_if old new request (Ok x) result at end Made Why lacks tells says at_is ok why same leads follows refused needs =
+obeyed_if old new request (Ok x) result at end Made Why lacks tells says at_is ok why same grows leads follows refused needs =
     subst (λ (r : Result Answer NoMemoryError). Obeys old request new r) (sym tells) (obeyed old new request (at x) (end x) at_is (follows x ok))
-obeyed_if old new request (Err refusal) (Ok answer) at end Made Why lacks tells says at_is ok why same leads follows refused needs =
+obeyed_if old new request (Err refusal) (Ok answer) at end Made Why lacks tells says at_is ok why same grows leads follows refused needs =
     let other : refusal ≢ NoMemory = λ is. false≢true (lacks.1 (ap (λ (r : Refusal). Err r) is)) in
     subst (λ (r : Result Answer NoMemoryError). Obeys old request new r) (sym (says other))
-    (nothing_changed old new request refusal (refused refusal other why) same leads)
-obeyed_if {T} old new request (Err refusal) (Err error) at end Made Why lacks tells says at_is ok why same leads follows refused needs = record {
+    (nothing_changed old new request refusal (refused refusal other why) same grows leads)
+obeyed_if {T} old new request (Err refusal) (Err error) at end Made Why lacks tells says at_is ok why same grows leads follows refused needs = record {
   ok = tt;
   moves = tt;
   no_memory = needs (subst (λ (r : Result T Refusal). IfErr r Why) (lacks.0 refl) why);
   err = same;
+  grows = grows;
   app = ap (λ (course : Course). course.app) same;
   limit = ap (λ (course : Course). course.limit) same;
   leads = leads_as_before old new same leads;
 }
 
 -- the moves that are left are those of the course
-leaves : (moves : Moves) (end : Ending) (new : Course) → new.done ≡ moves.done → new.undone ≡ moves.undone → base_of new ≡ moves.base
-    → Leaves moves end ≡ Leaves (moves_of new) end
-leaves moves end new done undone base =
-    ap (λ (ms : List PlainMove). Leaves (record moves { done = ms }) end) (sym done)
-    ∙ ap (λ (us : List PlainMove). Leaves (record moves { done = new.done; undone = us }) end) (sym undone)
-    ∙ ap (λ b. Leaves (record { done = new.done; undone = new.undone; base = b }) end) (sym base)
+left : (moves : Moves) (end : Ending) (new : Course) → moves_of new ≡ moves → Leaves moves end ≡ Leaves (moves_of new) end
+left moves end new is = ap (λ (ms : Moves). Leaves ms end) (sym is)
 
 -- as many moves have a record as there are records
 pub kept_is : (course : Course) → length course.log ≤ length course.done → kept (moves_of course) ≡ length course.log
@@ -107,18 +108,26 @@ kept_is course fewer = omega (arith, fewer)
 
 -- what is known of a move that was made
 pub record IsMade (old : Course) (move : PlainMove) (new : Course) : Type 0 where
-  pub room : length old.done ≢ old.limit
-  pub goes : GoesOn old move new
+  pub has_room : length old.done ≢ old.limit
+  pub moves : moves_of new ≡ moved_on (moves_of old) move
+  pub step : step old.app old.target move ≡ Ok new.target
+  pub app : new.app ≡ old.app
+  pub limit : new.limit ≡ old.limit
   pub leads : state_after new.app new.done ≡ Ok new.target
 
 pub is_made : (old : Course) (move : PlainMove) (new : Course) (made : Result ℕ Refusal) → (IsErrOf made MovesFull ↔ IsFull old)
-    → OnOk made (GoesOn old move new) → OnOk made (state_after new.app new.done ≡ Ok new.target) → OnOk made (IsMade old move new)
-is_made old move new (Ok at) full goes leads = record {
-  room = λ is. let none : Ok at ≡ Err MovesFull = full.1 is in absurd cc;
-  goes = goes;
+    → OnOk made (moves_of new ≡ moved_on (moves_of old) move) → OnOk made (step old.app old.target move ≡ Ok new.target)
+    → OnOk made (new.app ≡ old.app) → OnOk made (new.limit ≡ old.limit) → OnOk made (state_after new.app new.done ≡ Ok new.target)
+    → OnOk made (IsMade old move new)
+is_made old move new (Ok at) full moves steps app limit leads = record {
+  has_room = λ is. let none : Ok at ≡ Err MovesFull = full.1 is in absurd cc;
+  moves = moves;
+  step = steps;
+  app = app;
+  limit = limit;
   leads = leads;
 }
-is_made old move new (Err refusal) full goes leads = tt
+is_made old move new (Err refusal) full moves steps app limit leads = tt
 
 -- how a move ends, made from there
 abbrev pub move_end : Course → PlainMove → Ending
@@ -129,30 +138,24 @@ end_given : (old : Course) (move : PlainMove) → state_after old.app old.done �
     → ending_of (move_answer (state_of old.app (moves_of old)) move) ≡ move_end old move
 end_given old move leads = ap (λ (s : Snapshot). ending_of (move_answer s move)) (target_given old leads)
 
-pub go_done : (old new : Course) (move : PlainMove) → state_after old.app old.done ≡ Ok old.target → IsMade old move new
+pub go_done : (old new : Course) (move : PlainMove) → state_after old.app old.done ≡ Ok old.target → HasGrown old.room new.room → IsMade old move new
     → IsAnswered old (Go move) new (move_end old move)
-go_done old new move leads made = record {
+go_done old new move leads grows made = record {
   comes =
       ap (λ (end : Ending). go_response (moves_of old) move end (moved old.app old.limit (moves_of old) move)) (end_given old move leads)
-      ∙ ap (go_response (moves_of old) move (move_end old move))
-      (moved_given old move false leads (ne_eqb (length old.done) old.limit made.room) ∙ made.goes.step)
-      ∙ leaves (moved_on (moves_of old) move) (move_end old move) new made.goes.done made.goes.undone
-      (omega (arith, made.goes.records, ap length made.goes.done, length_push old.done move));
-  app = made.goes.app;
-  limit = made.goes.limit;
+      ∙ ap (go_response (moves_of old) move (move_end old move)) (moved_there old move new.target leads made.has_room made.step)
+      ∙ left (moved_on (moves_of old) move) (move_end old move) new made.moves;
+  grows = grows;
+  app = made.app;
+  limit = made.limit;
   leads = made.leads;
 }
 
 pub go_not_done : (old : Course) (move : PlainMove) (refusal : Refusal) → state_after old.app old.done ≡ Ok old.target → refusal ≢ NoMemory
     → IsWhyNot old move refusal → IsRefusedAs old (Go move) refusal
-go_not_done old move refusal leads other why = elim why [
-  | inl full ↦
-      ap (go_response (moves_of old) move (ending_of (move_answer (state_of old.app (moves_of old)) move))) (moved_given old move true leads (eq-eqb (length old.done) old.limit full.0)) ∙ ap Refuses (sym full.1)
-  | inr others ↦ elim others [
-    | inl by_rules ↦
-        ap (go_response (moves_of old) move (ending_of (move_answer (state_of old.app (moves_of old)) move))) (moved_given old move false leads (ne_eqb (length old.done) old.limit by_rules.0) ∙ by_rules.1)
-    | inr lacks ↦ absurd (other lacks.1)
-  ]
+go_not_done old move refusal leads other why = elim (why_not_moved old move refusal leads why) [
+  | inl refused ↦ ap (go_response (moves_of old) move (ending_of (move_answer (state_of old.app (moves_of old)) move))) refused
+  | inr lacks ↦ absurd (other lacks.1)
 ]
 
 -- ---- back, and on again
@@ -162,31 +165,19 @@ of_some : (moves : Moves) (refusal : Refusal) (some b : Bool) → some ≡ b
     → cond some (Leaves moves Plain) (Refuses refusal) ≡ cond b (Leaves moves Plain) (Refuses refusal)
 of_some moves refusal some b is = ap (λ s. cond s (Leaves moves Plain) (Refuses refusal)) is
 
--- the base, once some moves were taken back by their records
-base_back : (old new : Course) (count : ℕ) → length old.log ≤ length old.done → count ≤ length old.log → new.done ≡ take (length old.done - count) old.done
-    → new.log ≡ take (length old.log - count) old.log → base_of new ≡ base_of old
-base_back old new count fewer some done log =
-    omega (
-      arith,
-      fewer,
-      some,
-      ap length done,
-      length-take-le (length old.done - count) old.done (omega arith),
-      ap length log,
-      length-take-le (length old.log - count) old.log (omega arith),
-    )
-
-pub back_done : (old new : Course) (count : ℕ) → length old.log ≤ length old.done → GoesBack old count new → IsAnswered old (Back count) new Plain
-back_done old new count fewer goes =
-    let moves = back_at (moves_of old) (length old.done - count) in
+pub back_done : (old new : Course) (count : ℕ) → length old.log ≤ length old.done → count ≤ length old.log
+    → moves_of new ≡ back_at (moves_of old) (length old.done - count) → HasGrown old.room new.room → new.app ≡ old.app → new.limit ≡ old.limit
+    → state_after new.app new.done ≡ Ok new.target → IsAnswered old (Back count) new Plain
+back_done old new count fewer some moves grows app limit leads =
+    let after = back_at (moves_of old) (length old.done - count) in
     record {
       comes =
-          of_some moves (TooFar (kept (moves_of old))) (nat_le count (kept (moves_of old))) true
-          (le-leb count (kept (moves_of old)) (omega (arith, goes.some, fewer)))
-          ∙ leaves moves Plain new goes.done goes.undone (base_back old new count fewer goes.some goes.done goes.log);
-      app = goes.app;
-      limit = goes.limit;
-      leads = goes.leads;
+          of_some after (TooFar (kept (moves_of old))) (nat_le count (kept (moves_of old))) true (le-leb count (kept (moves_of old)) (omega (arith, some, fewer)))
+          ∙ left after Plain new moves;
+      grows = grows;
+      app = app;
+      limit = limit;
+      leads = leads;
     }
 
 pub back_not_done : (old : Course) (count : ℕ) (refusal : Refusal) → length old.log ≤ length old.done → length old.log < count
@@ -204,29 +195,39 @@ too_few (Err refusal) count done iff = elim (cases_lt done count) [
   | inr there ↦ absurd (false≢true (iff.1 there))
 ]
 
--- the base, once some moves were made again
-base_redone : (old new : Course) (count : ℕ) → HasRedone old count new → base_of new ≡ base_of old
-base_redone old new count has =
-    omega (
-      arith,
-      has.records,
-      ap length has.done,
-      length-append old.done (take count old.undone),
-      length-take-le count old.undone has.some,
-    )
-
-pub redo_done : (old new : Course) (count : ℕ) → HasRedone old count new → state_after new.app new.done ≡ Ok new.target
-    → IsAnswered old (Redo count) new Plain
-redo_done old new count has leads =
-    let moves = redone (moves_of old) count in
+pub redo_done : (old new : Course) (count : ℕ) → count ≤ length old.undone → moves_of new ≡ redone (moves_of old) count → HasGrown old.room new.room
+    → new.app ≡ old.app → new.limit ≡ old.limit → state_after new.app new.done ≡ Ok new.target → IsAnswered old (Redo count) new Plain
+redo_done old new count some moves grows app limit leads =
+    let after = redone (moves_of old) count in
     record {
       comes =
-          of_some moves NothingUndone (nat_le count (length old.undone)) true (le-leb count (length old.undone) has.some)
-          ∙ leaves moves Plain new has.done has.undone (base_redone old new count has);
-      app = has.app;
-      limit = has.limit;
+          of_some after NothingUndone (nat_le count (length old.undone)) true (le-leb count (length old.undone) some) ∙ left after Plain new moves;
+      grows = grows;
+      app = app;
+      limit = limit;
       leads = leads;
     }
+
+-- what is known of moves that were made again
+pub record AreRedone (old : Course) (count : ℕ) (new : Course) : Type 0 where
+  pub some : count ≤ length old.undone
+  pub moves : moves_of new ≡ redone (moves_of old) count
+  pub app : new.app ≡ old.app
+  pub limit : new.limit ≡ old.limit
+
+pub are_redone : (old : Course) (count : ℕ) (new : Course) (made : Result ℕ Refusal) → (IsErrOf made NothingUndone ↔ (length old.undone < count))
+    → OnOk made (moves_of new ≡ redone (moves_of old) count) → OnOk made (new.app ≡ old.app) → OnOk made (new.limit ≡ old.limit)
+    → OnOk made (AreRedone old count new)
+are_redone old count new (Ok at) fewer moves app limit = record {
+  some = elim (cases_lt (length old.undone) count) [
+    | inl less ↦ let none : Ok at ≡ Err NothingUndone = fewer.1 less in absurd cc
+    | inr there ↦ there
+  ];
+  moves = moves;
+  app = app;
+  limit = limit;
+}
+are_redone old count new (Err refusal) fewer moves app limit = tt
 
 pub redo_not_done : (old : Course) (count : ℕ) (refusal : Refusal) → refusal ≢ NoMemory → IsWhyNoRedo old count refusal → IsRefusedAs old (Redo count) refusal
 redo_not_done old count refusal other why = elim why [
@@ -244,7 +245,7 @@ run_request None count = Forward count
 run_request (Some condition) count = Until condition count
 
 run_comes : (app : Application) (limit : ℕ) (moves : Moves) (goal : Option Condition) (count : ℕ)
-    → response_to app limit moves (run_request goal count) ≡ run_response app moves goal (run_of app limit goal moves count)
+    → response_to app limit moves (run_request goal count) ≡ run_response goal (run_of app limit goal moves count)
 run_comes app limit moves None count = refl
 run_comes app limit moves (Some condition) count = refl
 
@@ -256,40 +257,33 @@ run_lays (Some condition) count = refl
 abbrev run_end : Option Condition → Bool → Ending
 run_end goal met = end_of goal (cond met Met Limit)
 
-run_ended : (app : Application) (moves : Moves) (goal : Option Condition) (met : Bool) (made : ℕ) (s : Snapshot)
-    → run_response app moves goal (ended met made s) ≡ Leaves (laid_on app moves made) (run_end goal met)
-run_ended app moves goal true made s = refl
-run_ended app moves goal false made s = refl
+run_ended : (goal : Option Condition) (met : Bool) (moves : Moves) → run_response goal (ended met moves) ≡ Leaves moves (run_end goal met)
+run_ended goal true moves = refl
+run_ended goal false moves = refl
 
-run_done : (old new : Course) (goal : Option Condition) (count : ℕ) (met : Bool) → state_after old.app old.done ≡ Ok old.target → EndsRun old goal count met new
-    → response_to old.app old.limit (moves_of old) (run_request goal count) ≡ Leaves (moves_of new) (run_end goal met)
-run_done old new goal count met leads ends =
-    let done : new.done ≡ (laid_on old.app (moves_of old) ends.made).done =
-    ends.done ∙ ap (λ (s : Snapshot). old.done ++ moves_by_policy old.app s ends.made) (sym (target_given old leads)) in
-    run_comes old.app old.limit (moves_of old) goal count
-    ∙ ap (run_response old.app (moves_of old) goal) (run_given old goal count leads ∙ ends.run)
-    ∙ run_ended old.app (moves_of old) goal met ends.made new.target
-    ∙ leaves (laid_on old.app (moves_of old) ends.made) (run_end goal met) new done ends.undone
-    (omega (arith, ends.records, made_more old ends.made new ends.done))
-
-run_not_done : (old : Course) (goal : Option Condition) (count : ℕ) (refusal : Refusal) → state_after old.app old.done ≡ Ok old.target → refusal ≢ NoMemory
-    → IsWhyNoRun old goal count refusal → IsRefusedAs old (run_request goal count) refusal
-run_not_done old goal count refusal leads other why = elim why [
-  | inl refused ↦
-      run_comes old.app old.limit (moves_of old) goal count
-      ∙ ap (run_response old.app (moves_of old) goal) (run_given old goal count leads ∙ refused)
+run_not_done : (old : Course) (goal : Option Condition) (count : ℕ) (refusal : Refusal) → refusal ≢ NoMemory → IsWhyNoRun old goal count refusal
+    → IsRefusedAs old (run_request goal count) refusal
+run_not_done old goal count refusal other why = elim why [
+  | inl refused ↦ run_comes old.app old.limit (moves_of old) goal count ∙ ap (run_response goal) refused
   | inr lacks ↦ absurd (other lacks.1)
 ]
 
 pub run_obeyed : {T : Type 0} (old new : Course) (goal : Option Condition) (count : ℕ) (made : Result T Refusal) (result : Result Answer NoMemoryError)
     (at : T → ℕ) (met : T → Bool) → (IsErr result ↔ IsErrOf made NoMemory) → IfOk made (λ x. result ≡ Ok (answer_at (at x) (run_end goal (met x))))
     → IfErr made (λ refusal. refusal ≢ NoMemory → result ≡ Ok (Refused refusal)) → IfOk made (λ x. at x ≡ length new.done)
-    → IfOk made (λ x. EndsRun old goal count (met x) new) → IfErr made (IsWhyNoRun old goal count) → OnErr made (new ≡ old)
-    → state_after old.app old.done ≡ Ok old.target → new.app ≡ old.app → new.limit ≡ old.limit → state_after new.app new.done ≡ Ok new.target
-    → Obeys old (run_request goal count) new result
-run_obeyed old new goal count made result at met lacks tells says at_is ends why same before app limit leads =
-    obeyed_if old new (run_request goal count) made result at (λ x. run_end goal (met x)) (λ x. EndsRun old goal count (met x) new)
-    (IsWhyNoRun old goal count) lacks tells says at_is ends why same before
-    (λ x is. record { comes = run_done old new goal count (met x) before is; app = app; limit = limit; leads = leads })
-    (λ refusal other cause. run_not_done old goal count refusal before other cause)
-    (λ lack. subst (λ (l : Lays). IsTrue (can_lay old.app old.limit (moves_of old) l)) (sym (run_lays goal count)) (run_needs_memory old goal count before lack))
+    → IfOk made (λ x. run_from old goal count ≡ ended (met x) (moves_of new)) → IfErr made (IsWhyNoRun old goal count) → OnErr made (IsAsItWas old new)
+    → HasGrown old.room new.room → state_after old.app old.done ≡ Ok old.target → new.app ≡ old.app → new.limit ≡ old.limit
+    → state_after new.app new.done ≡ Ok new.target → Obeys old (run_request goal count) new result
+run_obeyed old new goal count made result at met lacks tells says at_is ends why same grows before app limit leads =
+    obeyed_if old new (run_request goal count) made result at (λ x. run_end goal (met x)) (λ x. run_from old goal count ≡ ended (met x) (moves_of new))
+    (IsWhyNoRun old goal count) lacks tells says at_is ends why same grows before
+    (λ x is. record {
+      comes =
+          run_comes old.app old.limit (moves_of old) goal count ∙ ap (run_response goal) is ∙ run_ended goal (met x) (moves_of new);
+      grows = grows;
+      app = app;
+      limit = limit;
+      leads = leads;
+    })
+    (λ refusal other cause. run_not_done old goal count refusal other cause)
+    (λ lack. subst (λ (l : Lays). IsTrue (can_lay old.app old.limit (moves_of old) l)) (sym (run_lays goal count)) (run_needs_memory old goal count lack))

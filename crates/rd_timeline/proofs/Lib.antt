@@ -5,6 +5,7 @@ pub mod JournalLaws
 pub mod HistoryLaws
 pub mod TimelineLaws
 pub mod PolicyLaws
+pub mod MovesLaws
 pub mod RecordedLaws
 pub mod BackwardLaws
 pub mod CauseLaws

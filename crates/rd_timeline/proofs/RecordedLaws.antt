@@ -1,5 +1,5 @@
 -- Moves with their records: one more, one after the other, and how many bytes these records take at the most.
-use Rattle.std.proofs.Common.{◌≡◌, ◌∙◌, ℕ, ◌+◌, ◌*◌, ◌≤◌, inl, inr, List, [], ◌∷◌, ◌++◌, length, take, drop, ap, subst, sym, refl, arith, length-append}
+use Rattle.std.proofs.Common.{◌≡◌, ◌∙◌, ℕ, ◌+◌, ◌-◌, ◌*◌, ◌≤◌, inl, inr, List, [], ◌∷◌, ◌++◌, length, take, drop, ap, subst, sym, refl, arith, length-append}
 use Rattle.std.specs.Prelude.{Option, Some, None, position, is_some, true}
 use Rattle.std.proofs.lemmas.Bool.{false≢true}
 use Rattle.std.proofs.Math.Seq.{drop-append_seam, take-append_seam}
@@ -13,14 +13,18 @@ use Rattle.rd_moves.specs.Moves.{PlainMove}
 use Rattle.rd_calls.specs.Step.{move_from, IsPlayed}
 use Rattle.rd_packed.specs.Records.{record_packed, records_packed, trailer}
 use Rattle.rd_condition.specs.declared.condition.Condition.{Condition}
-use Rattle.rd_timeline.specs.Course.{Course}
+use Rattle.rd_timeline.specs.Course.{Course, HasGrown, IsAhead}
 use Rattle.rd_timeline.specs.Decoded.{carries}
+use Rattle.rd_timeline.specs.History.{state_or}
 use Rattle.rd_timeline.specs.LogView.{bytes_of, RecordsMove}
-use Rattle.rd_timeline.specs.Policy.{ArePlayed, RecordsMoves, RunsMoreThanEver, state_behind, state_or}
+use Rattle.rd_timeline.specs.Recorded.{ArePlayed, RecordsMoves, StandsOn, state_behind}
+use Rattle.rd_timeline.specs.Running.{RunLacksRoom}
+use Rattle.rd_timeline.specs.Runs.{Moves, moves_of}
 use Rattle.rd_timeline.specs.RunLaws.{HasRoomFor, RedoHasRoom, RunHasRoom}
-use Rattle.rd_timeline.specs.declared.log.TheConstants.{MAX_KEPT_BYTES}
+use Rattle.rd_timeline.specs.declared.logged.TheConstants.{MAX_KEPT_BYTES}
 use Rattle.rd_timeline.proofs.LogLaws.{bytes_of-parts, played_short}
-use Rattle.rd_timeline.proofs.PolicyLaws.{made_more}
+use Rattle.rd_timeline.proofs.PolicyLaws.{LaysOn, run_lays_on}
+use Rattle.rd_timeline.proofs.TimelineLaws.{HasGrown-none, HasGrown-then}
 
 -- ---- one move, and moves after moves
 
@@ -92,6 +96,86 @@ RecordsMoves-then old now next app longer done first then =
           (drop (length old.log) now.log) (drop (length now.log) next.log) first.played later));
     }
 
+-- Each move has a record.
+each_recorded : (app : Application) (s : Snapshot) (moves : List PlainMove) (s' : Snapshot) (records : List (List Change)) → ArePlayed app s moves s' records
+    → length records ≡ length moves
+each_recorded app s [] s' [] played = refl
+each_recorded app s [] s' (undo ∷ later) played = absurd played
+each_recorded app s (move ∷ moves) s' [] played = absurd played
+each_recorded app s (move ∷ moves) s' (undo ∷ later) played =
+    omega (arith, each_recorded app (state_behind app s move) moves s' later played.1)
+
+-- ---- moves that stand on others
+
+pub StandsOn-here : (course : Course) → StandsOn course course
+StandsOn-here course = record {
+  app = refl;
+  limit = refl;
+  done = all_there course.done;
+  recorded = RecordsMoves-here course;
+  grows = HasGrown-none course.room;
+  read = refl;
+}
+
+pub StandsOn-one : (old new : Course) (move : PlainMove) → new.app ≡ old.app → new.limit ≡ old.limit → new.done ≡ old.done ++ move ∷ []
+    → RecordsMoves old new → HasGrown old.room new.room → new.read ≡ old.read → StandsOn old new
+StandsOn-one old new move app limit done recorded grows read = record {
+  app = app;
+  limit = limit;
+  done = ap (take (length old.done)) done ∙ take-append_seam old.done (move ∷ []);
+  recorded = recorded;
+  grows = grows;
+  read = read;
+}
+
+-- A list that begins with another has as many elements at least.
+longer : {X : Type 0} (old new : List X) → take (length old) new ≡ old → length old ≤ length new
+longer old new is = omega (arith, ap length is, length-take (length old) new)
+
+pub StandsOn-then : (old now next : Course) → StandsOn old now → StandsOn now next → StandsOn old next
+StandsOn-then old now next first then =
+    let more = longer old.done now.done first.done in
+    record {
+      app = then.app ∙ first.app;
+      limit = then.limit ∙ first.limit;
+      done =
+          sym (take-take (length old.done) (length now.done) next.done more) ∙ ap (take (length old.done)) then.done ∙ first.done;
+      recorded = RecordsMoves-then old now next first.app more then.done first.recorded then.recorded;
+      grows = HasGrown-then old.room now.room next.room first.grows then.grows;
+      read = then.read ∙ first.read;
+    }
+
+-- So many more moves are done, and each has its record.
+pub record HasMore (old new : Course) : Type 0 where
+  pub more : length old.done ≤ length new.done
+  pub records : length new.log + length old.done ≡ length old.log + length new.done
+
+pub each_has_more : (old new : Course) → StandsOn old new → HasMore old new
+each_has_more old new stands =
+    let more = longer old.done new.done stands.done in
+    record {
+      more = more;
+      records =
+          omega (
+            arith,
+            more,
+            longer old.log new.log stands.recorded.log,
+            each_recorded old.app old.target (drop (length old.done) new.done) new.target (drop (length old.log) new.log) stands.recorded.played,
+            length-drop (length old.done) new.done,
+            length-drop (length old.log) new.log,
+          );
+    }
+
+-- By a move the log is ahead, as it was made with room for the longest record.
+pub ahead_now : (old new : Course) (move : PlainMove) → new.done ≡ old.done ++ move ∷ [] → StandsOn old new
+    → bytes_of old.log + MAX_KEPT_BYTES ≤ new.room.bytes → IsAhead new
+ahead_now old new move done stands ahead =
+    let one : length new.log - 1 ≡ length old.log =
+    omega (arith, (each_has_more old new stands).records, ap length done, length-append old.done (move ∷ [])) in
+    let before : bytes_of (take (length new.log - 1) new.log) ≡ bytes_of old.log =
+    ap (λ k. bytes_of (take k new.log)) one ∙ ap bytes_of stands.recorded.log in
+    omega (arith, before, ahead)
+
 -- ---- how many bytes
 
 -- Each record is no longer than the longest one.
@@ -129,11 +213,11 @@ redo_has_room old count valid room redoes =
     omega (
       arith,
       room,
-      redoes.more,
+      redoes.lacks,
       redoes.fewer,
-      redoes.has.most_bytes,
-      bytes_laid_on old redoes.now redoes.redone valid redoes.has.recorded
-          (omega (arith, ap length redoes.has.done, length-append old.done (take redoes.redone old.undone), length-take redoes.redone old.undone)),
+      redoes.has.stands.grows.bytes,
+      bytes_laid_on old redoes.now redoes.made valid redoes.has.stands.recorded
+          (omega (arith, ap (λ (ms : Moves). length ms.done) redoes.has.moves, length-append old.done (take redoes.made old.undone), length-take redoes.made old.undone)),
     )
 
 -- Policy chooses no move that carries something.
@@ -141,14 +225,15 @@ carries_from : (turn : ℕ) (found : Option ℕ) → carries (move_from turn fou
 carries_from turn None is = false≢true is
 carries_from turn (Some ahead) is = false≢true is
 
-run_is_within : (old : Course) (goal : Option Condition) (count : ℕ) → IsValid old.app old.target → HasRoomFor count old → length old.done + count ≤ old.most_done
-    → RunsMoreThanEver old goal count → ⊥
+run_is_within : (old : Course) (goal : Option Condition) (count : ℕ) → IsValid old.app old.target → HasRoomFor count old → length old.done + count ≤ old.room.moves
+    → RunLacksRoom old goal count → ⊥
 run_is_within old goal count valid room within runs =
-    let made : length runs.now.done ≡ length old.done + runs.made = made_more old runs.made runs.now runs.done in
-    elim runs.more [
-      | inl most ↦ omega (arith, most, made, within, runs.fewer, runs.stands.most_done)
+    let made : length runs.now.done ≡ length old.done + runs.made =
+    (subst (LaysOn goal (moves_of old) runs.made) runs.going (run_lays_on old.app old.limit goal (moves_of old) runs.made)).1 in
+    elim runs.lacks [
+      | inl full ↦ omega (arith, full, made, within, runs.fewer, runs.stands.grows.moves)
       | inr others ↦ elim others [
-        | inl bytes ↦ omega (arith, room, bytes, runs.fewer, runs.stands.most_bytes, bytes_laid_on old runs.now runs.made valid runs.recorded (omega (arith, made)))
+        | inl bytes ↦ omega (arith, room, bytes, runs.fewer, runs.stands.grows.bytes, bytes_laid_on old runs.now runs.made valid runs.stands.recorded (omega (arith, made)))
         | inr carrying ↦ carries_from runs.now.target.turn (position is_some (drop runs.now.target.turn runs.now.target.cores)) carrying.0
       ]
     ]

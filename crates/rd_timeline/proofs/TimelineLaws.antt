@@ -1,5 +1,5 @@
 -- What a timeline keeps of its fields.
-use Rattle.std.proofs.Common.{ℕ, ◌⊎◌, max, ◌<◌, ◌≤◌, ◌≡◌, ◌≢◌, ◌∙◌, ◌+◌, ◌-◌, inl, inr, take, drop, List, [], ◌∷◌, ◌++◌, length, refl, ap, subst, sym, arith}
+use Rattle.std.proofs.Common.{ℕ, max, ◌<◌, ◌≤◌, ◌≡◌, ◌≢◌, ◌∙◌, ◌+◌, ◌-◌, take, drop, List, [], ◌∷◌, ◌++◌, length, refl, ap, subst, sym, arith}
 use Rattle.std.specs.Prelude.{Ok, IsOk, All, is_ok, slice_index_or}
 use Rattle.std.proofs.Math.Seq.{drop-append_seam, take-append_seam}
 use Rattle.std.proofs.lemmas.List.{append_assoc, append-nil, length-append, length-drop, length-take-le, length_push, take-append-drop}
@@ -19,33 +19,55 @@ use Rattle.rd_moves.specs.Moves.{IsMoveOf}
 use Rattle.rd_packed.specs.declared.count.ReadCount.{ReadCount}
 use Rattle.rd_timeline.specs.declared.timeline.Start.{Start}
 use Rattle.rd_timeline.specs.declared.timeline.Timeline.TheInside.{Inside}
-use Rattle.rd_timeline.specs.Course.{AreMade, Course, IsKept, base_of}
+use Rattle.rd_timeline.specs.Course.{AreMade, Course, HasGrown, IsKept, Room, base_of}
 use Rattle.rd_timeline.specs.Decoded.{carried_in}
 use Rattle.rd_timeline.specs.History.{CanRewind, IsStateAfter, Retraces, rewound, state_after}
-use Rattle.rd_timeline.specs.Inside.{IsFresh, IsWhole, course_of}
+use Rattle.rd_timeline.specs.Inside.{IsWhole, course_of}
 use Rattle.rd_timeline.specs.JournalView.{HasCarriedRoom, JournalView}
-use Rattle.rd_timeline.specs.LogView.{bytes_of}
-use Rattle.rd_timeline.specs.declared.log.TheConstants.{MAX_KEPT_BYTES}
 use Rattle.rd_timeline.specs.Starts.{CanCancel}
 use Rattle.rd_timeline.proofs.DecodedLaws.{carried_in-append}
 use Rattle.rd_timeline.proofs.HistoryLaws.{CanRewind-back, CanRewind-later, CanRewind-push, Retraces-back, Retraces-boot, Retraces-later, Retraces-now, Retraces-push, first_is_made, state_after-push}
 
 -- ---- moves that can be made
 
-AreMade-none : (app : Application) (limit most carried : ℕ) → AreMade app limit most carried []
-AreMade-none app limit most carried =
-    record { state = refl; named = All-nil (IsMoveOf app); within = omega arith; were = omega arith; carried_were = omega arith }
+AreMade-none : (app : Application) (limit : ℕ) (room : Room) → AreMade app limit room []
+AreMade-none app limit room =
+    record { state = refl; named = All-nil (IsMoveOf app); within = omega arith; has_room = omega arith; has_carried_room = omega arith }
 
 -- one more
-AreMade-push : (app : Application) (limit most carried : ℕ) (moves : List PlainMove) (move : PlainMove) (s s' : Snapshot) → All (IsMoveOf app) moves → IsMoveOf app move
-    → state_after app moves ≡ Ok s → step app s move ≡ Ok s' → length moves < limit → length moves < most → carried_in (moves ++ move ∷ []) ≤ carried
-    → AreMade app limit most carried (moves ++ move ∷ [])
-AreMade-push app limit most carried moves move s s' all named state steps less were carried_were = record {
+AreMade-push : (app : Application) (limit : ℕ) (room : Room) (moves : List PlainMove) (move : PlainMove) (s s' : Snapshot) → All (IsMoveOf app) moves → IsMoveOf app move
+    → state_after app moves ≡ Ok s → step app s move ≡ Ok s' → length moves < limit → length moves < room.moves → carried_in (moves ++ move ∷ []) ≤ room.carried
+    → AreMade app limit room (moves ++ move ∷ [])
+AreMade-push app limit room moves move s s' all named state steps less has carried_has = record {
   state = ap is_ok (state_after-push app moves move s state ∙ steps);
   named = All-append (IsMoveOf app) moves (move ∷ []) all (All-cons (IsMoveOf app) move [] named (All-nil (IsMoveOf app)));
   within = omega (arith, length_push moves move, less);
-  were = omega (arith, length_push moves move, were);
-  carried_were = carried_were;
+  has_room = omega (arith, length_push moves move, has);
+  has_carried_room = carried_has;
+}
+
+-- with more room
+pub AreMade-grown : (app : Application) (limit : ℕ) (old new : Room) (moves : List PlainMove) → AreMade app limit old moves → HasGrown old new
+    → AreMade app limit new moves
+AreMade-grown app limit old new moves made grows = record {
+  state = made.state;
+  named = made.named;
+  within = made.within;
+  has_room = omega (arith, made.has_room, grows.moves);
+  has_carried_room = omega (arith, made.has_carried_room, grows.carried);
+}
+
+pub HasGrown-none : (room : Room) → HasGrown room room
+HasGrown-none room = record { moves = omega arith; carried = omega arith; bytes = omega arith }
+
+pub HasGrown-same : (old new : Room) → new ≡ old → HasGrown old new
+HasGrown-same old new same = subst (λ (room : Room). HasGrown old room) (sym same) (HasGrown-none old)
+
+pub HasGrown-then : (old now new : Room) → HasGrown old now → HasGrown now new → HasGrown old new
+HasGrown-then old now new first then = record {
+  moves = omega (arith, first.moves, then.moves);
+  carried = omega (arith, first.carried, then.carried);
+  bytes = omega (arith, first.bytes, then.bytes);
 }
 
 -- those done, of them and those undone
@@ -54,14 +76,14 @@ named_done app done undone all =
     subst (All (IsMoveOf app)) (take-append_seam done undone) (All-take (IsMoveOf app) (length done) (done ++ undone) all)
 
 -- those done alone
-AreMade-done : (app : Application) (limit most carried : ℕ) (done undone : List PlainMove) (s : Snapshot) → AreMade app limit most carried (done ++ undone)
-    → state_after app done ≡ Ok s → AreMade app limit most carried done
-AreMade-done app limit most carried done undone s made state = record {
+AreMade-done : (app : Application) (limit : ℕ) (room : Room) (done undone : List PlainMove) (s : Snapshot) → AreMade app limit room (done ++ undone)
+    → state_after app done ≡ Ok s → AreMade app limit room done
+AreMade-done app limit room done undone s made state = record {
   state = ap is_ok state;
   named = named_done app done undone made.named;
   within = omega (arith, length-append done undone, made.within);
-  were = omega (arith, length-append done undone, made.were);
-  carried_were = omega (arith, carried_in-append done undone, made.carried_were);
+  has_room = omega (arith, length-append done undone, made.has_room);
+  has_carried_room = omega (arith, carried_in-append done undone, made.has_carried_room);
 }
 
 -- the one to be redone next
@@ -99,65 +121,54 @@ retraces_push c move last s kept steps back valid settled =
     subst (λ b. Retraces c.app b (c.done ++ move ∷ []) (c.log ++ last ∷ []) s) same
     (Retraces-push c.app (base_of c) c.done c.log move last c.target s (all_based c kept.records) kept.retraces steps back valid settled)
 
--- Whether a course is kept hangs on its application, its limit, its target, what is done and undone, and the most that was.
+-- what there is room for
+abbrev pub room_of : JournalView → Room
+room_of journal = record { moves = journal.capacity; carried = journal.carried_capacity; bytes = journal.memory }
+
+-- Whether a course is kept hangs on its application, its limit, its target, what is done and undone, and that there is no less room.
 kept_as : (t : Inside) (c : Course) → IsKept c → t.app ≡ c.app → t.limit ≡ c.limit → t.journal.target ≡ c.target → t.journal.done ≡ c.done
-    → t.journal.records ≡ c.log → t.journal.undone ≡ c.undone → t.most_done.value ≡ c.most_done → t.most_carried.value ≡ c.most_carried → IsKept (course_of t)
-kept_as t c kept app limit target done log undone most carried =
-    let P : Application → ℕ → Snapshot → List PlainMove → List (List Change) → List PlainMove → ℕ → ℕ → Type 0 =
-    λ a n s ms rs us m e. IsKept (record (course_of t) {
-      app = a;
-      limit = n;
-      target = s;
-      done = ms;
-      log = rs;
-      undone = us;
-      most_done = m;
-      most_carried = e;
-    }) in
-    let here : P c.app c.limit c.target c.done c.log c.undone c.most_done c.most_carried = record {
+    → t.journal.records ≡ c.log → t.journal.undone ≡ c.undone → HasGrown c.room (room_of t.journal) → IsKept (course_of t)
+kept_as t c kept app limit target done log undone grows =
+    let P : Application → ℕ → Snapshot → List PlainMove → List (List Change) → List PlainMove → Type 0 =
+    λ a n s ms rs us. IsKept (record (course_of t) { app = a; limit = n; target = s; done = ms; log = rs; undone = us }) in
+    let here : P c.app c.limit c.target c.done c.log c.undone = record {
       records = kept.records;
       retraces = kept.retraces;
       rewinds = kept.rewinds;
-      made = kept.made;
+      made = AreMade-grown c.app c.limit c.room (room_of t.journal) (c.done ++ c.undone) kept.made grows;
     } in
-    subst (λ (a : Application). P a t.limit t.journal.target t.journal.done t.journal.records t.journal.undone t.most_done.value t.most_carried.value) (sym app)
-    (subst (λ n. P c.app n t.journal.target t.journal.done t.journal.records t.journal.undone t.most_done.value t.most_carried.value) (sym limit)
-    (subst (λ (s : Snapshot). P c.app c.limit s t.journal.done t.journal.records t.journal.undone t.most_done.value t.most_carried.value) (sym target)
-    (subst (λ (ms : List PlainMove). P c.app c.limit c.target ms t.journal.records t.journal.undone t.most_done.value t.most_carried.value) (sym done)
-    (subst (λ (rs : List (List Change)). P c.app c.limit c.target c.done rs t.journal.undone t.most_done.value t.most_carried.value) (sym log)
-    (subst (λ (us : List PlainMove). P c.app c.limit c.target c.done c.log us t.most_done.value t.most_carried.value) (sym undone)
-    (subst (λ m. P c.app c.limit c.target c.done c.log c.undone m t.most_carried.value) (sym most)
-    (subst (λ e. P c.app c.limit c.target c.done c.log c.undone c.most_done e) (sym carried) here)))))))
+    subst (λ (a : Application). P a t.limit t.journal.target t.journal.done t.journal.records t.journal.undone) (sym app)
+    (subst (λ n. P c.app n t.journal.target t.journal.done t.journal.records t.journal.undone) (sym limit)
+    (subst (λ (s : Snapshot). P c.app c.limit s t.journal.done t.journal.records t.journal.undone) (sym target)
+    (subst (λ (ms : List PlainMove). P c.app c.limit c.target ms t.journal.records t.journal.undone) (sym done)
+    (subst (λ (rs : List (List Change)). P c.app c.limit c.target c.done rs t.journal.undone) (sym log)
+    (subst (λ (us : List PlainMove). P c.app c.limit c.target c.done c.log us) (sym undone) here)))))
 
 pub IsWhole-new : (t : Inside) (s : Snapshot) → IsApplication t.app → s ≡ boot_of t.app → IsValid t.app s → IsSettled (priorities_of t.app) s
-    → t.journal.target ≡ s → t.journal.done ≡ [] → t.journal.records ≡ [] → t.journal.undone ≡ [] → IsFresh t → t.most_carried.value ≡ 0
-    → t.others.bytes ≡ 0 → IsWhole t
-IsWhole-new t s limits boot valid settled target done log undone fresh none_carried none_read =
+    → t.journal.target ≡ s → t.journal.done ≡ [] → t.journal.records ≡ [] → t.journal.undone ≡ [] → t.others.bytes ≡ 0 → IsWhole t
+IsWhole-new t s limits boot valid settled target done log undone none_read =
     let at_boot : IsKept (record (course_of t) { target = s; done = []; log = []; undone = [] }) =
-    record { records = omega arith; retraces = Retraces-boot t.app s boot valid settled; rewinds = tt; made = AreMade-none t.app t.limit t.most_done.value t.most_carried.value } in
+    record { records = omega arith; retraces = Retraces-boot t.app s boot valid settled; rewinds = tt; made = AreMade-none t.app t.limit (room_of t.journal) } in
     record {
-      kept = kept_as t _ at_boot refl refl target done log undone refl refl;
+      kept = kept_as t _ at_boot refl refl target done log undone (HasGrown-none (room_of t.journal));
       limits = limits;
-      capacity = omega (arith, fresh.0);
-      carried = omega (arith, none_carried);
-      memory = inl fresh;
       others = omega (arith, none_read);
     }
 
 -- one move and its record more, and none undone
-pub IsKept-push : (c : Course) (move : PlainMove) (last : List Change) (s : Snapshot) (most carried : ℕ) → IsKept c → IsMoveOf c.app move → length c.done ≢ c.limit
-    → length c.done < most → carried_in (c.done ++ move ∷ []) ≤ carried → step c.app c.target move ≡ Ok s → undone s last ≡ c.target → CanUndo s last → IsValid c.app s
-    → IsSettled (priorities_of c.app) s
-    → IsKept (record c { target = s; done = c.done ++ move ∷ []; log = c.log ++ last ∷ []; undone = []; most_done = most; most_carried = carried })
-IsKept-push c move last s most carried kept named more were carried_were steps back can valid settled = record {
+pub IsKept-push : (c : Course) (move : PlainMove) (last : List Change) (s : Snapshot) (room : Room) → IsKept c → IsMoveOf c.app move → length c.done ≢ c.limit
+    → length c.done < room.moves → carried_in (c.done ++ move ∷ []) ≤ room.carried → step c.app c.target move ≡ Ok s → undone s last ≡ c.target → CanUndo s last
+    → IsValid c.app s → IsSettled (priorities_of c.app) s
+    → IsKept (record c { target = s; done = c.done ++ move ∷ []; log = c.log ++ last ∷ []; undone = []; room = room })
+IsKept-push c move last s room kept named more has carried_has steps back can valid settled = record {
   records = omega (arith, length_push c.log last, length_push c.done move, kept.records);
   retraces = retraces_push c move last s kept steps back valid settled;
   rewinds = CanRewind-push s c.log last can (subst (λ (t : Snapshot). CanRewind t c.log) (sym back) kept.rewinds);
   made =
-      subst (AreMade c.app c.limit most carried) (sym (append-nil (c.done ++ move ∷ [])))
-      (AreMade-push c.app c.limit most carried c.done move c.target s (named_done c.app c.done c.undone kept.made.named) named
+      subst (AreMade c.app c.limit room) (sym (append-nil (c.done ++ move ∷ [])))
+      (AreMade-push c.app c.limit room c.done move c.target s (named_done c.app c.done c.undone kept.made.named) named
       (kept_now c kept).state steps
-      (omega (arith, length-append c.done c.undone, kept.made.within, more)) were carried_were);
+      (omega (arith, length-append c.done c.undone, kept.made.within, more)) has carried_has);
 }
 
 -- the first of those undone is done again, with its record
@@ -169,7 +180,7 @@ IsKept-replay c move last s rest kept same steps back can valid settled = record
   records = omega (arith, length_push c.log last, length_push c.done move, kept.records);
   retraces = retraces_push c move last s kept steps back valid settled;
   rewinds = CanRewind-push s c.log last can (subst (λ (t : Snapshot). CanRewind t c.log) (sym back) kept.rewinds);
-  made = subst (AreMade c.app c.limit c.most_done c.most_carried) (sym same) kept.made;
+  made = subst (AreMade c.app c.limit c.room) (sym same) kept.made;
 }
 
 -- all but the last n moves and their records
@@ -197,7 +208,7 @@ IsKept-back c n within kept =
           (Retraces-back c.app base c.done c.log c.target k (all_based c kept.records) (omega arith) kept.retraces));
       rewinds = CanRewind-back c.target c.log k kept.rewinds;
       made =
-          subst (AreMade c.app c.limit c.most_done c.most_carried)
+          subst (AreMade c.app c.limit c.room)
           (sym (sym (append_assoc (take m c.done) (drop m c.done) c.undone) ∙ ap (λ (ms : List PlainMove). ms ++ c.undone) (take-append-drop m c.done))) kept.made;
     }
 
@@ -232,17 +243,14 @@ pub IsWhole-push : (t t' : Inside) (move : PlainMove) (last : List Change) → I
     → IsMoveOf t.app move → length t.journal.done ≢ t.limit → step t.app t.journal.target move ≡ Ok t'.journal.target → undone t'.journal.target last ≡ t.journal.target
     → CanUndo t'.journal.target last
     → IsValid t.app t'.journal.target → IsSettled (priorities_of t.app) t'.journal.target → t'.journal.done ≡ t.journal.done ++ move ∷ []
-    → t'.journal.records ≡ t.journal.records ++ last ∷ [] → t'.journal.undone ≡ [] → length t.journal.done < t'.most_done.value
-    → carried_in (t.journal.done ++ move ∷ []) ≤ t'.most_carried.value → t'.most_done.value ≤ t'.journal.capacity → t'.most_carried.value ≤ t'.journal.carried_capacity
-    → t'.most_bytes.value + MAX_KEPT_BYTES ≤ t'.journal.memory → t'.others.bytes ≤ t'.journal.read → IsWhole t'
-IsWhole-push t t' move last whole app limit named more steps back can valid settled done log undone were carried_were capacity carried memory others =
-    let pushed = IsKept-push (course_of t) move last t'.journal.target t'.most_done.value t'.most_carried.value whole.kept named more were carried_were steps back can valid settled in
+    → t'.journal.records ≡ t.journal.records ++ last ∷ [] → t'.journal.undone ≡ [] → length t.journal.done < t'.journal.capacity
+    → carried_in (t.journal.done ++ move ∷ []) ≤ t'.journal.carried_capacity → t'.others.bytes ≤ t'.journal.read → IsWhole t'
+IsWhole-push t t' move last whole app limit named more steps back can valid settled done log undone has carried_has others =
+    let room = room_of t'.journal in
+    let pushed = IsKept-push (course_of t) move last t'.journal.target room whole.kept named more has carried_has steps back can valid settled in
     record {
-      kept = kept_as t' _ pushed app limit refl done log undone refl refl;
+      kept = kept_as t' _ pushed app limit refl done log undone (HasGrown-none room);
       limits = subst IsApplication (sym app) whole.limits;
-      capacity = capacity;
-      carried = carried;
-      memory = inr memory;
       others = others;
     }
 
@@ -250,29 +258,21 @@ IsWhole-push t t' move last whole app limit named more steps back can valid sett
 pub IsWhole-back : (t : Inside) (journal : JournalView) (others : ReadCount) (n : ℕ) → n ≤ length t.journal.records → IsWhole t
     → journal.target ≡ rewound t.journal.target (drop (length t.journal.records - n) t.journal.records)
     → journal.done ≡ take (length t.journal.done - n) t.journal.done → journal.records ≡ take (length t.journal.records - n) t.journal.records
-    → journal.undone ≡ drop (length t.journal.done - n) t.journal.done ++ t.journal.undone → journal.capacity ≡ t.journal.capacity
-    → journal.carried_capacity ≡ t.journal.carried_capacity
-    → journal.memory ≡ t.journal.memory → others.bytes ≤ journal.read → IsWhole (record t { journal = journal; others = others })
-IsWhole-back t journal others n within whole target done log undone capacity carried memory read = record {
-  kept = kept_as (record t { journal = journal; others = others }) _ (IsKept-back (course_of t) n within whole.kept) refl refl target done log undone refl refl;
+    → journal.undone ≡ drop (length t.journal.done - n) t.journal.done ++ t.journal.undone → HasGrown (room_of t.journal) (room_of journal)
+    → others.bytes ≤ journal.read → IsWhole (record t { journal = journal; others = others })
+IsWhole-back t journal others n within whole target done log undone grows read = record {
+  kept = kept_as (record t { journal = journal; others = others }) _ (IsKept-back (course_of t) n within whole.kept) refl refl target done log undone grows;
   limits = whole.limits;
-  capacity = omega (arith, capacity, whole.capacity);
-  carried = omega (arith, carried, whole.carried);
-  memory = elim whole.memory [ inl fresh ↦ inl fresh | inr room ↦ inr (omega (arith, memory, room)) ];
   others = read;
 }
 
 -- the fields with fewer records
 pub IsWhole-trim : (t : Inside) (journal : JournalView) (others : ReadCount) (keep : ℕ) → IsWhole t → journal.target ≡ t.journal.target → journal.done ≡ t.journal.done
-    → journal.records ≡ drop (length t.journal.records - keep) t.journal.records → journal.undone ≡ t.journal.undone → journal.capacity ≡ t.journal.capacity
-    → journal.carried_capacity ≡ t.journal.carried_capacity → journal.memory ≡ t.journal.memory → others.bytes ≤ journal.read
-    → IsWhole (record t { journal = journal; others = others })
-IsWhole-trim t journal others keep whole target done log undone capacity carried memory read = record {
-  kept = kept_as (record t { journal = journal; others = others }) _ (IsKept-trim (course_of t) keep whole.kept) refl refl target done log undone refl refl;
+    → journal.records ≡ drop (length t.journal.records - keep) t.journal.records → journal.undone ≡ t.journal.undone → HasGrown (room_of t.journal) (room_of journal)
+    → others.bytes ≤ journal.read → IsWhole (record t { journal = journal; others = others })
+IsWhole-trim t journal others keep whole target done log undone grows read = record {
+  kept = kept_as (record t { journal = journal; others = others }) _ (IsKept-trim (course_of t) keep whole.kept) refl refl target done log undone grows;
   limits = whole.limits;
-  capacity = omega (arith, capacity, whole.capacity);
-  carried = omega (arith, carried, whole.carried);
-  memory = elim whole.memory [ inl fresh ↦ inl fresh | inr room ↦ inr (omega (arith, memory, room)) ];
   others = read;
 }
 
@@ -285,25 +285,20 @@ IsWhole-aside t journal whole is =
         retraces = whole.kept.retraces;
         rewinds = whole.kept.rewinds;
         made =
-            subst (AreMade t.app t.limit t.most_done.value t.most_carried.value) (sym (append-nil t.journal.done))
-            (AreMade-done t.app t.limit t.most_done.value t.most_carried.value t.journal.done t.journal.undone t.journal.target whole.kept.made (state_now t whole).state);
+            subst (AreMade t.app t.limit (room_of t.journal)) (sym (append-nil t.journal.done))
+            (AreMade-done t.app t.limit (room_of t.journal) t.journal.done t.journal.undone t.journal.target whole.kept.made (state_now t whole).state);
       };
       limits = whole.limits;
-      capacity = whole.capacity;
-      carried = whole.carried;
-      memory = whole.memory;
       others = whole.others;
     })
 
--- the fields without the last n moves, those since a run began, and with those undone and the most of before
+-- the fields without the last n moves, those since a run began, and with those undone of before
 pub IsWhole-cancel : (t : Inside) (journal : JournalView) (others : ReadCount) (start : Start) (n : ℕ) → n ≡ length t.journal.done - start.done → IsWhole t
     → CanCancel (course_of t) start → journal.target ≡ rewound t.journal.target (drop (length t.journal.records - n) t.journal.records)
     → journal.done ≡ take (length t.journal.done - n) t.journal.done → journal.records ≡ take (length t.journal.records - n) t.journal.records
-    → journal.undone ≡ start.undone → t.journal.capacity ≤ journal.capacity → t.journal.carried_capacity ≤ journal.carried_capacity
-    → journal.memory ≡ t.journal.memory → others.bytes ≤ journal.read
-    → IsWhole (record t { journal = journal; most_done = start.most_done; most_carried = start.most_carried; most_bytes = start.most_bytes; others = others })
-IsWhole-cancel t journal others start n is whole can target done log undone capacity carried memory read =
-    let now : Inside = record t { journal = journal; most_done = start.most_done; most_carried = start.most_carried; most_bytes = start.most_bytes; others = others } in
+    → journal.undone ≡ start.undone → HasGrown (room_of t.journal) (room_of journal) → others.bytes ≤ journal.read
+    → IsWhole (record t { journal = journal; others = others })
+IsWhole-cancel t journal others start n is whole can target done log undone grows read =
     let m = length t.journal.done - n in
     let first : start.done ≡ m = omega (arith, is, can.earlier) in
     let back = IsKept-back (course_of t) n (omega (arith, is, can.kept)) whole.kept in
@@ -312,24 +307,15 @@ IsWhole-cancel t journal others start n is whole can target done log undone capa
       done = take m t.journal.done;
       log = take (length t.journal.records - n) t.journal.records;
       undone = start.undone;
-      most_done = start.most_done.value;
-      most_carried = start.most_carried.value;
     }) = record {
       records = back.records;
       retraces = back.retraces;
       rewinds = back.rewinds;
-      made =
-          subst (λ k. AreMade t.app t.limit start.most_done.value start.most_carried.value (take k t.journal.done ++ start.undone)) first can.made;
+      made = subst (λ k. AreMade t.app t.limit (room_of t.journal) (take k t.journal.done ++ start.undone)) first can.made;
     } in
     record {
-      kept = kept_as now _ kept refl refl target done log undone refl refl;
+      kept = kept_as (record t { journal = journal; others = others }) _ kept refl refl target done log undone grows;
       limits = whole.limits;
-      capacity = omega (arith, capacity, whole.capacity, can.most_done);
-      carried = omega (arith, carried, whole.carried, can.most_carried);
-      memory = elim whole.memory [
-        | inl fresh ↦ inl (omega (arith, fresh.0, can.most_done), omega (arith, fresh.1, can.most_bytes))
-        | inr room ↦ inr (omega (arith, memory, room, can.most_bytes))
-      ];
       others = read;
     }
 
@@ -338,35 +324,20 @@ pub IsWhole-replay : (t : Inside) (journal : JournalView) (move : PlainMove) (la
     → (t.journal.done ++ move ∷ []) ++ journal.undone ≡ t.journal.done ++ t.journal.undone → step t.app t.journal.target move ≡ Ok journal.target
     → undone journal.target last ≡ t.journal.target → CanUndo journal.target last → IsValid t.app journal.target
     → IsSettled (priorities_of t.app) journal.target → journal.done ≡ t.journal.done ++ move ∷ []
-    → journal.records ≡ t.journal.records ++ last ∷ [] → t.journal.capacity ≤ journal.capacity → t.journal.carried_capacity ≤ journal.carried_capacity
-    → t.journal.memory ≤ journal.memory → journal.read ≡ t.journal.read → IsWhole (record t { journal = journal })
-IsWhole-replay t journal move last whole same steps back can valid settled done log capacity carried memory read =
+    → journal.records ≡ t.journal.records ++ last ∷ [] → HasGrown (room_of t.journal) (room_of journal) → journal.read ≡ t.journal.read
+    → IsWhole (record t { journal = journal })
+IsWhole-replay t journal move last whole same steps back can valid settled done log grows read =
     let again = IsKept-replay (course_of t) move last journal.target journal.undone whole.kept same steps back can valid settled in
     record {
-      kept = kept_as (record t { journal = journal }) _ again refl refl refl done log refl refl refl;
+      kept = kept_as (record t { journal = journal }) _ again refl refl refl done log refl grows;
       limits = whole.limits;
-      capacity = omega (arith, capacity, whole.capacity);
-      carried = omega (arith, carried, whole.carried);
-      memory = elim whole.memory [ inl fresh ↦ inl fresh | inr room ↦ inr (omega (arith, memory, room)) ];
       others = omega (arith, read, whole.others);
     }
 
--- Once a move is made with room for the longest record, there is as much room again: for the bytes before that move, and for the most before.
-pub grown : (t : Inside) (bytes most : ℕ) (reserved journal : JournalView) → IsFresh t ⊎ (t.most_bytes.value + MAX_KEPT_BYTES ≤ t.journal.memory)
-    → bytes ≡ bytes_of reserved.records → most ≡ max t.most_bytes.value bytes → bytes_of reserved.records + MAX_KEPT_BYTES ≤ journal.memory
-    → t.journal.memory ≤ journal.memory → most + MAX_KEPT_BYTES ≤ journal.memory
-grown t bytes most reserved journal before are is ahead more =
-    elim before [
-      | inl fresh ↦ omega (arith, fresh.1, are, is, ahead)
-      | inr had ↦ omega (arith, had, are, is, ahead, more)
-    ]
-
--- Once there is room for a move, and it is made, there is room for what as many moves carry as did at the most.
-pub at_most_room : (move : PlainMove) (old carried most : ℕ) (reserved journal : JournalView) → most ≡ max old carried → carried ≡ carried_in journal.done
-    → journal.done ≡ reserved.done ++ move ∷ [] → journal.carried_capacity ≡ reserved.carried_capacity → old ≤ reserved.carried_capacity
-    → HasCarriedRoom reserved move → carried_in reserved.done ≤ old → most ≤ journal.carried_capacity
-at_most_room move old carried most reserved journal is count done capacity before room were =
-    omega (arith, is, count, ap carried_in done, carried_in-append reserved.done (move ∷ []), capacity, before, were, one_more move room)
+-- Once there is room for a move, there is room for what the moves done carry, and it.
+pub carried_fits : (move : PlainMove) (reserved : JournalView) → HasCarriedRoom reserved move → carried_in reserved.done ≤ reserved.carried_capacity
+    → carried_in (reserved.done ++ move ∷ []) ≤ reserved.carried_capacity
+carried_fits move reserved room were = omega (arith, carried_in-append reserved.done (move ∷ []), one_more move room, were)
   where
     one_more : (m : PlainMove) → HasCarriedRoom reserved m → carried_in reserved.done + carried_in (m ∷ []) ≤ max (carried_in reserved.done) reserved.carried_capacity
     one_more (Core core) room = omega arith

@@ -1,6 +1,6 @@
--- Trims: what they leave, and what can still be done.
-use Rattle.std.proofs.Common.{◌≡◌, ◌∙◌, ℕ, zero, suc, ◌+◌, ◌-◌, ◌<◌, ◌≤◌, ◌++◌, List, true, false, cond, drop, length, max, take, refl, ap, sym, arith}
-use Rattle.std.specs.Prelude.{Bool, is_some, min, nat_le, unwrap_or, Option, None, Some, Result, Ok, Err}
+-- What trims leave, and what can still be done; moves that are taken back.
+use Rattle.std.proofs.Common.{◌≡◌, ◌∙◌, ℕ, ◌-◌, ◌≤◌, ◌++◌, ◌∷◌, [], List, true, false, cond, drop, length, max, take, refl, ap, sym, arith}
+use Rattle.std.specs.Prelude.{Bool, IfSome, min, nat_le, Option, None, Some, Result, Ok, Err}
 use Rattle.std.proofs.Math.Seq.{drop-append_seam, take-append_seam}
 use Rattle.std.proofs.lemmas.Bool.{false≢true, le-leb, leb-true}
 use Rattle.std.proofs.lemmas.List.{length-append, length-drop, length-take-le, length_push, take-append-drop}
@@ -10,15 +10,17 @@ use Rattle.rd_refusal.specs.declared.refusal.Refusal.TheVariants.{NothingUndone,
 use Rattle.rd_state.specs.Snapshot.{Snapshot}
 use Rattle.rd_condition.specs.declared.condition.Condition.{Condition}
 use Rattle.rd_moves.specs.Moves.{PlainMove}
+use Rattle.rd_moves.specs.declared.carried.Carried.TheVariants as carried
+use Rattle.rd_moves.specs.declared.moves.Move.TheVariants as move
 use Rattle.rd_moves.specs.declared.request.Request.TheVariants.{Go, Back, Forward, Redo, Until}
 use Rattle.rd_moves.specs.declared.request.Request.TheVariants.{BackUntil, Trim}
-use Rattle.rd_timeline.specs.Backward.{holds_in, last_met}
-use Rattle.rd_timeline.specs.History.{state_after}
-use Rattle.rd_timeline.specs.Policy.{Run, Going, Met, Refused, moves_by_policy}
-use Rattle.rd_timeline.specs.RunLaws.{BaseIsWithinMoves, KeptGoesAsBefore, OnlyTrimsMoveTheBase, TrimLeavesMoves, TrimsMeet, is_refusal, is_refused}
+use Rattle.rd_timeline.specs.RunLaws.{BaseIsWithinMoves, EditsLeaveNoTrace, HeldLast, KeptGoesAsBefore, OnlyTrimsMoveTheBase, RedoUndoesBack, TrimLeavesMoves, TrimsMeet, is_refusal, is_refused}
 use Rattle.rd_calls.specs.Step.{move_answer}
-use Rattle.rd_timeline.specs.Runs.{Ending, Plain, ending_of}
-use Rattle.rd_timeline.specs.Runs.{Moves, Leaves, Refuses, answered, back_at, go_response, kept, moved, moves_after, redone, response_to, run_of, run_response, search_response, state_of, trimmed}
+use Rattle.rd_timeline.specs.Runs.{Ending, Plain, Run, Going, AtGoal, Refused, ending_of}
+use Rattle.rd_timeline.specs.Runs.{Moves, Leaves, Refuses, answered, back_at, go_response, kept, last_place, moved, moved_on, moves_after, redone, response_to, run_of, run_response, search_response, state_of, trimmed}
+use Rattle.rd_timeline.proofs.PolicyLaws.{LaysOn, run_lays_on}
+use Rattle.rd_timeline.proofs.RefusedLaws.{went_on}
+use Rattle.rd_timeline.proofs.WalkLaws.{back_finds_the_last}
 
 pub trim_leaves_moves : TrimLeavesMoves
 trim_leaves_moves app limit moves keep = record { done = refl; undone = refl; target = refl }
@@ -55,6 +57,31 @@ back_and_again moves count some =
     ap (λ n. drop n (last ++ moves.undone)) (sym len) ∙ drop-append_seam last moves.undone in
     ap (λ (ms : List PlainMove). record moves { done = ms; undone = drop count (last ++ moves.undone) }) done
     ∙ ap (λ (us : List PlainMove). record moves { undone = us }) undone
+
+pub redo_undoes_back : RedoUndoesBack
+redo_undoes_back app limit moves count some within =
+    let k = length moves.done - count in
+    let back = ap (moves_after moves) (back_made app limit moves count some) in
+    let undone : count ≤ length (back_at moves k).undone =
+    omega (arith, within, length-append (drop k moves.done) moves.undone, length-drop k moves.done) in
+    ap (λ (ms : Moves). answered app limit ms (Redo count)) back
+    ∙ ap (moves_after (back_at moves k)) (redo_made app limit (back_at moves k) count undone) ∙ back_and_again moves count within
+
+-- One move on and back again, whichever it is.
+on_and_back : (moves : Moves) (move : PlainMove) → back_at (moved_on moves move) (length (moves.done ++ move ∷ []) - 1) ≡ record moves { undone = move ∷ [] }
+on_and_back moves move =
+    let len : length (moves.done ++ move ∷ []) - 1 ≡ length moves.done = omega (arith, length_push moves.done move) in
+    ap (back_at (moved_on moves move)) len
+    ∙ ap (λ (ms : List PlainMove). record moves { done = ms; undone = drop (length moves.done) (moves.done ++ move ∷ []) ++ [] }) (take-append_seam moves.done (move ∷ []))
+    ∙ ap (λ (ms : List PlainMove). record moves { undone = ms ++ [] }) (drop-append_seam moves.done (move ∷ []))
+
+pub edits_leave_no_trace : EditsLeaveNoTrace
+edits_leave_no_trace app limit moves edit within can =
+    let action = move.Carried (carried.Edit edit) in
+    let longer = moved_on moves action in
+    let some : 1 ≤ kept longer = omega (arith, within, length_push moves.done action) in
+    ap (λ (ms : Moves). answered app limit ms (Back 1)) (went_on app limit moves action can)
+    ∙ ap (moves_after longer) (back_made app limit longer 1 some) ∙ on_and_back moves action
 
 pub kept_goes_as_before : KeptGoesAsBefore
 kept_goes_as_before app limit moves keep count few some =
@@ -93,10 +120,11 @@ stays_if : (moves new : Moves) (refusal : Refusal) (b : Bool) → new.base ≡ m
 stays_if moves new refusal true same = same
 stays_if moves new refusal false same = refl
 
-stays_by_run : (app : Application) (moves : Moves) (goal : Option Condition) (run : Run) → (moves_after moves (run_response app moves goal run)).base ≡ moves.base
-stays_by_run app moves goal (Going made s) = refl
-stays_by_run app moves goal (Met made s) = refl
-stays_by_run app moves goal (Refused refusal) = refl
+stays_by_run : (moves : Moves) (goal : Option Condition) (n : ℕ) (run : Run) → LaysOn goal moves n run
+    → (moves_after moves (run_response goal run)).base ≡ moves.base
+stays_by_run moves goal n (Going new) lays = lays.0.base
+stays_by_run moves goal n (AtGoal new) lays = lays.0.base
+stays_by_run moves goal n (Refused refusal) lays = refl
 
 stays_by_search : (moves : Moves) (at : Option ℕ) → (moves_after moves (search_response moves at)).base ≡ moves.base
 stays_by_search moves None = refl
@@ -110,13 +138,14 @@ only_trims_move_the_base app limit moves (Go action) = stays moves.base _ false 
 only_trims_move_the_base app limit moves (Back count) =
     stays moves.base _ false (stays_if moves (back_at moves (length moves.done - count)) (TooFar (kept moves)) (nat_le count (kept moves)) refl)
 only_trims_move_the_base app limit moves (Forward count) =
-    stays moves.base _ false (stays_by_run app moves None (run_of app limit None moves count))
+    stays moves.base _ false (stays_by_run moves None count (run_of app limit None moves count) (run_lays_on app limit None moves count))
 only_trims_move_the_base app limit moves (Redo count) =
     stays moves.base _ false (stays_if moves (redone moves count) NothingUndone (nat_le count (length moves.undone)) refl)
 only_trims_move_the_base app limit moves (Until condition count) =
-    stays moves.base _ false (stays_by_run app moves (Some condition) (run_of app limit (Some condition) moves count))
+    stays moves.base _ false
+    (stays_by_run moves (Some condition) count (run_of app limit (Some condition) moves count) (run_lays_on app limit (Some condition) moves count))
 only_trims_move_the_base app limit moves (BackUntil condition) =
-    stays moves.base _ false (stays_by_search moves (last_met app condition moves.base moves.done (kept moves)))
+    stays moves.base _ false (stays_by_search moves (last_place app condition moves))
 only_trims_move_the_base app limit moves (Trim keep) = (omega arith, λ other. absurd (false≢true (sym other)))
 
 -- ---- no more moves lack a record than are done
@@ -140,44 +169,25 @@ within_by_redo : (moves : Moves) (count : ℕ) (b : Bool) → IsWithin moves
 within_by_redo moves count true within = omega (arith, within, length-append moves.done (take count moves.undone))
 within_by_redo moves count false within = within
 
-within_by_run : (app : Application) (moves : Moves) (goal : Option Condition) (run : Run) → IsWithin moves
-    → IsWithin (moves_after moves (run_response app moves goal run))
-within_by_run app moves goal (Going made s) within =
-    omega (arith, within, length-append moves.done (moves_by_policy app (state_of app moves) made))
-within_by_run app moves goal (Met made s) within =
-    omega (arith, within, length-append moves.done (moves_by_policy app (state_of app moves) made))
-within_by_run app moves goal (Refused refusal) within = within
-
--- A search finds no place before the base, nor behind the last one that it looks at.
-found_within : (app : Application) (condition : Condition) (base : ℕ) (moves : List PlainMove) (count at : ℕ)
-    → last_met app condition base moves count ≡ Some at → (base ≤ at) × (at < base + count)
-found_within app condition base moves zero at is = absurd (false≢true (ap is_some is))
-found_within app condition base moves (suc n) at is =
-    by (holds_in condition (state_after app (take (base + n) moves))) is (found_within app condition base moves n at)
-  where
-    by : (b : Bool) → cond b (Some (base + n)) (last_met app condition base moves n) ≡ Some at
-        → (last_met app condition base moves n ≡ Some at → (base ≤ at) × (at < base + n)) → (base ≤ at) × (at < base + suc n)
-    by true is earlier =
-        let there : base + n ≡ at = ap (λ o. unwrap_or o 0) is in
-        (omega (arith, there), omega (arith, there))
-    by false is earlier =
-        let rest = earlier is in
-        (omega (arith, rest.0), omega (arith, rest.1))
+within_by_run : (moves : Moves) (goal : Option Condition) (n : ℕ) (run : Run) → LaysOn goal moves n run → IsWithin moves
+    → IsWithin (moves_after moves (run_response goal run))
+within_by_run moves goal n (Going new) lays within = omega (arith, within, lays.0.base, lays.0.more)
+within_by_run moves goal n (AtGoal new) lays within = omega (arith, within, lays.0.base, lays.0.more)
+within_by_run moves goal n (Refused refusal) lays within = within
 
 within_by_search : (app : Application) (condition : Condition) (moves : Moves) (at : Option ℕ)
-    → last_met app condition moves.base moves.done (kept moves) ≡ at → IsWithin moves → IsWithin (moves_after moves (search_response moves at))
-within_by_search app condition moves None is within = omega (arith, length-take-le moves.base moves.done within)
-within_by_search app condition moves (Some at) is within =
-    let found = found_within app condition moves.base moves.done (kept moves) at is in
-    omega (arith, found.0, length-take-le at moves.done (omega (arith, found.1, within)))
+    → IfSome at (HeldLast app condition moves (length moves.done)) → IsWithin moves → IsWithin (moves_after moves (search_response moves at))
+within_by_search app condition moves None held within = omega (arith, length-take-le moves.base moves.done within)
+within_by_search app condition moves (Some at) held within =
+    omega (arith, held.from_base, held.earlier, length-take-le at moves.done (omega (arith, held.earlier)))
 
 pub base_is_within_moves : BaseIsWithinMoves
 base_is_within_moves app limit moves (Go action) within = within_by_move moves action (ending_of (move_answer (state_of app moves) action)) (moved app limit moves action) within
 base_is_within_moves app limit moves (Back count) within = within_by_back moves count (nat_le count (kept moves)) refl within
-base_is_within_moves app limit moves (Forward count) within = within_by_run app moves None (run_of app limit None moves count) within
+base_is_within_moves app limit moves (Forward count) within = within_by_run moves None count (run_of app limit None moves count) (run_lays_on app limit None moves count) within
 base_is_within_moves app limit moves (Redo count) within = within_by_redo moves count (nat_le count (length moves.undone)) within
 base_is_within_moves app limit moves (Until condition count) within =
-    within_by_run app moves (Some condition) (run_of app limit (Some condition) moves count) within
+    within_by_run moves (Some condition) count (run_of app limit (Some condition) moves count) (run_lays_on app limit (Some condition) moves count) within
 base_is_within_moves app limit moves (BackUntil condition) within =
-    within_by_search app condition moves (last_met app condition moves.base moves.done (kept moves)) refl within
+    within_by_search app condition moves (last_place app condition moves) (back_finds_the_last app condition moves within).0 within
 base_is_within_moves app limit moves (Trim keep) within = omega (arith, within)

@@ -8,7 +8,7 @@ use Rattle.rd_moves.specs.declared.answer.Answer.{Answer}
 use Rattle.rd_moves.specs.declared.answer.Answer.TheVariants.{Answered, Done, Ended, Refused}
 use Rattle.rd_moves.specs.declared.answer.SearchEnd.TheVariants.{Met, Limit}
 use Rattle.rd_timeline.specs.declared.running.FoundPlace.{FoundPlace}
-use Rattle.rd_timeline.specs.Course.{Course}
+use Rattle.rd_timeline.specs.Course.{Course, HasGrown, IsAsItWas}
 use Rattle.rd_timeline.specs.History.{state_after}
 use Rattle.rd_timeline.specs.Runs.{Ending, Plain, Searched, Answers, Moves, Response, Leaves}
 use Rattle.rd_timeline.specs.Runs.{Refuses, answered, makes_move, moves_of, response_to}
@@ -41,7 +41,8 @@ pub record Obeys (old : Course) (request : PlainRequest) (new : Course)
   pub moves : OnOk result (moves_of new ≡ answered old.app old.limit (moves_of old) request)
   pub no_memory : OnErr result
       (IsTrue (makes_move old.app old.limit (moves_of old) request))
-  pub err : OnErr result (new ≡ old)
+  pub err : OnErr result (IsAsItWas old new)
+  pub grows : HasGrown old.room new.room
   pub app : new.app ≡ old.app
   pub limit : new.limit ≡ old.limit
   pub leads : state_after new.app new.done ≡ Ok new.target

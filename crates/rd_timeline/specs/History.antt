@@ -21,6 +21,11 @@ stepped app (Err refusal) move = Err refusal
 abbrev pub state_after : Application → List PlainMove → Result Snapshot Refusal
 state_after app moves = fold (stepped app) (Ok (boot_of app)) moves
 
+-- the state that moves give, or this one where they give none
+abbrev pub state_or : Snapshot → Result Snapshot Refusal → Snapshot
+state_or s (Ok t) = t
+state_or s (Err refusal) = s
+
 -- the state after the moves of these records are undone, the last one first
 abbrev pub rewound : Snapshot → List (List Change) → Snapshot
 rewound s [] = s

@@ -7,7 +7,7 @@ pub mod JournalView
 pub mod JournalInside
 pub mod History
 pub mod Course
-pub mod Policy
+pub mod Recorded
 pub mod Starts
 pub mod Backward
 pub mod Inside
@@ -19,5 +19,7 @@ pub use Rattle.rd_state.specs.Boot
 pub use Rattle.rd_state.specs.Valid
 pub use Rattle.rd_app.specs.Application
 pub mod Runs
+pub mod Running
+pub mod Redoing
 pub mod Answers
 pub mod RunLaws

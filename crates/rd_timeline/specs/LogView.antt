@@ -1,4 +1,4 @@
--- What a contract sees of a log.
+-- Records of moves, as a log has them.
 use Rattle.std.specs.Prelude.{ℕ, ◌≡◌, List, [], ◌∷◌, ◌++◌, length}
 use Rattle.rd_app.specs.Application.{Application}
 use Rattle.rd_packed.specs.Records.{records_packed}
@@ -6,12 +6,6 @@ use Rattle.rd_state.specs.Change.{Change}
 use Rattle.rd_state.specs.Snapshot.{Snapshot}
 use Rattle.rd_moves.specs.Moves.{PlainMove}
 use Rattle.rd_calls.specs.Step.{IsPlayed}
-
--- the records in order, for how many bytes of them there is room, and how many were read so far
-pub record LogView : Type 0 where
-  pub records : List (List Change)
-  pub capacity : ℕ
-  pub read : ℕ
 
 -- how many bytes records take
 abbrev pub bytes_of : List (List Change) → ℕ

@@ -1,90 +1,24 @@
 -- What one may count on when going on and back, over any courses of a timeline.
-use Rattle.std.specs.Prelude.{ℕ, ◌≡◌, ◌+◌, ◌-◌, ◌*◌, ◌<◌, ◌≤◌, Bool, true, false, [], length, min}
-use Rattle.std.specs.Prelude.{Option, None, take, Ok}
+use Rattle.std.specs.Prelude.{ℕ, ◌≡◌, ◌+◌, ◌*◌, ◌<◌, ◌≤◌, Bool, true, false, [], ◌∷◌, length}
+use Rattle.std.specs.Prelude.{min, take, Option, IfSome, IfNone}
 use Rattle.rd_app.specs.Application.{Application}
 use Rattle.rd_state.specs.Valid.{IsValid}
-use Rattle.rd_timeline.specs.declared.log.TheConstants.{MAX_KEPT_BYTES}
+use Rattle.rd_timeline.specs.declared.logged.TheConstants.{MAX_KEPT_BYTES}
 use Rattle.rd_moves.specs.declared.carried.Carried.TheVariants as carried
 use Rattle.rd_moves.specs.declared.moves.Move.TheVariants as move
 use Rattle.rd_moves.specs.declared.request.Request.TheVariants.{Go, Back, Forward, Redo, Until}
 use Rattle.rd_moves.specs.declared.request.Request.TheVariants.{BackUntil, Trim}
 use Rattle.rd_moves.specs.Edits.{PlainEdit}
 use Rattle.rd_condition.specs.declared.condition.Condition.{Condition}
-use Rattle.rd_condition.specs.Conditions.{holds}
-use Rattle.rd_timeline.specs.declared.running.FoundPlace.{FoundPlace}
 use Rattle.rd_moves.specs.Requests.{PlainRequest}
-use Rattle.rd_timeline.specs.Backward.{holds_in, GoesBack, GoesBackTo, HasRedone}
-use Rattle.rd_timeline.specs.Backward.{RedoesMoreThanEver}
-use Rattle.rd_timeline.specs.Course.{Course, GoesOn, base_of}
+use Rattle.rd_timeline.specs.Backward.{holds_in}
+use Rattle.rd_timeline.specs.Course.{Course}
 use Rattle.rd_timeline.specs.History.{state_after}
 use Rattle.rd_timeline.specs.LogView.{bytes_of}
-use Rattle.rd_timeline.specs.Policy.{EndsRun, MayLackMemory}
-use Rattle.rd_timeline.specs.Runs.{Moves, Response, Leaves, Refuses, answered, kept, response_to}
-use Rattle.rd_timeline.specs.Runs.{state_of}
-
--- The target is the state that the moves done give, and no more than these have a record.
-pub record IsMade (course : Course) : Type 0 where
-  pub leads : state_after course.app course.done ≡ Ok course.target
-  pub records : length course.log ≤ length course.done
-
--- The target, the moves done and the moves undone are the same, and so is how many of those done
--- have no record.
-pub record HasSameMoves (old new : Course) : Type 0 where
-  pub target : new.target ≡ old.target
-  pub done : new.done ≡ old.done
-  pub undone : new.undone ≡ old.undone
-  pub base : base_of new ≡ base_of old
-
--- Moves that are taken back and then made again leave all as it was before.
-abbrev pub RedoUndoesBack : Type 0
-RedoUndoesBack = (old mid new : Course) (count : ℕ) → IsMade old → IsMade new
-    → GoesBack old count mid → HasRedone mid count new → HasSameMoves old new
-
--- A run and then another make the moves of one run that is as long as both.
-abbrev pub RunsAddUp : Type 0
-RunsAddUp = (old mid new whole : Course) (first then : ℕ)
-    → mid.app ≡ old.app → mid.limit ≡ old.limit
-    → EndsRun old None first false mid → EndsRun mid None then false new
-    → EndsRun old None (first + then) false whole → HasSameMoves whole new
-
--- Where a search back ends well, the condition holds, and at no later place before the one where
--- the search began. Where it doesn't end well, the condition holds at no earlier place that records
--- lead back to.
-abbrev pub BackFindsTheLast : Type 0
-BackFindsTheLast = (old new : Course) (condition : Condition) (found : FoundPlace) → IsMade old
-    → GoesBackTo old condition found new
-    → (found.met ≡ true → (holds new.target condition ≡ true) × (found.at < length old.done))
-    × ((place : ℕ) → base_of old ≤ place → place < length old.done
-    → (found.met ≡ true → found.at < place)
-    → holds_in condition (state_after old.app (take place old.done)) ≡ false)
-
--- An edit that is taken back leaves no trace: target, moves done and base are as they were.
-abbrev pub EditsLeaveNoTrace : Type 0
-EditsLeaveNoTrace = (old mid new : Course) (edit : PlainEdit) → IsMade old
-    → GoesOn old (move.Carried (carried.Edit edit)) mid → GoesBack mid 1 new
-    → (new.target ≡ old.target) × (new.done ≡ old.done) × (base_of new ≡ base_of old)
-
--- ---- room
-
--- A move was made once from as many bytes of records as there would be where the last of so many
--- moves is made and those before it had the longest records.
-abbrev pub HasRoomFor : ℕ → Course → Type 0
-HasRoomFor count course =
-    bytes_of course.log + (count - 1) * MAX_KEPT_BYTES ≤ course.most_bytes
-
--- With that room none of so many moves that are made again is made from more bytes than ever.
-abbrev pub RedoHasRoom : Type 0
-RedoHasRoom = (old : Course) (count : ℕ) → IsValid old.app old.target → HasRoomFor count old
-    → ¬ RedoesMoreThanEver old count
-
--- With that room, where as many moves were done once and none is undone, a run of so many moves
--- has no need of memory.
-abbrev pub RunHasRoom : Type 0
-RunHasRoom = (old : Course) (goal : Option Condition) (count : ℕ) → IsValid old.app old.target
-    → HasRoomFor count old → length old.done + count ≤ old.most_done → old.undone ≡ []
-    → ¬ MayLackMemory old goal count
-
--- ---- refusals
+use Rattle.rd_timeline.specs.Redoing.{RedoLacksRoom}
+use Rattle.rd_timeline.specs.Running.{MayLackMemory}
+use Rattle.rd_timeline.specs.Runs.{Moves, Response, Leaves, Refuses, answered, kept, last_place}
+use Rattle.rd_timeline.specs.Runs.{response_to, state_of}
 
 -- Is a request refused, however much memory there is?
 abbrev pub is_refusal : Response → Bool
@@ -93,6 +27,72 @@ is_refusal (Refuses refusal) = true
 
 abbrev pub is_refused : Application → ℕ → Moves → PlainRequest → Bool
 is_refused app limit moves request = is_refusal (response_to app limit moves request)
+
+-- Moves that are taken back and then made again leave all as it was before.
+abbrev pub RedoUndoesBack : Type 0
+RedoUndoesBack = (app : Application) (limit : ℕ) (moves : Moves) (count : ℕ)
+    → count ≤ kept moves → count ≤ length moves.done
+    → answered app limit (answered app limit moves (Back count)) (Redo count) ≡ moves
+
+-- What comes of a run behind another is what comes of one run that is as long as both.
+abbrev pub RunsAddUp : Type 0
+RunsAddUp = (app : Application) (limit : ℕ) (moves : Moves) (first then : ℕ)
+    → is_refused app limit moves (Forward first) ≡ false
+    → response_to app limit (answered app limit moves (Forward first)) (Forward then)
+    ≡ response_to app limit moves (Forward (first + then))
+
+-- Of the places that records lead back to, the condition holds at this one, and at no later one
+-- before the end.
+pub record HeldLast (app : Application) (condition : Condition) (moves : Moves) (end at : ℕ)
+    : Type 0 where
+  pub from_base : moves.base ≤ at
+  pub earlier : at < end
+  pub holds : holds_in condition (state_after app (take at moves.done)) ≡ true
+  pub later : (place : ℕ) → at < place → place < end
+      → holds_in condition (state_after app (take place moves.done)) ≡ false
+
+-- It holds at none of them.
+abbrev pub NeverHeld : Application → Condition → Moves → ℕ → Type 0
+NeverHeld app condition moves end = (place : ℕ) → moves.base ≤ place → place < end
+    → holds_in condition (state_after app (take place moves.done)) ≡ false
+
+-- A search back finds the last place before the one where it began at which the condition holds,
+-- of those that records lead back to, and none just where there is none.
+abbrev pub BackFindsTheLast : Type 0
+BackFindsTheLast = (app : Application) (condition : Condition) (moves : Moves)
+    → moves.base ≤ length moves.done
+    → IfSome (last_place app condition moves) (HeldLast app condition moves (length moves.done))
+    × IfNone (last_place app condition moves) (NeverHeld app condition moves (length moves.done))
+
+-- An edit that is made and taken back leaves no trace: the moves done, so the target too, and the
+-- base are as they were, and it is undone.
+abbrev pub EditsLeaveNoTrace : Type 0
+EditsLeaveNoTrace = (app : Application) (limit : ℕ) (moves : Moves) (edit : PlainEdit)
+    → moves.base ≤ length moves.done
+    → let action = move.Carried (carried.Edit edit) in
+    is_refused app limit moves (Go action) ≡ false
+    → answered app limit (answered app limit moves (Go action)) (Back 1)
+    ≡ record moves { undone = action ∷ [] }
+
+-- ---- room
+
+-- There is room for so many of the longest records behind those that are kept.
+abbrev pub HasRoomFor : ℕ → Course → Type 0
+HasRoomFor count course = bytes_of course.log + count * MAX_KEPT_BYTES ≤ course.room.bytes
+
+-- With that room so many moves are made again without any memory.
+abbrev pub RedoHasRoom : Type 0
+RedoHasRoom = (old : Course) (count : ℕ) → IsValid old.app old.target → HasRoomFor count old
+    → ¬ RedoLacksRoom old count
+
+-- With that room, where there is room for as many moves more and none is undone, a run of so many
+-- moves has no need of memory.
+abbrev pub RunHasRoom : Type 0
+RunHasRoom = (old : Course) (goal : Option Condition) (count : ℕ) → IsValid old.app old.target
+    → HasRoomFor count old → length old.done + count ≤ old.room.moves → old.undone ≡ []
+    → ¬ MayLackMemory old goal count
+
+-- ---- refusals
 
 -- A refused request of any kind leaves the moves done, so the target too, the moves undone and the
 -- base.

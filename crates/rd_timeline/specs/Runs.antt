@@ -1,8 +1,8 @@
 -- Whole runs: what comes of a request, and what a list of requests leaves of the moves done and
 -- undone, and of the base. A refused request leaves them.
 use Rattle.std.specs.Prelude.{ℕ, ◌≡◌, ◌-◌, Bool, true, false, IsTrue, List, [], ◌∷◌, ◌++◌}
-use Rattle.std.specs.Prelude.{length, take, drop, fold, max, slice_get, if◌then◌else◌, nat_eq}
-use Rattle.std.specs.Prelude.{nat_le, Option, None, Some, Result, Ok, Err, is_ok}
+use Rattle.std.specs.Prelude.{zero, suc, length, take, drop, fold, max, slice_get, nat_eq, nat_le}
+use Rattle.std.specs.Prelude.{if◌then◌else◌, Option, None, Some, Result, Ok, Err, is_ok}
 use Rattle.rd_refusal.specs.declared.refusal.Refusal.{Refusal}
 use Rattle.rd_refusal.specs.declared.refusal.Refusal.TheVariants.{MovesFull, NothingUndone, TooFar}
 use Rattle.rd_app.specs.Application.{Application}
@@ -11,6 +11,7 @@ use Rattle.rd_state.specs.Snapshot.{Snapshot}
 use Rattle.rd_moves.specs.Moves.{PlainMove}
 use Rattle.rd_calls.specs.Step.{move_answer, policy_of, step}
 use Rattle.rd_condition.specs.declared.condition.Condition.{Condition}
+use Rattle.rd_condition.specs.Conditions.{holds}
 use Rattle.rd_moves.specs.Requests.{PlainRequest}
 use Rattle.rd_moves.specs.declared.answer.SearchEnd.{SearchEnd}
 use Rattle.rd_moves.specs.declared.answer.SearchEnd.TheVariants.{Met, Limit, Start}
@@ -18,9 +19,7 @@ use Rattle.rd_moves.specs.declared.request.Request.TheVariants.{Go, Back, Forwar
 use Rattle.rd_moves.specs.declared.request.Request.TheVariants.{BackUntil, Trim}
 use Rattle.rd_timeline.specs.Backward.{last_met}
 use Rattle.rd_timeline.specs.Course.{Course, base_of}
-use Rattle.rd_timeline.specs.History.{state_after}
-use Rattle.rd_timeline.specs.Policy.{Run, Going, Met as MetAfter, Refused, moves_by_policy, ran}
-use Rattle.rd_timeline.specs.Policy.{state_or}
+use Rattle.rd_timeline.specs.History.{state_after, state_or}
 
 -- the moves done and undone, and how many of those done have no record any more
 pub record Moves : Type 0 where
@@ -39,20 +38,23 @@ kept moves = length moves.done - moves.base
 abbrev pub state_of : Application → Moves → Snapshot
 state_of app moves = state_or (boot_of app) (state_after app moves.done)
 
--- the state that one move more gives, or why it is refused: where there is no room for it that is
+-- the move that policy chooses next
+abbrev pub chosen : Application → Moves → PlainMove
+chosen app moves = policy_of (state_of app moves)
+
+-- where the condition held last, of the places that records lead back to
+abbrev pub last_place : Application → Condition → Moves → Option ℕ
+last_place app condition moves = last_met app condition moves.base moves.done (kept moves)
+
+-- the state that one move more gives, or why it is refused: where the limit allows none that is
 -- why, else what the kernel's rules say
 abbrev pub moved : Application → ℕ → Moves → PlainMove → Result Snapshot Refusal
 moved app limit moves move =
     if nat_eq (length moves.done) limit then Err MovesFull else step app (state_of app moves) move
 
--- Can the move be made? There is room for one more, and it gives a state.
+-- Can the move be made? The limit allows one more, and it gives a state.
 abbrev pub can_make : Application → ℕ → Moves → PlainMove → Bool
 can_make app limit moves move = is_ok (moved app limit moves move)
-
--- the run by policy from where the moves are, of so many moves at the most
-abbrev pub run_of : Application → ℕ → Option Condition → Moves → ℕ → Run
-run_of app limit goal moves count =
-    ran app (limit - length moves.done) goal (state_of app moves) count
 
 -- ---- the moves that are left
 
@@ -74,16 +76,48 @@ redone moves count = record moves {
   undone = drop count moves.undone;
 }
 
--- the moves that a run by policy lays on, so many of them; none is undone then
-abbrev pub laid_on : Application → Moves → ℕ → Moves
-laid_on app moves made = record moves {
-  done = moves.done ++ moves_by_policy app (state_of app moves) made;
-  undone = [];
-}
-
 -- the records of the last moves, so many of them, are kept, and those before given up
 abbrev pub trimmed : Moves → ℕ → Moves
 trimmed moves keep = record moves { base = max moves.base (length moves.done - keep) }
+
+-- ---- runs by policy
+
+-- what has become of a run: it left these moves and goes on, or it met its goal there; or a move
+-- was refused
+pub data Run : Type 0 where
+  Going : Moves → Run
+  AtGoal : Moves → Run
+  Refused : Refusal → Run
+
+-- a run whose goal is met, or not
+abbrev pub ended : Bool → Moves → Run
+ended met moves = if met then AtGoal moves else Going moves
+
+-- Is the goal met, if there is one?
+abbrev pub meets : Option Condition → Snapshot → Bool
+meets None s = false
+meets (Some condition) s = holds s condition
+
+-- the goal is looked for where a move left these moves, and gave a state or was refused
+abbrev pub looked_for : Option Condition → Moves → Result Snapshot Refusal → Run
+looked_for goal moves (Ok s) = ended (meets goal s) moves
+looked_for goal moves (Err refusal) = Refused refusal
+
+-- one move more, unless the run is at its end
+abbrev pub run_on : Application → ℕ → Option Condition → Run → Run
+run_on app limit goal (Going moves) =
+    looked_for goal (moved_on moves (chosen app moves)) (moved app limit moves (chosen app moves))
+run_on app limit goal (AtGoal moves) = AtGoal moves
+run_on app limit goal (Refused refusal) = Refused refusal
+
+-- so many moves, one after the other
+abbrev pub ran : Application → ℕ → Option Condition → Moves → ℕ → Run
+ran app limit goal moves zero = Going moves
+ran app limit goal moves (suc n) = run_on app limit goal (ran app limit goal moves n)
+
+-- a run to a goal, if it has one, of so many moves at the most; the moves undone are forgotten
+abbrev pub run_of : Application → ℕ → Option Condition → Moves → ℕ → Run
+run_of app limit goal moves count = ran app limit goal (record moves { undone = [] }) count
 
 -- ---- what comes of a request
 
@@ -116,10 +150,10 @@ end_of None end = Plain
 end_of (Some condition) end = Searched end
 
 -- what comes of a run to a goal, if it has one
-abbrev pub run_response : Application → Moves → Option Condition → Run → Response
-run_response app moves goal (Going made s) = Leaves (laid_on app moves made) (end_of goal Limit)
-run_response app moves goal (MetAfter made s) = Leaves (laid_on app moves made) (end_of goal Met)
-run_response app moves goal (Refused refusal) = Refuses refusal
+abbrev pub run_response : Option Condition → Run → Response
+run_response goal (Going moves) = Leaves moves (end_of goal Limit)
+run_response goal (AtGoal moves) = Leaves moves (end_of goal Met)
+run_response goal (Refused refusal) = Refuses refusal
 
 -- what comes of a search back, where the condition held last at this place, or at none
 abbrev pub search_response : Moves → Option ℕ → Response
@@ -138,14 +172,14 @@ response_to app limit moves (Back count) =
     if nat_le count (kept moves) then Leaves (back_at moves (length moves.done - count)) Plain
     else Refuses (TooFar (kept moves))
 response_to app limit moves (Forward count) =
-    run_response app moves None (run_of app limit None moves count)
+    run_response None (run_of app limit None moves count)
 response_to app limit moves (Redo count) =
     if nat_le count (length moves.undone) then Leaves (redone moves count) Plain
     else Refuses NothingUndone
 response_to app limit moves (Until condition count) =
-    run_response app moves (Some condition) (run_of app limit (Some condition) moves count)
+    run_response (Some condition) (run_of app limit (Some condition) moves count)
 response_to app limit moves (BackUntil condition) =
-    search_response moves (last_met app condition moves.base moves.done (kept moves))
+    search_response moves (last_place app condition moves)
 response_to app limit moves (Trim keep) = Leaves (trimmed moves keep) Plain
 
 -- the moves after it, which were these before
@@ -179,7 +213,7 @@ lays (Trim keep) = Nothing
 -- Can it be laid on, or the first move of it?
 abbrev pub can_lay : Application → ℕ → Moves → Lays → Bool
 can_lay app limit moves (OwnMove move) = can_make app limit moves move
-can_lay app limit moves ByPolicy = can_make app limit moves (policy_of (state_of app moves))
+can_lay app limit moves ByPolicy = can_make app limit moves (chosen app moves)
 can_lay app limit moves (Again count) = nat_le count (length moves.undone)
 can_lay app limit moves Nothing = false
 

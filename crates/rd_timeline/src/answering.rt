@@ -7,6 +7,7 @@ ghost use Rattle.rd_moves.specs.Moves.{IsMoveOf};
 ghost use Rattle.rd_moves.specs.Requests.{IsRequestOf};
 ghost use Rattle.rd_condition.specs.Conditions.{IsConditionOf};
 ghost use Rattle.rd_timeline.specs.Answers.{Obeys, answer_at, answer_to, ended_answer};
+ghost use Rattle.rd_timeline.specs.Course.{HasGrown, IsAsItWas};
 ghost use Rattle.rd_timeline.specs.History.{state_after};
 ghost use Rattle.rd_timeline.specs.Runs.{answered, ending_of, makes_move, may_make_moves};
 ghost use Rattle.rd_timeline.specs.Runs.{moves_of};
@@ -159,7 +160,8 @@ impl Timeline {
         ensures no_memory { OnErr result
             (IsTrue (makes_move self.old.app self.old.limit (moves_of self.old) request.now)) }
         ensures only { OnErr result (may_make_moves request.now ≡ true) }
-        ensures err { OnErr result (self.new ≡ self.old) }
+        ensures err { OnErr result (IsAsItWas self.old self.new) }
+        ensures grows { HasGrown self.old.room self.new.room }
         ensures app { self.new.app ≡ self.old.app }
         ensures limit { self.new.limit ≡ self.old.limit }
         ensures leads { state_after self.new.app self.new.done ≡ Ok self.new.target }

@@ -1,11 +1,13 @@
 //! Interrupts that are made by themselves.
 
-ghost use Rattle.std.specs.Prelude.{◌≡◌, ◌≢◌, ◌↔◌, ◌⊎◌, IfErr, IfOk, IsErrOf, OnErr, OnOk, false};
-ghost use Rattle.std.specs.Prelude.{length};
+ghost use Rattle.std.specs.Prelude.{◌≡◌, ◌≢◌, ◌↔◌, ◌⊎◌, IfErr, IfOk, IsErrOf, Ok, OnErr, OnOk};
+ghost use Rattle.std.specs.Prelude.{false, length};
 ghost use Rattle.rd_app.specs.Profiles.{has_interrupts};
 ghost use Rattle.rd_interrupts.specs.Interrupts.{isr_answer};
 ghost use Rattle.rd_moves.specs.Interrupts.{IsInterruptOf};
-ghost use Rattle.rd_timeline.specs.Course.{by_interrupt, GoesOn, IsFull, IsMoreThanEver};
+ghost use Rattle.rd_timeline.specs.Course.{by_interrupt, HasGrown, IsAsItWas, IsFull, LacksRoom};
+ghost use Rattle.rd_calls.specs.Step.{step};
+ghost use Rattle.rd_timeline.specs.Runs.{moved_on, moves_of};
 
 use crate::timeline::Timeline;
 use rd_calls::play::move_answer;
@@ -24,16 +26,22 @@ impl Timeline {
     pub fn isr(&mut self, interrupt: Interrupt) -> Result<u32, Refusal>
         requires named { IsInterruptOf self.old.app interrupt }
         ensures answer { IfOk result (λ answer. answer ≡ isr_answer self.old.target interrupt) }
-        ensures goes { OnOk result (GoesOn self.old (by_interrupt interrupt) self.new) }
+        ensures moves { OnOk result
+            (moves_of self.new ≡ moved_on (moves_of self.old) (by_interrupt interrupt)) }
+        ensures step { OnOk result
+            (step self.old.app self.old.target (by_interrupt interrupt) ≡ Ok self.new.target) }
+        ensures app { OnOk result (self.new.app ≡ self.old.app) }
+        ensures limit { OnOk result (self.new.limit ≡ self.old.limit) }
         ensures moves_full { IsErrOf result Refusal.MovesFull ↔ IsFull self.old }
         ensures no_isr { IsErrOf result Refusal.NoIsr
             ↔ ((length self.old.done ≢ self.old.limit)
             × (has_interrupts self.old.app.profile ≡ false)) }
         ensures short { IsErrOf result Refusal.NoMemory
-            → IsMoreThanEver self.old (by_interrupt interrupt) }
+            → LacksRoom self.old (by_interrupt interrupt) }
         ensures refusals { IfErr result (λ refusal. (refusal ≡ Refusal.MovesFull)
             ⊎ (refusal ≡ Refusal.NoIsr) ⊎ (refusal ≡ Refusal.NoMemory)) }
-        ensures err { OnErr result (self.new ≡ self.old) }
+        ensures grows { HasGrown self.old.room self.new.room }
+        ensures err { OnErr result (IsAsItWas self.old self.new) }
     {
         self.keeps();
         let carried = Carried::Interrupt { interrupt };

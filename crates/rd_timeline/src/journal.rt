@@ -14,7 +14,7 @@ ghost use Rattle.rd_timeline.specs.Decoded.{HasByte, is_carried_byte, move_of};
 ghost use Rattle.rd_timeline.specs.JournalView.{next_undone, HasCarriedRoom, IsAsBefore};
 ghost use Rattle.rd_timeline.specs.LogView.{bytes_of, RecordsMove};
 ghost use Rattle.rd_timeline.specs.LoggedView.{IsWhyNotKept};
-ghost use Rattle.rd_timeline.specs.declared.log.TheConstants.{MAX_KEPT_BYTES};
+ghost use Rattle.rd_timeline.specs.declared.logged.TheConstants.{MAX_KEPT_BYTES};
 
 use crate::carried::CarriedList;
 use crate::logged::Logged;
@@ -153,25 +153,11 @@ impl Journal {
         self.moves.len() - self.done
     }
 
-    /// How many of the moves done carry something.
-    pub fn carried(&self) -> usize
-        ensures { result ≡ carried_in self.now.done }
-    {
-        self.carried.done()
-    }
-
     /// How many moves have a record kept.
     pub fn kept(&self) -> usize
         ensures { result ≡ length self.now.records }
     {
         self.logged.kept()
-    }
-
-    /// How many bytes all records take.
-    pub fn bytes(&self) -> usize
-        ensures { result ≡ bytes_of self.now.records }
-    {
-        self.logged.bytes()
     }
 
     /// How many bytes of them were read, as a count of its own.

@@ -1,5 +1,7 @@
 //! The moves made so far, the way back through them, and the state that they give.
-//! Page: `docs/ARCHITECTURE.md`.
+//! Page: `docs/ARCHITECTURE.md`. Definitions in reading order (`specs/`): `History`, `LogView`,
+//! `Decoded`, `JournalView`, `CarriedView`, `LoggedView`, `Course`, `Recorded`, `Backward`, `Runs`,
+//! `Running`, `Redoing`, `Starts`, `Answers`, `RunLaws`, `JournalInside`, `Inside`.
 #![tactic(auto)]
 
 pub mod answering;
@@ -7,9 +9,7 @@ mod carried;
 pub mod interrupts;
 pub mod journal;
 pub mod laws;
-pub mod log;
 pub mod logged;
-mod most;
 pub mod running;
 pub mod runs;
 pub mod timeline;

@@ -1,8 +1,8 @@
 //! The target, and the log of the records that lead back from it.
 
-ghost use Rattle.std.specs.Prelude.{◌≡◌, ◌+◌, ◌-◌, ◌<◌, ◌≤◌, [], drop, length, take};
-ghost use Rattle.std.specs.Prelude.{◌*◌, if◌then◌else◌, nat_lt, IfErr, IfOk, IsErrOf, OnErr};
-ghost use Rattle.std.specs.Prelude.{OnOk};
+ghost use Rattle.std.specs.Prelude.{◌≡◌, ◌+◌, ◌-◌, ◌<◌, ◌≤◌, ◌∷◌, ◌++◌, [], drop, length};
+ghost use Rattle.std.specs.Prelude.{◌*◌, if◌then◌else◌, nat_lt, take, IfErr, IfOk, IsErrOf};
+ghost use Rattle.std.specs.Prelude.{IsOk, OnErr, OnOk};
 ghost use Rattle.rd_moves.specs.Moves.{IsMoveOf};
 ghost use Rattle.rd_packed.specs.Records.{last_of_all, record_packed};
 ghost use Rattle.rd_app.specs.Application.{priorities_of};
@@ -12,20 +12,25 @@ ghost use Rattle.rd_state.specs.Valid.{IsValid};
 ghost use Rattle.rd_timeline.specs.LogView.{bytes_of, RecordsMove};
 ghost use Rattle.rd_timeline.specs.LoggedView.{IsWhyNotKept};
 ghost use Rattle.rd_timeline.specs.History.{rewound, CanRewind};
-ghost use Rattle.rd_timeline.specs.declared.log.TheConstants.{MAX_KEPT_BYTES};
+ghost use Rattle.rd_calls.specs.declared.play.TheConstants.{MAX_RECORD_BYTES};
+ghost use Rattle.rd_state.specs.PackedChanges.{all_packed, IsPackable};
 
-use crate::log::Log;
 use rd_app::app::Program;
 use rd_bytes::no_memory::NoMemory;
 use rd_calls::play::{MAX_RECORD_BYTES, play_on};
 use rd_moves::carried::Lent;
 use rd_moves::moves::Move;
 use rd_packed::count::ReadCount;
+use rd_packed::packed::{Packed, TRAILER};
 use rd_refusal::refusal::Refusal;
+use rd_state::change_list::ChangeList;
 use rd_state::editing::Editing;
 use rd_state::state::State;
 use std::alloc::Global;
 use std::marker::Model;
+
+/// How many bytes the record of a move takes in a log at the most.
+pub const MAX_KEPT_BYTES: usize = MAX_RECORD_BYTES + TRAILER;
 
 /// The target, with the records of the moves that led to it, in order. Moves are made and taken
 /// back where it is. It can't be dropped: it ends in `retire`.
@@ -33,7 +38,8 @@ pub struct Logged {
     // The target, and the record of the move that is being made: between moves it is empty, and it
     // has room for the longest one.
     editing: Editing,
-    log: Log,
+    // The records of moves done.
+    log: Packed,
 }
 
 impl Model for Logged {
@@ -53,6 +59,23 @@ impl Model for Logged {
     ghost invariant = { λ l. (l.editing.changes ≡ []) × (MAX_RECORD_BYTES ≤ l.editing.room) };
 }
 
+// Puts a record of these changes at the log's end. It makes room for the longest record first,
+// however short this one is: so where as many bytes of records were kept once, no record needs
+// memory. Where there is none for that, the records are as they were.
+fn append(log: &mut Packed, changes: &ChangeList) -> Result<(), NoMemory>
+    requires packable { IsPackable changes.now.changes }
+    requires short { length (all_packed changes.now.changes) ≤ MAX_RECORD_BYTES }
+    ensures ok { OnOk result (log.new.records ≡ log.old.records ++ changes.now.changes ∷ []) }
+    ensures ahead { OnOk result (bytes_of log.old.records + MAX_KEPT_BYTES ≤ log.new.capacity) }
+    ensures enough { bytes_of log.old.records + MAX_KEPT_BYTES ≤ log.old.capacity → IsOk result }
+    ensures err { OnErr result (log.new.records ≡ log.old.records) }
+    ensures grows { log.old.capacity ≤ log.new.capacity }
+    ensures read { log.new.read ≡ log.old.read }
+{
+    log.reserve(MAX_KEPT_BYTES)?;
+    log.append(changes)
+}
+
 impl Logged {
     /// A target from which nothing leads back. An `Err` says that there is no memory for the record
     /// of a move, and drops the target.
@@ -68,7 +91,7 @@ impl Logged {
         }
         Ok(Logged {
             editing,
-            log: Log::new(alloc),
+            log: Packed::new(alloc),
         })
     }
 
@@ -120,7 +143,7 @@ impl Logged {
         ensures read { self.new.read ≡ self.old.read }
     {
         play_on(&mut self.editing, app, action)?;
-        if self.log.append(self.editing.recorded()).is_err() {
+        if append(&mut self.log, self.editing.recorded()).is_err() {
             self.editing.back_to(0);
             return Err(Refusal::NoMemory);
         }

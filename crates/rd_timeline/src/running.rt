@@ -2,14 +2,17 @@
 
 ghost use Rattle.std.specs.Prelude.{◌≡◌, ◌↔◌, ◌+◌, ◌-◌, ◌<◌, ◌≤◌, [], false, length, take, drop};
 ghost use Rattle.std.specs.Prelude.{Ok, None, Some, IfOk, IfErr, IfSome, OnOk, OnErr, IsErrOf};
+ghost use Rattle.rd_calls.specs.Step.{policy_of};
 ghost use Rattle.rd_condition.specs.Conditions.{holds, IsConditionOf};
-ghost use Rattle.rd_timeline.specs.Backward.{GoesBackTo, HasRedone, HasRedonePart};
-ghost use Rattle.rd_timeline.specs.Backward.{IsWhyNoRedo, RedoesMoreThanEver};
-ghost use Rattle.rd_timeline.specs.Course.{base_of};
+ghost use Rattle.rd_timeline.specs.Backward.{place_met};
+ghost use Rattle.rd_timeline.specs.Course.{base_of, HasGrown, IsAhead, IsAsItWas, IsWhyNot};
 ghost use Rattle.rd_timeline.specs.History.{state_after};
 ghost use Rattle.rd_timeline.specs.LogView.{bytes_of};
-ghost use Rattle.rd_timeline.specs.Policy.{meets, EndsRun, IsWhyNoRun, IsWhyNotByPolicy};
-ghost use Rattle.rd_timeline.specs.Policy.{MayLackMemory, RunsMoreThanEver, StandsOn};
+ghost use Rattle.rd_timeline.specs.Recorded.{RecordsMoves, StandsOn};
+ghost use Rattle.rd_timeline.specs.Redoing.{HasRedone, HasRedonePart, IsWhyNoRedo, RedoLacksRoom};
+ghost use Rattle.rd_timeline.specs.Running.{run_from, IsWhyNoRun, MayLackMemory, RunLacksRoom};
+ghost use Rattle.rd_timeline.specs.Runs.{Going, back_at, ended, last_place, meets, moves_of};
+ghost use Rattle.rd_timeline.specs.Runs.{redone};
 
 use crate::timeline::Timeline;
 use rd_bytes::no_memory::NoMemory;
@@ -42,7 +45,7 @@ impl Timeline {
 
     // Why the next move by policy isn't made, where there is no memory for it.
     fn why_no_move(&self) -> Refusal
-        ensures { IsWhyNotByPolicy self.now result }
+        ensures { IsWhyNot self.now (policy_of self.now.target) result }
     {
         if self.at() == self.limit() {
             return Refusal::MovesFull;
@@ -57,10 +60,12 @@ impl Timeline {
     fn go_on(&mut self, goal: Option<Condition>, count: usize) -> Result<bool, Refusal>
         requires none_undone { self.old.undone ≡ [] }
         requires named { IfSome goal (IsConditionOf self.old.app) }
-        ensures ends { IfOk result (λ met. EndsRun self.old goal count met self.new) }
+        ensures ends { IfOk result (λ met.
+            run_from self.old goal count ≡ ended met (moves_of self.new)) }
+        ensures ahead { OnOk result (0 < count → IsAhead self.new) }
         ensures stands { StandsOn self.old self.new }
         ensures refusals { IfErr result (IsWhyNoRun self.old goal count) }
-        ensures short { IsErrOf result Refusal.NoMemory → RunsMoreThanEver self.old goal count }
+        ensures short { IsErrOf result Refusal.NoMemory → RunLacksRoom self.old goal count }
     {
         self.keeps();
         for _ in 0..count {
@@ -75,17 +80,21 @@ impl Timeline {
     }
 
     // Makes moves by policy until the goal is met, so many of them at the most, all or none.
-    // Answers whether it was met. A refusal leaves the timeline as it was.
+    // Answers whether it was met. A refusal leaves the timeline as it was, but for more room.
     fn run_by_policy(&mut self, goal: Option<Condition>, count: usize) -> Result<bool, Refusal>
         requires some { 0 < count }
         requires named { IfSome goal (IsConditionOf self.old.app) }
-        ensures ends { IfOk result (λ met. EndsRun self.old goal count met self.new) }
+        ensures ends { IfOk result (λ met.
+            run_from self.old goal count ≡ ended met (moves_of self.new)) }
+        ensures recorded { OnOk result (RecordsMoves self.old self.new) }
+        ensures ahead { OnOk result (IsAhead self.new) }
         ensures app { self.new.app ≡ self.old.app }
         ensures limit { self.new.limit ≡ self.old.limit }
         ensures read { self.new.read ≡ self.old.read }
+        ensures grows { HasGrown self.old.room self.new.room }
         ensures refusals { IfErr result (IsWhyNoRun self.old goal count) }
         ensures short { IsErrOf result Refusal.NoMemory → MayLackMemory self.old goal count }
-        ensures err { OnErr result (self.new ≡ self.old) }
+        ensures err { OnErr result (IsAsItWas self.old self.new) }
     {
         self.keeps();
         let Ok(start) = self.begin_run() else {
@@ -101,22 +110,25 @@ impl Timeline {
     }
 
     /// Makes so many moves, one at the least, as `policy` chooses, all or none. Answers how many
-    /// moves are done then. A refusal leaves the timeline as it was, the moves undone included:
-    /// that of the first move that is refused, `MovesFull` or `TickLimit`, or `NoMemory` where a
-    /// growth was refused before that. There is no other. Memory is needed only to set the moves
-    /// undone aside, and for more than ever was done (`run_has_room` says how far room for the
-    /// longest records goes).
+    /// moves are done then. A refusal leaves the timeline as it was, but for more room, the moves
+    /// undone included: that of the first move that is refused, `MovesFull` or `TickLimit`, or
+    /// `NoMemory` where a growth was refused before that. There is no other. Memory is needed only
+    /// to set the moves undone aside, and where there is no room; room that was made stays
+    /// (`run_has_room` says how far it goes).
     pub fn forward(&mut self, count: usize) -> Result<usize, Refusal>
         requires { 0 < count }
         ensures at { IfOk result (λ at. at ≡ length self.new.done) }
-        ensures ends { OnOk result (EndsRun self.old None count false self.new) }
+        ensures ends { OnOk result (run_from self.old None count ≡ Going (moves_of self.new)) }
+        ensures recorded { OnOk result (RecordsMoves self.old self.new) }
+        ensures ahead { OnOk result (IsAhead self.new) }
         ensures app { self.new.app ≡ self.old.app }
         ensures limit { self.new.limit ≡ self.old.limit }
         ensures read { self.new.read ≡ self.old.read }
+        ensures grows { HasGrown self.old.room self.new.room }
         ensures leads { state_after self.new.app self.new.done ≡ Ok self.new.target }
         ensures refusals { IfErr result (IsWhyNoRun self.old None count) }
         ensures short { IsErrOf result Refusal.NoMemory → MayLackMemory self.old None count }
-        ensures err { OnErr result (self.new ≡ self.old) }
+        ensures err { OnErr result (IsAsItWas self.old self.new) }
     {
         self.keeps();
         self.run_by_policy(None, count)?;
@@ -126,21 +138,24 @@ impl Timeline {
 
     /// Makes moves as `policy` chooses until the condition holds after one of them, so many of them
     /// at the most, all or none. That it holds after none is no refusal. Refusals are those of
-    /// `forward`, and leave the timeline as it was.
+    /// `forward`, and leave the timeline as it was, but for more room.
     pub fn until(&mut self, condition: Condition, count: usize) -> Result<FoundPlace, Refusal>
         requires some { 0 < count }
         requires named { IsConditionOf self.old.app condition }
         ensures at { IfOk result (λ found. found.at ≡ length self.new.done) }
         ensures ends { IfOk result (λ found.
-            EndsRun self.old (Some condition) count found.met self.new) }
+            run_from self.old (Some condition) count ≡ ended found.met (moves_of self.new)) }
+        ensures recorded { OnOk result (RecordsMoves self.old self.new) }
+        ensures ahead { OnOk result (IsAhead self.new) }
         ensures app { self.new.app ≡ self.old.app }
         ensures limit { self.new.limit ≡ self.old.limit }
         ensures read { self.new.read ≡ self.old.read }
+        ensures grows { HasGrown self.old.room self.new.room }
         ensures leads { state_after self.new.app self.new.done ≡ Ok self.new.target }
         ensures refusals { IfErr result (IsWhyNoRun self.old (Some condition) count) }
         ensures short { IsErrOf result Refusal.NoMemory
             → MayLackMemory self.old (Some condition) count }
-        ensures err { OnErr result (self.new ≡ self.old) }
+        ensures err { OnErr result (IsAsItWas self.old self.new) }
     {
         self.keeps();
         let met = self.run_by_policy(Some(condition), count)?;
@@ -154,7 +169,7 @@ impl Timeline {
         requires { count ≤ length self.old.undone }
         ensures ok { OnOk result (HasRedone self.old count self.new) }
         ensures part { HasRedonePart self.old count self.new }
-        ensures short { OnErr result (RedoesMoreThanEver self.old count) }
+        ensures short { OnErr result (RedoLacksRoom self.old count) }
     {
         self.keeps();
         for _ in 0..count {
@@ -165,18 +180,22 @@ impl Timeline {
 
     /// Makes the next `count` moves that are undone again, all or none. Answers how many moves are
     /// done then. It is refused as `NothingUndone` where fewer are undone, and else as `NoMemory`
-    /// alone, where a growth was refused, as none is but for more bytes of records than a move was
-    /// ever made from (`redo_has_room`). A refusal leaves the timeline as it was.
+    /// alone, where a growth was refused, as none is but where there is no room for the longest
+    /// record (`redo_has_room`). A refusal leaves the timeline as it was, but for more room.
     pub fn redo(&mut self, count: usize) -> Result<usize, Refusal>
         ensures at { IfOk result (λ at. at ≡ length self.new.done) }
-        ensures redone { OnOk result (HasRedone self.old count self.new) }
+        ensures moves { OnOk result (moves_of self.new ≡ redone (moves_of self.old) count) }
+        ensures app { OnOk result (self.new.app ≡ self.old.app) }
+        ensures limit { OnOk result (self.new.limit ≡ self.old.limit) }
+        ensures recorded { OnOk result (RecordsMoves self.old self.new) }
         ensures read { self.new.read ≡ self.old.read }
+        ensures grows { HasGrown self.old.room self.new.room }
         ensures leads { state_after self.new.app self.new.done ≡ Ok self.new.target }
         ensures nothing_undone { IsErrOf result Refusal.NothingUndone
             ↔ (length self.old.undone < count) }
         ensures refusals { IfErr result (IsWhyNoRedo self.old count) }
-        ensures short { IsErrOf result Refusal.NoMemory → RedoesMoreThanEver self.old count }
-        ensures err { OnErr result (self.new ≡ self.old) }
+        ensures short { IsErrOf result Refusal.NoMemory → RedoLacksRoom self.old count }
+        ensures err { OnErr result (IsAsItWas self.old self.new) }
     {
         self.keeps();
         if count > self.left() {
@@ -197,10 +216,16 @@ impl Timeline {
     pub fn back_until(&mut self, condition: Condition) -> FoundPlace
         requires named { IsConditionOf self.old.app condition }
         ensures at { result.at ≡ length self.new.done }
-        ensures place { GoesBackTo self.old condition result self.new }
+        ensures place { place_met result ≡ last_place self.old.app condition (moves_of self.old) }
+        ensures start { result.met ≡ false → result.at ≡ base_of self.old }
+        ensures moves { moves_of self.new ≡ back_at (moves_of self.old) result.at }
         ensures log { self.new.log ≡ take (result.at - base_of self.old) self.old.log }
+        ensures app { self.new.app ≡ self.old.app }
+        ensures limit { self.new.limit ≡ self.old.limit }
+        ensures room { self.new.room ≡ self.old.room }
         ensures read { self.new.read
             ≡ self.old.read + bytes_of (drop (result.at - base_of self.old) self.old.log) }
+        ensures leads { state_after self.new.app self.new.done ≡ Ok self.new.target }
     {
         self.keeps();
         for _ in 0..self.kept() {

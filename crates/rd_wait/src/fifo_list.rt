@@ -106,8 +106,8 @@ impl FifoList {
     }
 }
 
-/// A task that was taken out of a list and is put in again at the same index gives back the list as
-/// it was before.
+/// A law: a task that was taken out of a list and is put in again at the same index gives back the
+/// list as it was before.
 pub fn each_removal_is_undone()
     ensures { EachRemovalIsUndone }
 {}

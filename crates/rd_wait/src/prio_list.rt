@@ -132,8 +132,8 @@ impl PrioList {
     }
 }
 
-/// A task joins a list in order after every member of at least its priority and before every other,
-/// and the list stays in order.
+/// A law: a task joins a list in order after every member of at least its priority and before every
+/// other, and the list stays in order.
 pub fn joining_keeps_the_order()
     ensures { JoiningKeepsTheOrder }
 {}

@@ -1,4 +1,4 @@
-//! The program `rdbg`.
+//! The program `rdbg`. Page: `docs/ARCHITECTURE.md`.
 #![tactic(auto)]
 
 use rd_main::{refuse_words, run_main};

@@ -1,4 +1,4 @@
-//! The program `rdreach`.
+//! The program `rdreach`. Page: `docs/REACHING.md`.
 #![tactic(auto)]
 
 use rd_question::{refuse_words, run_main};

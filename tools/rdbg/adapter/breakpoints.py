@@ -9,19 +9,20 @@ from rdbg.adapter.losing import Loses
 from rdbg.adapter.messages import Arguments, Values, Wrong
 from rdbg.adapter.sources import Spot, Text
 from rdbg.adapter.stops import Amount, Becomes, Content, Counted, Seat, Stop, Where, becoming
-from rdbg.replies import Cores, Refused
-from rdbg.shell import seek
-from rdbg.goals.conditions import Condition
-from rdbg.goals import reading, sought
-from rdbg.goals import words as goal_words
+from rdbg.driving.target import Unable
+from rdbg.failure import turned
+from rdbg.goals import reading, sought, words as goal_words
 from rdbg.goals.changes import Changes
 from rdbg.goals.claims import Goal
+from rdbg.goals.computed import COMPARING
+from rdbg.goals.conditions import Condition
 from rdbg.goals.reading import NoGoal
 from rdbg.goals.ways import To
 from rdbg.reaching.asking import LOST
+from rdbg.replies import Cores, Refused
+from rdbg.shell import seek
 from rdbg.shell.hints import refusal
 from rdbg.shell.shell import Shell
-from rdbg.driving.target import Unable
 
 # The failures at which one can be stopped: what the editor shows, and whether it is so by itself.
 FAILURES: Dict[str, Tuple[str, bool]] = {
@@ -30,11 +31,7 @@ FAILURES: Dict[str, Tuple[str, bool]] = {
 }
 # How a number of hits can be compared.
 HITS: Dict[str, Callable[[int, int], bool]] = {
-    "=": lambda hits, number: hits == number,
-    ">": lambda hits, number: hits > number,
-    ">=": lambda hits, number: hits >= number,
-    "<": lambda hits, number: hits < number,
-    "<=": lambda hits, number: hits <= number,
+    **COMPARING,
     "%": lambda hits, number: hits % number == 0,
 }
 HIT = re.compile(r"\s*(==?|>=?|<=?|%)?\s*([0-9]{1,7})\s*")
@@ -46,9 +43,9 @@ MOST = 256
 
 @dataclasses.dataclass(frozen=True)
 class Breakpoint:
-    """A breakpoint: its number, what kind a stop at it is, its stops, and what an editor is told
-    of it, and the instruction of each stop, where it is at one. It has no stops where it can't be met, and
-    stops nothing where it has a text to `log`."""
+    """A breakpoint: its number, what kind a stop at it is, its stops, and what an editor is told of
+    it, and the instruction of each stop, where it is at one. It has no stops where it can't be met,
+    and stops nothing where it has a text to `log`."""
 
     number: int
     reason: str
@@ -61,14 +58,18 @@ class Breakpoint:
 def goal_in(shell: Shell, text: str) -> Goal:
     """The goal that a text is. Raises `Wrong` where it is none, or names what isn't there."""
     try:
-        goal = goal_words.read(text.split(), shell.scope())
-        seek.check_goal(shell, goal)
-        return goal
-    except (NoGoal, Unable) as wrong:
-        raise Wrong(str(wrong)) from None
+        with turned(Wrong, NoGoal, Unable):
+            goal = goal_words.read(text.split(), shell.scope())
+            seek.check_goal(shell, goal)
     except Refused as refused:
-        why = refusal(shell, shell.asked, refused)
-        raise Wrong(f"rdbg says no {refused}" + (f": {why}" if why else "")) from None
+        raise wrong_line(shell, shell.asked, refused) from None
+    return goal
+
+
+def wrong_line(shell: Shell, line: str, refused: Refused) -> Wrong:
+    """Why rdbg refuses a line, in words."""
+    why = refusal(shell, line, refused)
+    return Wrong(f"rdbg says no {refused}" + (f": {why}" if why else ""))
 
 
 def hits_of(text: str) -> Callable[[int], bool]:
@@ -76,7 +77,7 @@ def hits_of(text: str) -> Callable[[int], bool]:
     found = HIT.fullmatch(text)
     if not found or not int(found[2]):
         raise Wrong(f"'{text}' is no number of hits: 3, > 3, or % 3 for each third")
-    compare, number = HITS[(found[1] or "=").replace("==", "=")], int(found[2])
+    compare, number = HITS[found[1] or "="], int(found[2])
     return lambda hits: compare(hits, number)
 
 
@@ -97,8 +98,8 @@ def arrival(spot: Spot) -> Stop:
 
 
 def named(shell: Shell, text: Text, name: str) -> List[Stop]:
-    """What a name stands for: a goal, that one is lost, a place of a task, an instruction, or what
-    FreeRTOS calls one."""
+    """What a name stands for: a goal, that one is lost, a task's place, or what FreeRTOS calls
+    one."""
     words = name.replace(":", " ").split()
     if not words:
         raise Wrong("a condition, as count jobs > 0, or send, xQueueSend, worker 2")
@@ -134,10 +135,8 @@ def is_call(spot: Spot, words: Sequence[str]) -> bool:
 
 def of_move(shell: Shell, words: Sequence[str]) -> Stop:
     """What these words say of a move. Raises `Wrong`."""
-    try:
+    with turned(Wrong, NoGoal):
         way, at = sought.of_move(words, shell.target, shell.scope())
-    except NoGoal as wrong:
-        raise Wrong(str(wrong)) from None
     if at < len(words):
         raise Wrong(f"'{' '.join(words[at:])}' is too much behind {' '.join(words[:at])}")
     if isinstance(way, Changes):
@@ -175,11 +174,8 @@ class Breakpoints:
 
     def again(self, shell: Shell, text: Text) -> List[Values]:
         """All of them, each with its number, for a target and a text that are others now."""
-        found: List[Values] = []
-        for kind in self._asked:
-            numbers = [it.number for it in self._of[kind]]
-            found += self._made(kind, shell, text, numbers)
-        return found
+        numbers = {kind: [it.number for it in self._of[kind]] for kind in self._asked}
+        return [value for it in numbers for value in self._made(it, shell, text, numbers[it])]
 
     def _made(self, kind: str, shell: Shell, text: Text, numbers: Sequence[int]) -> List[Values]:
         found: List[Breakpoint] = []
@@ -205,6 +201,11 @@ class Breakpoints:
         return [{"verified": False, "message": found} for _ in asked]
 
 
+def told(number: int, said: str) -> Values:
+    """What an editor is told of a breakpoint that can be met."""
+    return {"id": number, "verified": True, "message": said[:1_000]}
+
+
 def at_line(shell: Shell, text: Text, given: Arguments, number: int) -> Breakpoint:
     """A breakpoint at a line, and a column where one is given."""
     log = given.text("logMessage", "").strip()
@@ -213,8 +214,7 @@ def at_line(shell: Shell, text: Text, given: Arguments, number: int) -> Breakpoi
     for each in {it.task for it in spots}:
         names.check(shell, log, each)
     stops = tuple(limited(shell, arrival(it), given) for it in spots)
-    said = "; ".join(map(str, spots))[:1_000]
-    value: Values = {"id": number, "verified": True, "message": said, **text.place(spot)}
+    value = {**told(number, "; ".join(map(str, spots))), **text.place(spot)}
     source = text.value()
     if source is not None:
         value["source"] = source
@@ -224,9 +224,7 @@ def at_line(shell: Shell, text: Text, given: Arguments, number: int) -> Breakpoi
 def by_name(shell: Shell, text: Text, given: Arguments, number: int) -> Breakpoint:
     """A breakpoint by a name."""
     stops = [limited(shell, it, given) for it in named(shell, text, given.text("name"))]
-    texts = "; ".join(it.text for it in stops)
-    value: Values = {"id": number, "verified": True, "message": texts[:1_000]}
-    return Breakpoint(number, NAME, tuple(stops), value)
+    return Breakpoint(number, NAME, tuple(stops), told(number, "; ".join(it.text for it in stops)))
 
 
 def on_data(shell: Shell, text: Text, given: Arguments, number: int) -> Breakpoint:
@@ -238,22 +236,16 @@ def on_data(shell: Shell, text: Text, given: Arguments, number: int) -> Breakpoi
     if words[:1] == ["changes"] and len(words) == 3:
         stop: Stop = of_move(shell, words)
     elif words[:1] in (["core"], ["ready"]):
-        stop = seat(shell, watched)
+        cores = len(shell.target.ask("show cores", Cores).running)
+        if watched not in ("ready", *(f"core {core}" for core in range(cores))):
+            raise Wrong(f"'{watched[:100]}' is no core: core 0 to core {cores - 1}, or ready")
+        stop = Seat(watched)
     else:
         condition = f"{watched} run" if words[:1] == ["phase"] else f"{watched} = 0"
         goal_in(shell, condition)  # (what it names is there)
         stop = Amount(watched)
     stop = limited(shell, stop, given)
-    value: Values = {"id": number, "verified": True, "message": stop.text}
-    return Breakpoint(number, DATA, (stop,), value)
-
-
-def seat(shell: Shell, watched: str) -> Stop:
-    """That who is on a core changes, or who is ready. Raises `Wrong`."""
-    cores = len(shell.target.ask("show cores", Cores).running)
-    if watched not in ("ready", *(f"core {core}" for core in range(cores))):
-        raise Wrong(f"'{watched[:100]}' is no core: core 0 to core {cores - 1}, or ready")
-    return Seat(watched)
+    return Breakpoint(number, DATA, (stop,), told(number, stop.text))
 
 
 # What makes a breakpoint of each kind.

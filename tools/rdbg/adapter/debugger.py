@@ -1,31 +1,71 @@
 """What is debugged for one editor: the target with its threads, sources and breakpoints, how it is
 moved, and what the editor is told of it."""
 import contextlib
+import time
 from typing import Any, Callable, Dict, Iterator, List, Optional, Sequence, Tuple
 
 from rdbg import record, replies
-from rdbg.adapter.breakpoints import Breakpoint, Breakpoints
+from rdbg.adapter.breakpoints import Breakpoint, Breakpoints, wrong_line
 from rdbg.adapter.hearing import MOVED, Hearing
 from rdbg.adapter.known import Facts
 from rdbg.adapter.losing import Loses, listen
 from rdbg.adapter.messages import Arguments, Values, Wrong, event
 from rdbg.adapter.pausing import Pause
-from rdbg.adapter.paced import PacedRunner
-from rdbg.adapter.progress import Progress
-from rdbg.adapter.running import Outcome, Runner
+from rdbg.adapter.running import Outcome, PacedRunner, Runner
 from rdbg.adapter.sources import Spot, Text
 from rdbg.adapter.stops import Becomes, Begins, Stop
 from rdbg.adapter.threads import TIME, Threads
 from rdbg.adapter.variables import References, Shown
+from rdbg.driving import trail
 from rdbg.effects import Move
-from rdbg.looks import Look
-from rdbg.replies import Refused
 from rdbg.goals import conditions
 from rdbg.goals.claims import ASLEEP, Finished, SomeFailed, Stuck
-from rdbg.driving import trail
-from rdbg.shell.hints import refusal
+from rdbg.looks import Look
+from rdbg.replies import Refused
 from rdbg.shell.shell import Shell
 from rdbg.shell.views import phase_text
+from rdbg.wording import counted
+
+# So many seconds pass until it is shown, and between two times.
+MOMENT = 1.0
+
+
+class Progress:
+    """How far the run is that goes on. An editor ends it by its name."""
+
+    def __init__(self, send: Callable[[Values], None]) -> None:
+        self._send, self._runs, self._next = send, 0, 0.0
+        self.is_asked_for = self._is_shown = False
+
+    @property
+    def name(self) -> str:
+        """The name of what goes on."""
+        return f"run {self._runs}"
+
+    def begin(self) -> None:
+        """Something begins."""
+        self._runs += 1
+        self._next, self._is_shown = time.monotonic() + MOMENT, False
+
+    def show(self, text: str) -> None:
+        """Says how far it is, where that wasn't said just now."""
+        now = time.monotonic()
+        if not self.is_asked_for or now < self._next:
+            return
+        self._next = now + MOMENT
+        body: Values = {"progressId": self.name, "message": text}
+        if self._is_shown:
+            self._send(event("progressUpdate", body))
+        else:
+            self._is_shown = True
+            self._send(event("progressStart", {**body, "title": "rdbg", "cancellable": True}))
+
+    def end(self) -> None:
+        """It has ended."""
+        if self._is_shown:
+            self._is_shown = False
+            self._send(event("progressEnd", {"progressId": self.name}))
+
 
 # Of a run of more moves than MANY the last FEW are told.
 MANY, FEW = 20, 5
@@ -158,11 +198,13 @@ class Debugger:
             body.update({"source": source, "line": place["line"], "column": place["column"]})
         self.send(event("output", body))
 
-    def wrong(self, line: str, refused: Refused) -> Wrong:
-        """Why rdbg refuses a line, in words."""
-        hint = refusal(self.shell, line, refused)
-        said = f"rdbg says no {refused}"
-        return Wrong(f"{said}: {hint}" if hint else said)
+    @contextlib.contextmanager
+    def asking(self, line: str) -> Iterator[None]:
+        """As long as this line is asked: where rdbg refuses it, `Wrong` says why."""
+        try:
+            yield
+        except Refused as refused:
+            raise wrong_line(self.shell, line, refused) from None
 
     def stops(self) -> List[Stop]:
         """All at which a run stops, or says something."""
@@ -204,7 +246,7 @@ class Debugger:
         it stay; else anew. Raises `Wrong` where rdbg refuses it."""
         target = self.shell.target
         before = target.look()
-        try:
+        with self.asking(line):
             if target.places().undone:
                 target.ask(record.again(), replies.Moved)
                 after = target.look()
@@ -213,19 +255,14 @@ class Debugger:
                     return self._made(move, after)
                 target.ask(record.back(1), replies.Moved)
             target.ask(line, replies.Moved)
-        except Refused as refused:
-            raise self.wrong(line, refused) from None
         after = target.look()
         return self._made(trail.between(target, before, after), after)
 
     def edit(self, line: str) -> None:
         """Makes an edit. Raises `Wrong` where rdbg refuses it."""
         target = self.shell.target
-        try:
-            with self.wheel():
-                moved = target.ask(line, replies.Moved)
-        except Refused as refused:
-            raise self.wrong(line, refused) from None
+        with self.asking(line), self.wheel():
+            moved = target.ask(line, replies.Moved)
         self.changed()
         self.say(f"{moved.at}  {line}")
 
@@ -253,7 +290,7 @@ class Debugger:
             most, few = (MANY, FEW) if self.own_name is None else (1, 1)
             shown = here - start if here - start <= most else few
             if shown < here - start:
-                self.say(f".. {here - start - shown} moves before these")
+                self.say(f".. {counted(here - start - shown, 'move')} before these")
             for move in self.last_moves(shown):
                 self.say(move.row(len(str(here))), move)
                 self._last = move
@@ -288,6 +325,13 @@ class Debugger:
         """Tells the editor that the target went on, so that it follows to where it stops."""
         body: Values = {"threadId": self.focus, "allThreadsContinued": True}
         self.send(event("continued", body))
+
+    def restarted(self, where: str) -> None:
+        """Says what has become of the breakpoints in the file as it is now, and stops."""
+        for value in self.breakpoints.again(self.shell, self.text):
+            self.send(event("breakpoint", {"reason": "changed", "breakpoint": value}))
+        self.went()
+        self.stopped("entry", where, self.focus)
 
     def hear(self, notice: str) -> None:
         """Takes what a room says besides: what others do, the editor is told."""
@@ -327,21 +371,19 @@ class Debugger:
     def tell_failure(self, name: str, thread: int) -> None:
         """Stops at a failure."""
         self.failure = name
-        tasks = self.look().tasks
         if name == "failed":
-            gone = [it for it in tasks.values() if it.phase.word == "failed"]
-            numbers = [self.threads.number(it.name) for it in gone]
+            numbers = [self.threads.number(it.name) for it in self._failed()]
             thread = thread if thread in numbers or not numbers else numbers[0]
         self.stopped(FAILURE, f"at {self.shell.target.place}: {self.why(name)}", thread)
 
     def why(self, name: str) -> str:
         """What a failure is, in a sentence."""
-        tasks = self.look().tasks
-        if name == "failed":
-            gone = [it for it in tasks.values() if it.phase.word == "failed"]
-            return "; ".join(f"{it.name} {phase_text(it)}" for it in gone)
-        texts = "; ".join(f"{name} {phase_text(it)}" for name, it in tasks.items())
-        return f"{ASLEEP.text}: {texts}"
+        told = self._failed() if name == "failed" else self.look().tasks.values()
+        texts = "; ".join(f"{it.name} {phase_text(it)}" for it in told)
+        return texts if name == "failed" else f"{ASLEEP.text}: {texts}"
+
+    def _failed(self) -> List[replies.Task]:
+        return [it for it in self.look().tasks.values() if it.phase.word == "failed"]
 
     def tell_outcome(self, outcome: Outcome, start: int) -> None:
         """Stops behind a run, and says why."""
@@ -353,7 +395,7 @@ class Debugger:
             self._tell_met(outcome.met)
             return
         texts = {
-            "limit": f"{here - start} moves, and nothing was met",
+            "limit": f"{counted(here - start, 'move')}, and nothing was met",
             "wall": f"there is no further move: {outcome.wall}",
             "stuck": self._ending(),
             "start": "the start: nothing was met before",
@@ -405,6 +447,10 @@ class Debugger:
         if self.hearing is not None:
             self.hearing.end()
         return shell.target.session.close() if shell else None
+
+
+# What a request does; its answer has the values, if any.
+Request = Callable[[Debugger, Arguments], Optional[Values]]
 
 
 def watch_text(number: int, text: str) -> str:

@@ -20,9 +20,7 @@ class Hearing:
         self._session: Any = session
         self._came, self._done = came, threading.Event()
         self._handled = threading.Event()
-        self._number: Optional[int] = None
-        if hasattr(session, "waited_for"):
-            self._number = self._session.waited_for()
+        self._number: Optional[int] = getattr(session, "waited_for", lambda: None)()
 
     def begin(self) -> None:
         """Begins to wait, where there is something to wait for."""

@@ -78,8 +78,8 @@ class Facts:
     """What is known of one target's moves. It hears each line, and so when they become others."""
 
     def __init__(self, target: Target) -> None:
-        self._target, self._told = target, target.session.on_line
-        target.session.on_line = self._seen
+        self._target = target
+        target.hearing.append(self._seen)
         self._met: Dict[Hashable, Met] = {}
         self._runs = Stretches()
 
@@ -108,10 +108,7 @@ class Facts:
         """Whether a run from `low` makes just the moves that lead to `high`."""
         return self._runs.end(low) >= high
 
-    def _seen(self, line: str, reply: str) -> None:
-        before = self._target.place
-        if self._told is not None:
-            self._told(line, reply)
+    def _seen(self, line: str, reply: str, before: int) -> None:
         word = line.split(" ", 1)[0]
         if not reply.startswith("ok at "):
             return

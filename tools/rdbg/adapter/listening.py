@@ -9,7 +9,7 @@ from rdbg import own_file
 from rdbg.adapter.server import Server
 from rdbg.client import LOCAL
 from rdbg.door import Door, Unheard, drop, turn_away
-from rdbg.failure import Failure
+from rdbg.failure import trying
 
 # So many editors at a time are served. So many connections may be silent, so many seconds each:
 # then the oldest is closed.
@@ -24,10 +24,8 @@ TURN = 0.5
 def listen(port: int, door: Door) -> None:
     """Serves whoever connects and is let in, for ever. Raises `Failure` where the port can't be
     had, or a token is asked for and can't be written."""
-    try:
+    with trying(f"listen at port {port}"):
         listening = socket.create_server((LOCAL, port))
-    except OSError as error:
-        raise Failure(f"cannot listen at port {port}: {error.strerror}", 2) from None
     with listening, contextlib.ExitStack() as ends:
         if door.token:
             path = ends.enter_context(own_file.kept("token", f"{door.token}\n", "the token"))
@@ -37,8 +35,7 @@ def listen(port: int, door: Door) -> None:
 
 
 class Editors:
-    """Those who have connected: the silent ones, whose first message hasn't come yet, and those
-    that are served."""
+    """Those who have connected: the silent, who haven't said anything yet, and the served."""
 
     def __init__(self, door: Door) -> None:
         self._door, self._silent = door, Unheard(MOST_SILENT, SECONDS)
@@ -76,7 +73,10 @@ class Editors:
                 try:
                     Server(lines, out, lambda: self._comes(connection), self._door.token).serve()
                 finally:
-                    self._goes(connection)
+                    self._silent.remove(connection)
+                    with self._guard:
+                        self._served.discard(connection)
+                    drop(connection)  # (while another thread reads it, it can't be closed)
         except OSError as error:
             print(f"rdbg dap: an editor was lost: {error.strerror}", file=sys.stderr)
 
@@ -88,10 +88,3 @@ class Editors:
                 return f"{MOST} editors are served here already"
             self._served.add(connection)
         return ""
-
-    def _goes(self, connection: socket.socket) -> None:
-        """An editor has gone, or is let go. (While another thread reads it, it can't be closed.)"""
-        self._silent.remove(connection)
-        with self._guard:
-            self._served.discard(connection)
-        drop(connection)

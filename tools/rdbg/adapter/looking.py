@@ -1,14 +1,15 @@
-"""Requests that look: threads, frames, variables, the text, expressions; and set a variable."""
-from typing import Callable, Dict, List, Optional
+"""Requests that look: threads, frames, variables, the text, expressions; and those that set a
+variable or breakpoints, and say where there can be some."""
+from typing import Dict, Optional
 
 from rdbg.adapter import names
-from rdbg.adapter.debugger import Debugger
+from rdbg.adapter.breakpoints import DATA, FAILURES, NAME
+from rdbg.adapter.debugger import Debugger, Request
 from rdbg.adapter.messages import Arguments, Values, Wrong, event
 from rdbg.adapter.sources import REFERENCE
 from rdbg.adapter.threads import TIME, frame
 from rdbg.adapter.variables import Shown, Variable, named, within
 
-Request = Callable[[Debugger, Arguments], Optional[Values]]
 # Why a task has failed, as docs/FORMATS.md has it.
 PLACE = "the task was to wait at the reader's or the writer's place of a buffer that names another"
 CAUSES: Dict[str, str] = {
@@ -44,8 +45,7 @@ def stack(it: Debugger, given: Arguments) -> Optional[Values]:
 def scopes(it: Debugger, given: Arguments) -> Optional[Values]:
     """`scopes` of a frame, which has the number of its thread."""
     it.standing()
-    task = it.threads.task(given.number("frameId"))
-    return {"scopes": it.references.scopes(task, it.look())}
+    return {"scopes": it.references.scopes(it.threads.task(given.number("frameId")), it.look())}
 
 
 def is_hex(given: Arguments) -> bool:
@@ -126,8 +126,7 @@ def source(it: Debugger, given: Arguments) -> Optional[Values]:
 
 def sources(it: Debugger, given: Arguments) -> Optional[Values]:
     """`loadedSources`."""
-    found: List[Values] = [value for value in [it.text.value()] if value]
-    return {"sources": found}
+    return {"sources": [value for value in [it.text.value()] if value]}
 
 
 def exception(it: Debugger, given: Arguments) -> Optional[Values]:
@@ -168,4 +167,71 @@ LOOKING: Dict[str, Request] = {
     "loadedSources": sources,
     "exceptionInfo": exception,
     "completions": completions,
+}
+
+
+def in_source(it: Debugger, given: Arguments) -> Optional[Values]:
+    """`setBreakpoints`."""
+    return {"breakpoints": it.breakpoints.put_lines(it.shell, it.text, given.part("source"), given)}
+
+
+def by_name(it: Debugger, given: Arguments) -> Optional[Values]:
+    """`setFunctionBreakpoints`: a condition, a goal, an instruction or what FreeRTOS calls one."""
+    return {"breakpoints": it.breakpoints.put(NAME, it.shell, it.text, given.parts("breakpoints"))}
+
+
+def on_data(it: Debugger, given: Arguments) -> Optional[Values]:
+    """`setDataBreakpoints`."""
+    return {"breakpoints": it.breakpoints.put(DATA, it.shell, it.text, given.parts("breakpoints"))}
+
+
+def on_failures(it: Debugger, given: Arguments) -> Optional[Values]:
+    """`setExceptionBreakpoints`."""
+    filters = given.texts("filters")
+    filters += [option.text("filterId") for option in given.parts("filterOptions")]
+    unknown = [name for name in filters if name not in FAILURES]
+    if unknown:
+        raise Wrong(f"there is no filter '{unknown[0]}', but {', '.join(FAILURES)}")
+    it.breakpoints.failures = list(dict.fromkeys(filters))
+    return {"breakpoints": [{"verified": True} for _ in filters]}
+
+
+def locations(it: Debugger, given: Arguments) -> Optional[Values]:
+    """`breakpointLocations`: the instructions at some lines."""
+    if not it.text.is_named(given.part("source")):
+        return {"breakpoints": []}
+    first = it.text.line_in(given)
+    last = it.text.line_in(given, "endLine", first)
+    return {"breakpoints": [it.text.place(spot) for spot in it.text.between(first, last)]}
+
+
+def data_info(it: Debugger, given: Arguments) -> Optional[Values]:
+    """`dataBreakpointInfo`: whether a variable can be watched."""
+    name = given.text("name")
+    variable: Optional[Variable]
+    if given.number("variablesReference", 0):
+        path = it.references.path(given.number("variablesReference"))
+        variable = named(it.shown(), path, name)
+    else:
+        variable = names.found(it.shown(), it.threads.task(it.focus), name)
+    watched = variable.watched if variable else ""
+    if variable and variable.within and variable.within[0] == "object":
+        watched = f"changes {' '.join(variable.within[1:])}"
+    if not watched:
+        return {"dataId": None, "description": f"{name} can't be watched"}
+    return {
+        "dataId": watched,
+        "description": watched if watched.startswith("changes") else f"{watched} changes",
+        "accessTypes": ["write"],
+        "canPersist": True,
+    }
+
+
+SETTING: Dict[str, Request] = {
+    "setBreakpoints": in_source,
+    "setFunctionBreakpoints": by_name,
+    "setDataBreakpoints": on_data,
+    "setExceptionBreakpoints": on_failures,
+    "breakpointLocations": locations,
+    "dataBreakpointInfo": data_info,
 }

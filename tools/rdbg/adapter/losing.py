@@ -1,8 +1,9 @@
-"""A stop where a goal is lost for good: no order of moves, of whatever length, leads there any more.
+"""A stop where a goal is lost for good: no order of moves, of whatever length, leads there any
+more.
 
-It is asked of the program that searches, at few places, since what was lost stays so. Where an editor
-has rdbg start at a goal's name, as its breakpoints by name let it, `lost GOAL` is one of these.
-"""
+It is asked of the program that searches, at few places, since what was lost stays so. Where an
+editor has rdbg start at a goal's name, as its breakpoints by name let it, `lost GOAL` is one of
+these."""
 import time
 import weakref
 from typing import Dict, Hashable, List, Optional, Sequence, Tuple
@@ -13,7 +14,7 @@ from rdbg.adapter.stops import Begins
 from rdbg.driving.journal import Journal
 from rdbg.driving.target import Target, read
 from rdbg.driving.walk import Walk
-from rdbg.failure import Failure
+from rdbg.failure import Failure, turned
 from rdbg.goals.claims import Goal
 from rdbg.goals.words import NOT_ASKED
 from rdbg.reaching import losing
@@ -31,18 +32,15 @@ AT_A_PORT = (
 
 
 class Lines:
-    """The lines that lead to where a target of one's own stands, of which some have led there until
-    now, a move each."""
+    """The lines that lead to where a target stands; those until now are given, a move each."""
 
     def __init__(self, target: Target, before: Sequence[str]) -> None:
-        self._journal, self._told = Journal(), target.session.on_line
+        self._journal = Journal()
         for place, line in enumerate(before, 1):
             self._take(line, replies.Moved(place))
-        target.session.on_line = self._seen
+        target.hearing.append(self._seen)
 
-    def _seen(self, line: str, reply: str) -> None:
-        if self._told is not None:
-            self._told(line, reply)
+    def _seen(self, line: str, reply: str, before: int) -> None:
         value = read(reply) if reply.startswith("ok at ") else None
         if isinstance(value, replies.Moved):
             self._take(line, value)
@@ -53,9 +51,8 @@ class Lines:
             self._journal.moved(command, moved)
 
     def now(self) -> Tuple[str, ...]:
-        """They. (`back` leads no further behind a trim, but where the target stands is the same.)"""
-        lines = self._journal.lines()
-        return tuple(it for it in lines if it.split(" ")[0] != record.TRIM)
+        """They. (Behind a trim `back` leads less far, but the target stands where it stood.)"""
+        return tuple(it for it in self._journal.lines() if it.split(" ")[0] != record.TRIM)
 
 
 # Of each target, from its start on.
@@ -97,8 +94,7 @@ class Loses(Begins):
         return self._known[lines]
 
     def began(self, walk: Walk, low: int) -> Optional[int]:
-        answer = self._answer(LOST, ALL[walk.target].now())
-        loss = losing.loss_of(answer)
+        loss = losing.loss_of(self._answer(LOST, ALL[walk.target].now()))
         if loss is None or not low < loss.place <= walk.place:
             return None
         order = losing.joined(loss.order)
@@ -109,14 +105,12 @@ class Loses(Begins):
         """What is answered behind these lines. Raises `Wrong` where that can't be told."""
         shell, source = self._shell, self._shell.source
         assert source is not None
-        names = shell.may_come()
         pace = [f"pace {shell.pace.text}"] if shell.pace is not None else []
         asker = Asker(source.path, (), time.monotonic() + SECONDS)
-        try:
-            asked = (source, lines, question, self._asked, names, pace, asker)
-            found = ask_behind(*asked, counts=False)
-        except Failure as failure:
-            raise Wrong(f"{self.text}: {failure}") from None
+        with turned(Wrong, Failure, of=self.text):
+            found = ask_behind(
+                source, lines, question, self._asked, shell.may_come(), pace, asker, counts=False
+            )
         if found.kind is Kind.UNTOLD:
             raise Wrong(f"{self.text} can't be told here: {found.head()}, {found.why}")
         return found

@@ -1,9 +1,10 @@
 """Requests as values, their arguments with the kinds that they must have, and the answers."""
 import dataclasses
 import json
-from typing import Any, Dict, List, Mapping, Optional
+from typing import Any, Dict, List, Mapping, Optional, Type, TypeVar
 
 Values = Dict[str, Any]
+Kind = TypeVar("Kind")
 # A number of more digits isn't read.
 MOST_DIGITS = 1_000
 MOST_TEXT = 65_536
@@ -64,7 +65,7 @@ class Arguments:
         """Whether it is there."""
         return self._values.get(key) is not None
 
-    def _get(self, key: str, kind: type, absent: Any) -> Any:
+    def _get(self, key: str, kind: Type[Kind], absent: Optional[Kind]) -> Kind:
         value = self._values.get(key)
         if value is None:
             if absent is None:
@@ -82,20 +83,18 @@ class Arguments:
 
     def text(self, key: str, absent: Optional[str] = None) -> str:
         """A text."""
-        value: str = self._get(key, str, absent)
+        value = self._get(key, str, absent)
         if len(value) > MOST_TEXT:
             raise Wrong(f"{self._of}: {key} has more than {MOST_TEXT} characters")
         return value
 
     def number(self, key: str, absent: Optional[int] = None) -> int:
         """A number."""
-        value: int = self._get(key, int, absent)
-        return value
+        return self._get(key, int, absent)
 
     def flag(self, key: str, absent: bool = False) -> bool:
         """True or false."""
-        value: bool = self._get(key, bool, absent)
-        return value
+        return self._get(key, bool, absent)
 
     def part(self, key: str) -> "Arguments":
         """An object; an empty one where it is absent."""
@@ -110,8 +109,7 @@ class Arguments:
 
     def all(self, key: str) -> List[Any]:
         """A list of whatever; an empty one where it is absent."""
-        found: List[Any] = self._get(key, list, [])
-        return found
+        return self._get(key, list, [])
 
     def texts(self, key: str) -> List[str]:
         """A list of texts; an empty one where it is absent."""
@@ -157,9 +155,7 @@ def read(body: bytes) -> Request:
         raise Unreadable("the message is no request: its type is another", number, name)
     if not name or seq is None or number != seq:
         raise Unreadable(numbered(seq), number, name)
-    arguments = value.get("arguments")
-    if arguments is None:
-        arguments = {}
+    arguments = {} if value.get("arguments") is None else value["arguments"]
     if not isinstance(arguments, dict):
         raise Unreadable(f"{name}: arguments must be an object", number, name)
     return Request(number, name, Arguments(arguments, name))
@@ -189,7 +185,8 @@ def done(request: Request, body: Optional[Values]) -> Values:
 
 def failed(seq: int, command: str, why: str) -> Values:
     """The answer to a request that wasn't done, which an editor shows."""
-    error = {"id": 1, "format": braces(why), "showUser": True}
+    # (in a format braces would stand for variables)
+    error = {"id": 1, "format": why.replace("{", "(").replace("}", ")"), "showUser": True}
     return {
         "type": "response",
         "request_seq": seq,
@@ -198,8 +195,3 @@ def failed(seq: int, command: str, why: str) -> Values:
         "message": why,
         "body": {"error": error},
     }
-
-
-def braces(text: str) -> str:
-    """A text in which nothing stands for a variable of a format."""
-    return text.replace("{", "(").replace("}", ")")

@@ -1,24 +1,57 @@
-"""Requests that move the target: both ways, a move or to where something is met."""
+"""Requests that move the target, both ways, a move or to where something is met; what log points
+say where they are met, and `evaluate`, by which lines are typed."""
 import contextlib
 import dataclasses
-from typing import Callable, Dict, List, Optional
+import re
+from typing import Callable, Dict, List, Optional, Sequence
 
 from rdbg import record, replies
-from rdbg.adapter import telling
-from rdbg.adapter.debugger import Debugger
+from rdbg.adapter import names
+from rdbg.adapter.breakpoints import arrival
+from rdbg.adapter.debugger import Debugger, Request
+from rdbg.adapter.looking import value_of
 from rdbg.adapter.messages import Arguments, Values, Wrong
+from rdbg.adapter.printing import gathered, text_of
 from rdbg.adapter.running import Outcome, Runner
 from rdbg.adapter.sources import Spot
 from rdbg.adapter.stops import Amount, Stop
-from rdbg.adapter.breakpoints import arrival
 from rdbg.adapter.threads import TIME
+from rdbg.driving import trail
+from rdbg.driving.target import Unable
 from rdbg.effects import Move
 from rdbg.replies import Refused
-from rdbg.driving import trail
 from rdbg.shell.steps import why_on_none
-from rdbg.driving.target import Unable
 
-Request = Callable[[Debugger, Arguments], Optional[Values]]
+
+def told(it: Debugger, text: str, task: str) -> str:
+    """The text of a log point that this task has come to."""
+
+    def value(found: "re.Match[str]") -> str:
+        try:
+            return names.value(it.shell, it.shown, task, found[1].strip()).value
+        except Wrong as wrong:
+            return f"{found[0]} ({wrong})"
+
+    return names.BRACES.sub(value, text)
+
+
+def tell(it: Debugger, met: Sequence[Stop]) -> bool:
+    """Says what log points say of which these stops are. Answers whether they all are such."""
+    told_of: List[Stop] = []
+    it.changed()
+    for point in it.breakpoints.logs():
+        for stop, spot in zip(point.stops, point.spots):
+            if stop in met:
+                it.say_at(told(it, point.log, spot.task), spot)
+                told_of.append(stop)
+    return bool(told_of) and all(stop in told_of for stop in met)
+
+
+def tell_here(it: Debugger) -> None:
+    """Says what log points say that the move to this place has met."""
+    stops = [stop for point in it.breakpoints.logs() for stop in point.stops]
+    if stops:
+        tell(it, it.runner(lambda: stops).met().met)
 
 
 @dataclasses.dataclass(frozen=True)
@@ -33,10 +66,8 @@ class Going:
 def begin_run(it: Debugger, going: Going) -> None:
     """Takes the wheel, and lets the target run once the request was answered."""
     held = contextlib.ExitStack()
-    try:
+    with it.asking("wheel take"):
         held.enter_context(it.wheel())
-    except Refused as refused:
-        raise it.wrong("wheel take", refused) from None
     it.pause.forget()
     it.is_running, it.failure = True, ""
     it.later.append(lambda: end_run(it, held, going))
@@ -61,7 +92,7 @@ def run_held(it: Debugger, going: Going) -> None:
     end = start + it.shell.target.places().undone
     try:
         outcome = going.run(it.runner(going.stops))
-        while outcome.how == "met" and telling.tell(it, outcome.met):
+        while outcome.how == "met" and tell(it, outcome.met):
             left = it.limit - max(0, it.shell.target.place - end)
             runner = it.runner(going.stops)
             outcome = runner.forwards(left) if left > 0 else Outcome("limit")
@@ -97,15 +128,11 @@ def step(it: Debugger, given: Arguments) -> Optional[Values]:
     """`next` and `stepIn`: one instruction of a task; a tick, of the time."""
     thread = given.number("threadId")
     task = it.threads.task(thread)
-    try:
-        with it.wheel():
-            before = it.look()
-            line = "tick" if task is None else f"step {core_of(it, task)}"
-            move = it.make(line)
-            after = it.look()
-            telling.tell_here(it)
-    except Refused as refused:
-        raise it.wrong("step 0", refused) from None
+    with it.asking("step 0"), it.wheel():
+        before = it.look()
+        move = it.make("tick" if task is None else f"step {core_of(it, task)}")
+        after = it.look()
+        tell_here(it)
     failure = it.failed_here(before, after)
     it.failure = ""
     it.later.append(lambda: tell_step(it, thread, failure, move))
@@ -151,18 +178,15 @@ def step_back(it: Debugger, given: Arguments) -> Optional[Values]:
     it.threads.task(given.number("threadId", TIME))
     target = it.shell.target
     it.failure = ""
-    try:
-        with it.wheel():
-            places = target.places()
-            if not places.kept:
-                start = "the start" if not places.done else record.given_up("what was before")
-                it.later.append(lambda: it.stopped("entry", f"at {places.done}: {start}", it.focus))
-                return None
-            after = target.look()
-            target.ask(record.back(1), replies.Moved)
-            before = target.look()
-    except Refused as refused:
-        raise it.wrong(record.back(1), refused) from None
+    with it.asking(record.back(1)), it.wheel():
+        places = target.places()
+        if not places.kept:
+            start = "the start" if not places.done else record.given_up("what was before")
+            it.later.append(lambda: it.stopped("entry", f"at {places.done}: {start}", it.focus))
+            return None
+        after = target.look()
+        target.ask(record.back(1), replies.Moved)
+        before = target.look()
     move = trail.between(target, before, after)
     it.changed()
     it.say(f"back at {target.place}, before: {move.row()}", move)
@@ -180,7 +204,11 @@ def goto_targets(it: Debugger, given: Arguments) -> Optional[Values]:
         return {"targets": []}
     it.gotos = []
     for spot in it.text.at(it.text.line_in(given)):
-        place = last_at(it, spot)
+        walk = it.shell.walk
+        with it.wheel():
+            start = walk.place
+            place = arrival(spot).last(walk)
+            walk.goto(start)
         if place is not None:
             it.gotos.append((spot, place))
         it.gotos.append((spot, None))
@@ -194,16 +222,6 @@ def target(it: Debugger, number: int, spot: Spot, place: Optional[int]) -> Value
     if place is not None:
         label = f"back to place {place}, where {spot.task} came to {spot.pc}"
     return {"id": number, "label": label, **it.text.place(spot)}
-
-
-def last_at(it: Debugger, spot: Spot) -> Optional[int]:
-    """The last earlier place at which a task came to an instruction. Stays where it is."""
-    walk = it.shell.walk
-    with it.wheel():
-        start = walk.place
-        place = arrival(spot).last(walk)
-        walk.goto(start)
-    return place
 
 
 def goto(it: Debugger, given: Arguments) -> Optional[Values]:
@@ -247,4 +265,74 @@ MOVING: Dict[str, Request] = {
     "stepBack": step_back,
     "goto": goto,
 }
-OTHERS: Dict[str, Request] = {"gotoTargets": goto_targets, "pause": pause, "cancel": cancel}
+
+
+# Contexts in which an expression changes nothing.
+LOOKS = ("watch", "hover", "variables", "clipboard")
+# So many lines at once are done.
+MOST_LINES = 1_000
+# Words by which the editor's own breakpoints are gone to, as by its buttons.
+BUTTONS: Dict[str, Request] = {
+    **dict.fromkeys(("continue", "c", "cont"), go_on),
+    **dict.fromkeys(("rc", "reverse-continue"), go_back),
+}
+ENDS = ("quit", "q", "exit")
+
+
+def evaluate(it: Debugger, given: Arguments) -> Optional[Values]:
+    """`evaluate`."""
+    if given.text("context", "repl") in LOOKS:
+        return value_of(it, given)
+    it.standing()
+    lines = [line for line in given.text("expression").splitlines() if line.strip()]
+    if len(lines) > MOST_LINES:
+        raise Wrong(f"{len(lines)} lines at once; {MOST_LINES} are done")
+    word = lines[0].strip() if len(lines) == 1 else ""
+    if word in ENDS:
+        raise Wrong("Disconnect, or Stop, ends the session")
+    if word in BUTTONS:
+        BUTTONS[word](it, Arguments({}, "evaluate"))
+        return {"result": "", "variablesReference": 0}
+    return {"result": typed(it, lines), "variablesReference": 0}
+
+
+def typed(it: Debugger, lines: List[str]) -> str:
+    """What the lines say. Where they have moved the target, the editor is told."""
+    shell = it.shell
+    target, changes, place = shell.target, shell.target.changes, shell.target.place
+    it.pause.forget()
+    shell.shows_moves, shell.lost = True, None
+    with gathered() as pieces:
+        for line in lines:
+            shell.line(line)
+            if shell.is_stopped:
+                break
+    it.changed()
+    if shell.lost is not None:
+        it.say(f"lost at {shell.lost.place}: {shell.lost.text()}", shell.lost)
+    if shell.target is not target:  # (`reload` has read the file anew)
+        it.take(shell)
+        it.later.append(lambda: it.restarted(f"at {shell.target.place}"))
+    elif target.changes != changes or target.place != place:
+        it.later.append(lambda: moved(it))
+    return text_of(pieces)
+
+
+def moved(it: Debugger) -> None:
+    """Tells the editor that the target stands elsewhere."""
+    try:
+        with it.wheel():
+            thread = it.mover()
+    except Refused:
+        thread = it.focus
+    it.failure = it.failed_here(None, it.look())
+    it.went()
+    it.stopped("goto", f"at {it.shell.target.place}", thread)
+
+
+OTHERS: Dict[str, Request] = {
+    "gotoTargets": goto_targets,
+    "pause": pause,
+    "cancel": cancel,
+    "evaluate": evaluate,
+}

@@ -5,8 +5,8 @@ from typing import Callable, Iterator, List, Optional
 from rdbg import commands, kinds
 from rdbg.adapter import variables
 from rdbg.adapter.messages import Values, Wrong
-from rdbg.adapter.threads import state
 from rdbg.adapter.variables import Shown, Variable
+from rdbg.failure import turned
 from rdbg.goals.computed import Expression, Undefined, expression, is_meant
 from rdbg.goals.reading import NoGoal
 from rdbg.replies import Refused
@@ -23,7 +23,7 @@ PART = re.compile(f"r[0-7]|pc|phase|data|{'|'.join(kinds.OF_AMOUNT)}")
 def all_of(shown: Shown) -> Iterator[Variable]:
     """Each variable that has an expression."""
     for name, task in shown.look.tasks.items():
-        text = f"{state(task)}, at {task.pc}"
+        text = f"{task.doing}, at {task.pc}"
         yield Variable(name, text, within=("task", name), expression=name)
         yield from variables.registers(shown, name)
         yield from variables.parts(shown, name)
@@ -36,23 +36,16 @@ def all_of(shown: Shown) -> Iterator[Variable]:
 def found(shown: Shown, task: Optional[str], text: str) -> Optional[Variable]:
     """The variable that an expression names: `worker.r0`, or `r0` of the task at hand."""
     named = [it for it in all_of(shown) if it.expression]
-    for wanted in (f"{task}.{text}", text):
-        for it in named:
-            if it.expression == wanted:
-                return it
-    return None
+    wanted = (f"{task}.{text}", text)
+    return next((it for each in wanted for it in named if it.expression == each), None)
 
 
 def computed(shell: Shell, task: Optional[str], text: str) -> Optional[Expression]:
-    """The goal or the expression that a text is meant to be; none where it names a thing. Raises
-    `Wrong`."""
+    """The goal or the expression that a text is; none where it names a thing. Raises `Wrong`."""
     scope = shell.scope()
-    if not is_meant(text, scope):
-        return None
-    try:
-        return expression(text, scope, task or "")
-    except NoGoal as wrong:
-        raise Wrong(str(wrong)) from None
+    with turned(Wrong, NoGoal):
+        found = expression(text, scope, task or "") if is_meant(text, scope) else None
+    return found
 
 
 def value(shell: Shell, shown: Callable[[], Shown], task: Optional[str], text: str) -> Variable:
@@ -66,11 +59,11 @@ def value(shell: Shell, shown: Callable[[], Shown], task: Optional[str], text: s
     try:
         target = shell.target
         look = shown().look if target.is_own else target.look(made.names(target.names))
-        return Variable(text, made.said(look))
+        with turned(Wrong, Undefined):
+            said = made.said(look)
     except (Refused, IndexError):
         raise Wrong(f"'{text}' names what isn't there") from None
-    except Undefined as wrong:
-        raise Wrong(str(wrong)) from None
+    return Variable(text, said)
 
 
 def check(shell: Shell, text: str, task: str) -> None:
@@ -95,8 +88,5 @@ def completions(shell: Shell, text: str, column: int) -> List[Values]:
     before = text[:column]
     begun = re.split(r"\s", before)[-1]
     words = before[: len(before) - len(begun)].split()
-    found: List[Values] = []
-    for word in candidates(shell, words, begun):
-        label = word.strip()
-        found.append({"label": label, "start": column - len(begun), "length": len(begun)})
-    return found
+    place = {"start": column - len(begun), "length": len(begun)}
+    return [{"label": word.strip(), **place} for word in candidates(shell, words, begun)]

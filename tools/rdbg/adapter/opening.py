@@ -7,21 +7,20 @@ import threading
 from typing import IO, Callable, List, Optional
 
 from rdbg import children, client, commands
-from rdbg.files import source as sources
-from rdbg.files.definitions import definition
 from rdbg.adapter.messages import Arguments, Wrong
 from rdbg.adapter.pausing import Pause
-from rdbg.ending import STARTED
-from rdbg.failure import Failure
-from rdbg.firmware.writer import text_of
-from rdbg.replies import Refused
-from rdbg.driving.opening import attach as attached
-from rdbg.driving.opening import begin, builtin
-from rdbg.shell.shell import Shell
+from rdbg.driving.opening import attach as attached, begin, builtin
 from rdbg.driving.pacing import IS, pace
 from rdbg.driving.target import Limits, Unable
-from rdbg.shell import paces
+from rdbg.ending import STARTED
+from rdbg.failure import Failure, trying, turned
+from rdbg.files import source as sources
+from rdbg.files.definitions import definition
 from rdbg.files.source import Source
+from rdbg.firmware.writer import text_of
+from rdbg.replies import Refused
+from rdbg.shell import paces
+from rdbg.shell.shell import Shell
 
 BUILTIN = "built-in.fw"
 # So many moves may be done at a time, unless `launch` says another number.
@@ -62,11 +61,8 @@ def file_of(given: Arguments) -> Optional[str]:
 
 def read(path: str, given: Arguments) -> Source:
     """The application of a file. Raises `Wrong` where it is refused, with its faults."""
-    try:
-        consts = dict(map(definition, given.texts("consts")))
-        source = sources.load(path, consts)
-    except (Failure, ValueError, argparse.ArgumentTypeError) as failure:
-        raise Wrong(str(failure)) from None
+    with turned(Wrong, Failure, ValueError, argparse.ArgumentTypeError):
+        source = sources.load(path, dict(map(definition, given.texts("consts"))))
     if source.application is None:
         faults = [f"{path}:{fault}" for fault in source.faults[:MOST_FAULTS]]
         raise Wrong("\n".join([f"the application {source.refused()}", *faults]))
@@ -87,14 +83,11 @@ def program(is_unproved: bool, tell: Tell) -> str:
     named = os.environ.get("RDBG_PROGRAM")
     if named:
         return named
-    wrapper = os.environ.get("RDBG_WRAPPER", str(client.WRAPPER))
-    words = ["--unproved"] if is_unproved else os.environ.get("RDBG_WRAPPER_WORDS", "").split()
+    wrapper, words = client.wrapper()
     pipe = subprocess.PIPE
-    try:
-        asked = [wrapper, *words, "--build"]
+    with turned(Wrong, Failure), trying(f"start {wrapper}"):
+        asked = [wrapper, *(["--unproved"] if is_unproved else words), "--build"]
         made = children.start(asked, subprocess.DEVNULL, pipe, pipe, signal.SIGTERM, is_apart=False)
-    except OSError as error:
-        raise Wrong(f"cannot start {wrapper}: {error.strerror}") from None
     assert made.stdout is not None and made.stderr is not None
     said: List[str] = []
     reader = threading.Thread(target=tell_lines, args=(made.stderr, said, tell), daemon=True)
@@ -125,10 +118,8 @@ def launch(given: Arguments, pause: Pause, tell: Tell) -> Shell:
     source = built_in() if path is None else read(path, given)
     limits = Limits(count(given, "moves", MOVES), count(given, "history", Limits.history, 2))
     named = program(given.flag("unproved"), tell)
-    try:
+    with turned(Wrong, Failure):
         target = begin(None if path is None else source, limits, named)
-    except Failure as failure:
-        raise Wrong(str(failure)) from None
     target.application = source.application
     shell = EditorShell(target, source, pause)
     set_pace(shell, given)
@@ -136,18 +127,16 @@ def launch(given: Arguments, pause: Pause, tell: Tell) -> Shell:
 
 
 def set_pace(shell: Shell, given: Arguments) -> None:
-    """Takes the pace of Continue, and the interrupts that come by themselves, where these are given.
-    Raises `Wrong` where they are none."""
+    """Takes the pace of Continue, and the interrupts that come by themselves, where these are
+    given. Raises `Wrong` where they are none."""
     text, names = given.text("pace", ""), given.texts("interrupts")
     found = pace(text)
     if text and found is None:
         raise Wrong(f"pace: '{text}' is none: {IS}")
     application = shell.target.application
     there = {it.name: it for it in application.interrupts} if application else {}
-    try:
+    with turned(Wrong, Unable, of="interrupts"):
         coming = paces.chosen(names, there)
-    except Unable as unable:
-        raise Wrong(f"interrupts: {unable}") from None
     if names:
         paces.let_come(shell, found, coming)
     elif found:
@@ -163,9 +152,8 @@ def attach(given: Arguments, pause: Pause, hear: Tell) -> Shell:
     path = file_of(given)
     source = None if path is None else read(path, given)
     try:
-        target = attached(port, source, given.text("as", "") or None)
-    except Failure as failure:
-        raise Wrong(str(failure)) from None
+        with turned(Wrong, Failure):
+            target = attached(port, source, given.text("as", "") or None)
     except Refused as refused:
         raise Wrong(f"the server lets nobody else in: no {refused}") from None
     shell = EditorShell(target, source, pause)

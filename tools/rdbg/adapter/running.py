@@ -1,9 +1,8 @@
 """Runs to the first of several stops, and ways back to the last: exact both ways.
 
-Where a stop is met among moves that are known is remembered (`known`), so that these are made again,
-or taken back, without a look. Moves that were taken back, and aren't known, are looked at one by one,
-a few of them; beyond these a run makes them anew, where it makes the same.
-"""
+Where a stop is met among moves that are known is remembered (`known`), so that these are made
+again, or taken back, without a look. Moves that were taken back, and aren't known, are looked at
+one by one, a few of them; beyond these a run makes them anew, where it makes the same."""
 import dataclasses
 from typing import Any, Callable, List, Optional, Sequence
 
@@ -11,10 +10,10 @@ from rdbg import record, replies
 from rdbg.adapter.known import Facts
 from rdbg.adapter.messages import Wrong
 from rdbg.adapter.stops import Begins, Stop, met_here
-from rdbg.goals.ways import is_stuck
 from rdbg.driving.interrupt import Interrupted
-from rdbg.driving.target import Target, Unable, read
+from rdbg.driving.target import Unable, read
 from rdbg.driving.walk import MOST_PIECE, Walk
+from rdbg.goals.ways import is_stuck
 
 # Stops are looked for within so many moves, then within so many times more, up to this.
 FIRST_WINDOW, WIDER, MOST_WINDOW = 64, 8, 65_536
@@ -119,7 +118,7 @@ class Runner:
         lasting = [stop for stop in unknown if isinstance(stop, Begins)]
         was = [stop.look(walk.target) for stop in lasting]
         plain = [stop.plain for stop in unknown if stop not in lasting]
-        views = views_of(walk.target, plain)
+        views = list(dict.fromkeys(view for stop in plain for view in stop.views(walk.target)))
         lines = (1 + len(views)) * (high - low + 1)
         if plain and is_each and walk.target.can_afford(lines):
             look_each(walk, plain, views, high)
@@ -262,11 +261,6 @@ def first_of(stops: Sequence[Stop], facts: Facts, low: int, high: int) -> Option
     return min(firsts) if firsts else None
 
 
-def views_of(target: Target, stops: Sequence[Stop]) -> List[str]:
-    """The lines by which one looks for stops."""
-    return list(dict.fromkeys(view for stop in stops for view in stop.views(target)))
-
-
 def look_each(walk: Walk, stops: Sequence[Stop], views: Sequence[str], high: int) -> None:
     """Learns where stops are met behind this place up to one among the moves that were taken back,
     by a look behind each. Ends there."""
@@ -286,3 +280,35 @@ def look_each(walk: Walk, stops: Sequence[Stop], views: Sequence[str], high: int
         before = after
     for stop, found in zip(stops, places):
         stop.learn(Facts.of(walk), low, high, found)
+
+
+# So many moves are made until something else can be done meanwhile.
+FEW = 16
+
+
+class PacedRunner(Runner):
+    """Runs a target whose walk has a pace."""
+
+    def forwards(self, limit: int) -> Outcome:
+        """To the first place where a stop is met, with so many moves at the most."""
+        walk = self.walk
+        walk.wall = ""
+        for made in range(limit):
+            here = walk.place
+            try:
+                if made % FEW == 0:
+                    self._between()
+                if is_stuck(walk.target) and not any("tick" in it.text for it in self._stops()):
+                    return Outcome("stuck")
+                if not walk.forward(1):
+                    return Outcome("wall", wall=walk.wall)
+                found = self.met()
+            except Interrupted:
+                walk.goto(here)
+                return Outcome("paused")
+            except (Unable, Wrong):
+                walk.goto(here)
+                raise
+            if found.met:
+                return found
+        return Outcome("limit")

@@ -5,36 +5,28 @@ import queue
 import threading
 from typing import IO, Callable, Dict, List, Optional, Set
 
-from rdbg.adapter.debugger import Debugger
-from rdbg.adapter.evaluating import Request, evaluate
+from rdbg.adapter.breakpoints import wrong_line
+from rdbg.adapter.debugger import Debugger, Request
 from rdbg.adapter.framing import Broken, Frames, Sender
-from rdbg.adapter.looking import LOOKING
-from rdbg.adapter.messages import Request as Asked
-from rdbg.adapter.messages import Arguments, Unreadable, Wrong, done, event, failed, read
+from rdbg.adapter.looking import LOOKING, SETTING
+from rdbg.adapter.messages import Arguments, Request as Asked, Unreadable, Wrong, done, failed, read
 from rdbg.adapter.moving import MOVING, OTHERS
 from rdbg.adapter.printing import gathered, install, text_of
-from rdbg.adapter.setting import SETTING
 from rdbg.adapter.setup import SETUP
-from rdbg.failure import Failure
-from rdbg.replies import Refused
 from rdbg.driving.interrupt import Interrupted
 from rdbg.driving.target import Unable
+from rdbg.failure import Failure
+from rdbg.replies import Refused
 
-REQUESTS: Dict[str, Request] = {
-    **SETUP,
-    **LOOKING,
-    **SETTING,
-    **MOVING,
-    **OTHERS,
-    "evaluate": evaluate,
-}
+REQUESTS: Dict[str, Request] = {**SETUP, **LOOKING, **SETTING, **MOVING, **OTHERS}
 # What is answered while the target runs; all else waits for its stop.
 MEANWHILE = (
     *"threads stackTrace scopes variables pause cancel source loadedSources".split(),
     "breakpointLocations",
     *(name for name in SETTING if name.startswith("set")),
 )
-# What ends what runs; and what ends what it names, be it a run, or a request that is at work or waits.
+# What ends what runs; and what ends what it names, be it a run, or a request that is at work or
+# waits.
 ENDING, CANCEL = ("pause", "terminate", "disconnect"), "cancel"
 CANCELLED = "cancelled"
 # What says a token, where one is asked for, and what is answered before.
@@ -52,8 +44,8 @@ def fault(error: Exception) -> str:
 
 
 class Server:
-    """Answers an editor, which has to say a token first, where there is one. `comes` is called where
-    it has, or where its first request has come, and says why it isn't served, if so."""
+    """Answers an editor, which has to say a token first, where there is one. `comes` is called
+    where it has, or where its first request has come, and says why it isn't served, if so."""
 
     def __init__(
         self,
@@ -135,8 +127,7 @@ class Server:
             return True
         try:
             said = request.arguments.text("token", "") if request.command in TELLING else ""
-            is_it = hmac.compare_digest(said.encode(), self._token.encode())
-            why = "" if is_it else NO_TOKEN
+            why = "" if hmac.compare_digest(said.encode(), self._token.encode()) else NO_TOKEN
         except Wrong as wrong:
             why = str(wrong)
         if why:
@@ -187,11 +178,12 @@ class Server:
                 raise Wrong(f"rdbg answers no request '{request.command[:100]}'")
             if request.command in MOVING:
                 it.standing()
-            body = REQUESTS[request.command](it, request.arguments)
-            self._sender.send(done(request, body))
+            self._sender.send(done(request, REQUESTS[request.command](it, request.arguments)))
             return
         except Refused as refused:
-            why = str(it.wrong("", refused)) if it.has_shell else f"rdbg says no {refused}"
+            why = f"rdbg says no {refused}"
+            if it.has_shell:
+                why = str(wrong_line(it.shell, "", refused))
         except (Wrong, Unable) as wrong:
             why = str(wrong)
         except Interrupted:

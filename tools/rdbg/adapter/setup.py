@@ -1,14 +1,16 @@
 """Requests that begin and end: `initialize`, `launch`, `attach`, `restart`, `disconnect`."""
-from typing import Callable, Dict, Optional
+from typing import Dict, Optional
 
 from rdbg.adapter import opening
 from rdbg.adapter.breakpoints import FAILURES
-from rdbg.adapter.debugger import LIMIT, Debugger
+from rdbg.adapter.debugger import LIMIT, Debugger, Request
 from rdbg.adapter.hearing import Hearing
 from rdbg.adapter.messages import Arguments, Values, Wrong, event
+from rdbg.adapter.moving import Going, begin_run
 from rdbg.adapter.threads import TIME
 from rdbg.shell.shell import Shell
 
+START = "at 0: the start"
 # Why nothing is started anew at a port.
 AT_A_PORT = (
     "at a port nothing is started anew, since others have this target, too: Reverse goes back to"
@@ -17,7 +19,6 @@ AT_A_PORT = (
 NO_END = (
     "at a port nothing is ended, since others have this target, too: Disconnect ends the session"
 )
-Request = Callable[[Debugger, Arguments], Optional[Values]]
 # What is supported, as the protocol has it behind that word.
 CAN = (
     "ConfigurationDoneRequest FunctionBreakpoints ConditionalBreakpoints HitConditionalBreakpoints"
@@ -52,25 +53,27 @@ def started(it: Debugger, given: Arguments, shell: Shell) -> None:
     it.later.append(lambda: it.send(event("initialized", {})))
 
 
-def launch(it: Debugger, given: Arguments) -> Optional[Values]:
-    """`launch`: a program of its own."""
+def check_start(it: Debugger, given: Arguments) -> None:
+    """Raises `Wrong` where nothing can begin."""
     if it.has_shell:
         raise Wrong("something is debugged already")
     opening.count(given, "limit", LIMIT)
+
+
+def launch(it: Debugger, given: Arguments) -> Optional[Values]:
+    """`launch`: a program of its own."""
+    check_start(it, given)
     started(it, given, opening.launch(given, it.pause, lambda text: it.say(text)))
     return None
 
 
 def attach(it: Debugger, given: Arguments) -> Optional[Values]:
     """`attach`: one more session at a port."""
-    if it.has_shell:
-        raise Wrong("something is debugged already")
-    opening.count(given, "limit", LIMIT)
+    check_start(it, given)
     shell = opening.attach(given, it.pause, it.hear)
     it.is_attached = True
-    names = ("supportsRestartRequest", "supportsTerminateRequest")
-    off = {"capabilities": {name: False for name in names}}
-    it.later.append(lambda: it.send(event("capabilities", off)))
+    off = {f"supports{name}Request": False for name in ("Restart", "Terminate")}
+    it.later.append(lambda: it.send(event("capabilities", {"capabilities": off})))
     started(it, given, shell)
     it.hearing = Hearing(it.shell.target.session, it.came)
     it.hearing.begin()
@@ -79,8 +82,6 @@ def attach(it: Debugger, given: Arguments) -> Optional[Values]:
 
 def configured(it: Debugger, given: Arguments) -> Optional[Values]:
     """`configurationDone`: the target stands at the start, or runs."""
-    from rdbg.adapter.moving import Going, begin_run
-
     place = it.shell.target.places().done
     it.is_configured = True
     first = next((name for name in it.look().cores.running if name), None)
@@ -88,7 +89,7 @@ def configured(it: Debugger, given: Arguments) -> Optional[Values]:
     if it.is_attached:
         it.later.append(lambda: it.stopped("entry", f"attached at {place}", it.focus))
     elif it.given.flag("stopOnEntry", True):
-        it.later.append(lambda: it.stopped("entry", "at 0: the start", it.focus))
+        it.later.append(lambda: it.stopped("entry", START, it.focus))
     else:
         begin_run(it, Going(lambda runner: runner.begin(it.limit), it.stops))
     return None
@@ -108,16 +109,8 @@ def restart(it: Debugger, given: Arguments) -> Optional[Values]:
     it.take(shell)
     it.given = chosen
     it.shell.target.tell_all([f"watch {text}" for _, text in watches])
-    it.later.append(lambda: restarted(it))
+    it.later.append(lambda: it.restarted(START))
     return None
-
-
-def restarted(it: Debugger, where: str = "at 0: the start") -> None:
-    """Says what has become of the breakpoints in the file as it is now, and stops."""
-    for value in it.breakpoints.again(it.shell, it.text):
-        it.send(event("breakpoint", {"reason": "changed", "breakpoint": value}))
-    it.went()
-    it.stopped("entry", where, it.focus)
 
 
 def terminate(it: Debugger, given: Arguments) -> Optional[Values]:
@@ -129,8 +122,7 @@ def terminate(it: Debugger, given: Arguments) -> Optional[Values]:
 
 
 def disconnect(it: Debugger, given: Arguments) -> Optional[Values]:
-    """`disconnect`: the end of the session, and of its program; of a target of others, of the
-    session alone."""
+    """`disconnect`: the end of the session, and of a program of its own."""
     status = it.close()
     if status:
         it.say(f"rdbg has ended, with status {status}", category="stderr")

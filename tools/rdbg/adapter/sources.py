@@ -1,5 +1,4 @@
-"""The text that the tasks' scripts stand in, as the editor sees it: which line has which
-instruction."""
+"""The text with the tasks' scripts, as the editor sees it: which line has which instruction."""
 import dataclasses
 import os
 from typing import Any, Dict, Iterator, List, Optional, Sequence
@@ -7,8 +6,8 @@ from typing import Any, Dict, Iterator, List, Optional, Sequence
 from rdbg.adapter.messages import Arguments, Values, Wrong
 from rdbg.adapter.opening import BUILTIN
 from rdbg.application import Instruction
-from rdbg.from_c.lines import below
 from rdbg.files.source import Source
+from rdbg.from_c.lines import below
 
 # The text of the built-in application is in no file; the editor asks for it by this number.
 REFERENCE = 1
@@ -23,11 +22,6 @@ class Spot:
     instruction: Instruction
     line: int
     column: int
-
-    @property
-    def end(self) -> int:
-        """The column behind its last character."""
-        return self.column + len(self.instruction.written)
 
     def __str__(self) -> str:
         return f"{self.task} {self.pc} {self.instruction.told}"
@@ -47,7 +41,7 @@ class Text:
         self.source = source
         self.first_line = self.first_column = 1
         application = source.application if source else None
-        lines = source.lines() if source else []
+        lines = source.text.split("\n") if source else []
         tasks = application.tasks if application else ()
         self.spots = [
             spot(lines, it.name, pc, code) for it in tasks for pc, code in enumerate(it.code)
@@ -103,7 +97,7 @@ class Text:
             "line": spot.line + down,
             "column": spot.column + right,
             "endLine": spot.line + down,
-            "endColumn": spot.end + right,
+            "endColumn": spot.column + len(spot.instruction.written) + right,
         }
 
     def line_in(self, given: Arguments, key: str = "line", absent: Optional[int] = None) -> int:
@@ -134,8 +128,7 @@ class Text:
 
     def same(self, spot: Spot) -> List[Spot]:
         """An instruction of a script, for each task whose script that is."""
-        place = spot.instruction.place
-        return [it for it in self.at(spot.line) if it.instruction.place == place]
+        return [it for it in self.at(spot.line) if it.instruction.place == spot.instruction.place]
 
     def between(self, first: int, last: int) -> Iterator[Spot]:
         """The instructions at some lines."""

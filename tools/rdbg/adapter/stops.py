@@ -1,23 +1,22 @@
 """At what a run stops: each is met by a move, and found by runs and ways back of rdbg's own.
 
 `next` and `last` say the place of the very move. They may leave the target anywhere that a run from
-where they began came through, or behind it.
-"""
+where they began came through, or behind it."""
 import dataclasses
 from typing import Any, Callable, Hashable, List, Optional, Sequence, Tuple
 
-from rdbg import kinds, replies
+from rdbg import kinds
 from rdbg.adapter.known import Facts
 from rdbg.adapter.messages import Wrong
 from rdbg.adapter.sweeps import Backwards, Onwards
 from rdbg.application import Application
-from rdbg.looks import Key, Look, content_of
-from rdbg.goals.changes import HIDING, Changes
-from rdbg.goals.conditions import AMOUNTS, Condition
-from rdbg.goals.claims import Goal, Holds
-from rdbg.goals.ways import Search, To, is_so, latest, nearest, otherwise
 from rdbg.driving.target import Target, read
 from rdbg.driving.walk import Walk
+from rdbg.goals.changes import HIDING, Changes
+from rdbg.goals.claims import Goal, Holds
+from rdbg.goals.conditions import AMOUNTS, Condition
+from rdbg.goals.ways import Search, To, is_so, latest, nearest, otherwise
+from rdbg.looks import Key, Look, content_of
 
 # So many places are looked at one by one before one asks rdbg for the last where it was otherwise.
 NEAR = 4
@@ -60,7 +59,7 @@ class Stop:
         return self.seen([read(target.tell(view)) for view in self.views(target)])
 
     def is_met_by(self, before: Any, after: Any) -> bool:
-        """Whether a move meets it, by what it hangs on before and after; mostly, as that changes."""
+        """Whether a move meets it, by what it hangs on before and after: mostly that it changes."""
         return bool(before != after)
 
     def next(self, walk: Walk, limit: int) -> Optional[int]:
@@ -359,15 +358,7 @@ class Begins(Reaches):
         was so before."""
         high = walk.place
         walk.goto(low)
-        if self.look(walk.target):
-            return None
-        while high - low > 1:
-            walk.goto((low + high) // 2)
-            if self.look(walk.target):
-                high = walk.place
-            else:
-                low = walk.place
-        return high
+        return None if self.look(walk.target) else Search(walk, self.goal).between(low, high)
 
 
 def becoming(goal: Goal, text: str = "") -> Stop:
@@ -418,7 +409,9 @@ class Where(Stop):
         while walk.place < end:
             walk.interrupt.check()
             if turns == TURNS and isinstance(self._stop, Becomes) and self._condition:
-                return self._next_of_all(walk, self._stop.condition, end - walk.place)
+                sweep = Onwards(walk, self._stop.condition, end - walk.place, self._condition)
+                sweep.run(bool)
+                return sweep.found[0] if sweep.found else None
             place, turns = self._stop.next(walk, end - walk.place), turns + 1
             if place is None:
                 return None
@@ -434,26 +427,16 @@ class Where(Stop):
                 return place
         return None
 
-    def _next_of_all(self, walk: Walk, condition: Condition, limit: int) -> Optional[int]:
-        """The first place of all where the other one is met, which are many."""
-        sweep = Onwards(walk, condition, limit, self._condition)
-        sweep.run(bool)
-        return sweep.found[0] if sweep.found else None
-
-    def _last_of_all(self, walk: Walk, stop: Becomes) -> Optional[int]:
-        """The last place of all where the other one is met, which are many."""
-        sweep = Backwards(walk, stop.condition, walk.target.base, self._condition)
-        sweep.run(bool)
-        if sweep.found:
-            return sweep.found[0]
-        return 0 if stop.began(sweep) else None
-
     def last(self, walk: Walk) -> Optional[int]:
         turns = 0
         while True:
             walk.interrupt.check()
             if turns == TURNS and isinstance(self._stop, Becomes) and self._condition:
-                return self._last_of_all(walk, self._stop)
+                sweep = Backwards(walk, self._stop.condition, walk.target.base, self._condition)
+                sweep.run(bool)
+                if sweep.found:
+                    return sweep.found[0]
+                return 0 if self._stop.began(sweep) else None
             turns += 1
             place = self._stop.last(walk)
             if place is None:
@@ -542,10 +525,10 @@ def not_too_many(stop: Stop, found: Sequence[int]) -> None:
 def learn_back(walk: Walk, stop: Stop) -> None:
     """Learns where a stop is met from the start up to here. Stays where it is."""
     here, facts = walk.place, Facts.of(walk)
-    if stop.begin(facts, here) <= facts.floor:
+    place = stop.begin(facts, here)
+    if place <= facts.floor:
         return
     try:
-        place = stop.begin(facts, here)
         while place > facts.floor:
             walk.goto(place)
             low = facts.met(stop.key).known.before(place, facts.floor)
@@ -564,5 +547,4 @@ def met_here(walk: Walk, stops: Sequence[Stop]) -> List[Stop]:
     walk.goto(place - 1)
     before = [stop.look(walk.target) for stop in stops]
     walk.goto(place)
-    seen = zip(stops, before, after)
-    return [stop for stop, was, now in seen if stop.is_met_by(was, now)]
+    return [it for it, was, now in zip(stops, before, after) if it.is_met_by(was, now)]

@@ -2,11 +2,11 @@
 from typing import Callable, List, Optional
 
 from rdbg import replies
-from rdbg.replies import Refused
-from rdbg.goals.conditions import Condition
-from rdbg.goals.ways import latest, nearest
 from rdbg.driving.target import read
 from rdbg.driving.walk import WALLS, Walk
+from rdbg.goals.conditions import Condition
+from rdbg.goals.ways import latest, nearest
+from rdbg.replies import Refused
 
 # So many lines are asked at once at first; fewer where a condition holds on, more where it doesn't.
 LEAST, FIRST, MOST = 4, 8, 512

@@ -46,17 +46,8 @@ class Threads:
                 task = look.tasks[name]
                 spot = text.of(name, task.pc) if task.phase.word != "ended" else None
                 at = f", line {spot.line}" if spot else ""
-                found.append({"id": number, "name": f"{name}: {state(task)}{at}"})
+                found.append({"id": number, "name": f"{name}: {task.doing}{at}"})
         return found
-
-
-def state(task: replies.Task) -> str:
-    """What a task does, in a word or two."""
-    if task.core is not None:
-        return f"core {task.core}"
-    if task.phase.word == "wait":
-        return f"waits {task.phase.place}"
-    return task.phase.word if task.phase.word in ("ended", "failed") else "ready"
 
 
 def frame(number: int, task: Optional[replies.Task], look: Look, text: Text) -> Values:

@@ -1,9 +1,9 @@
 """What there is, as variables: registers and parts of a task, objects, the time and the cores."""
 import dataclasses
-from typing import Callable, Dict, List, Optional, Tuple
+import re
+from typing import Callable, Dict, Iterable, List, Mapping, Optional, Sequence, Tuple
 
-from rdbg import kinds, replies
-from rdbg.adapter import values
+from rdbg import commands, kinds, replies
 from rdbg.adapter.messages import Values, Wrong
 from rdbg.looks import Key, Look, Object, holding
 from rdbg.shell.views import contents, phase_text, waiters
@@ -13,6 +13,47 @@ Path = Tuple[str, ...]
 # Makes the line that gives a variable the value that was typed.
 Setter = Callable[[str], str]
 BITS = 16_777_215
+MOST_VALUE = commands.MOST_NUMBER
+# What a value may have behind it where it is shown: `5 (received)`.
+BEHIND = re.compile(r"\s+\(.*\)$")
+
+
+def typed_number(text: str, most: int = MOST_VALUE) -> int:
+    """A number that was typed: decimal, hexadecimal behind 0x, or below 0, which counts from the
+    other end as in C. Raises `Wrong` where it is none."""
+    plain = BEHIND.sub("", text.strip()).replace("_", "")
+    if not re.fullmatch(r"-?(0[xX][0-9a-fA-F]{1,8}|[0-9]{1,10})", plain):
+        raise Wrong(f"'{text}' is no number: 41, 0x29 or -1")
+    value = int(plain, 16 if "x" in plain.lower() else 10)
+    if value < 0 and most == MOST_VALUE:
+        value += MOST_VALUE + 1
+    if not 0 <= value <= most:
+        raise Wrong(f"'{text}' isn't within 0 to {most}")
+    return value
+
+
+def typed_bytes(text: str) -> str:
+    """Bytes that were typed, as a line of rdbg has them: hexadecimal digits, or a text in quotes.
+    Raises `Wrong` where they are none."""
+    plain = BEHIND.sub("", text.strip())
+    quoted = re.fullmatch(r'"([ -~]*)"', plain)
+    digits = quoted[1].encode("ascii").hex() if quoted else re.sub(r"\s|^0[xX]", "", plain)
+    if not commands.is_bytes(digits or "-"):
+        raise Wrong(f"'{text}' is no bytes: 0a1b, \"text\" or - for none")
+    return digits or "-"
+
+
+def bytes_shown(value: bytes) -> str:
+    """Bytes in hexadecimal, with the text that they are where they are one."""
+    if not value:
+        return "-"
+    is_text = all(32 <= byte < 127 for byte in value)
+    return f'{value.hex()} ("{value.decode("ascii")}")' if is_text else value.hex()
+
+
+def names_shown(waiting: Sequence[str]) -> str:
+    """Who waits, the first to be served first."""
+    return ", ".join(waiting) or "-"
 
 
 @dataclasses.dataclass(frozen=True)
@@ -40,17 +81,36 @@ class Shown:
 
     def number(self, value: int) -> str:
         """A number."""
-        return values.shown(value, self.is_hex)
+        return hex(value) if self.is_hex else str(value)
 
 
-def putting(form: str, most: int = values.MOST) -> Setter:
+def putting(form: str, most: int = MOST_VALUE) -> Setter:
     """Makes a line of a number that was typed."""
-    return lambda text: form.format(values.number(text, 0, most))
+    return lambda text: form.format(typed_number(text, most))
 
 
 def amount(word: str, name: str, value: str, put: Optional[Setter] = None) -> Variable:
     """What a condition calls so, of a task or an object of this name."""
     return Variable(word, value, None, put, f"{word} {name}", f"{name}.{word}")
+
+
+def settable(name: str, watched: str, value: str, expression: str = "") -> Variable:
+    """A number of a task, which is set by the words that a condition has for it."""
+    put = putting(f"poke {watched} {{}}")
+    return Variable(name, value, put=put, watched=watched, expression=expression)
+
+
+def plain(parts: Mapping[str, object]) -> List[Variable]:
+    """What is shown alone, by names; `-` where there is none."""
+    return [Variable(name, "-" if it is None else str(it)) for name, it in parts.items()]
+
+
+def indexed(texts: Iterable[str], put: Optional[Callable[[int], Setter]] = None) -> List[Variable]:
+    """What stands in a row, each set by what `put` makes of its number."""
+    return [
+        Variable(f"[{at}]", text, put=put(at) if put else None, is_indexed=True)
+        for at, text in enumerate(texts)
+    ]
 
 
 def task_of(shown: Shown, name: str) -> replies.Task:
@@ -62,42 +122,25 @@ def task_of(shown: Shown, name: str) -> replies.Task:
 
 def registers(shown: Shown, name: str) -> List[Variable]:
     """The registers of a task."""
+    found = enumerate(task_of(shown, name).registers)
     return [
-        Variable(
-            f"r{at}",
-            shown.number(value),
-            put=putting(f"poke reg {name} {at} {{}}"),
-            watched=f"reg {name} {at}",
-            expression=f"{name}.r{at}",
-        )
-        for at, value in enumerate(task_of(shown, name).registers)
+        settable(f"r{at}", f"reg {name} {at}", shown.number(value), f"{name}.r{at}")
+        for at, value in found
     ]
 
 
 def parts(shown: Shown, name: str) -> List[Variable]:
     """The parts of a task beside its registers."""
     it = task_of(shown, name)
+    data: Setter = lambda text: f"poke data {name} {typed_bytes(text)}"
     found = [
         amount("pc", name, str(it.pc), putting(f"poke pc {name} {{}}")),
         amount("phase", name, phase_text(it)),
         Variable("core", "-" if it.core is None else str(it.core)),
-        Variable(
-            "data",
-            values.bytes_shown(it.data),
-            put=lambda text: f"poke data {name} {values.content(text)}",
-            expression=f"{name}.data",
-        ),
+        Variable("data", bytes_shown(it.data), put=data, expression=f"{name}.data"),
     ]
-    for at, note in enumerate(it.notes):
-        found.append(
-            Variable(
-                f"note {at}",
-                f"{shown.number(note.value)} ({note.state})",
-                put=putting(f"poke note {name} {at} {{}}"),
-                watched=f"note {name} {at}",
-            )
-        )
-    return found
+    notes = [(at, f"{shown.number(note.value)} ({note.state})") for at, note in enumerate(it.notes)]
+    return found + [settable(f"note {at}", f"note {name} {at}", text) for at, text in notes]
 
 
 def of_time(shown: Shown) -> List[Variable]:
@@ -108,7 +151,7 @@ def of_time(shown: Shown) -> List[Variable]:
         Variable("undone", f"{shown.undone}"),
         Variable("tick", shown.number(cores.tick), watched="tick", expression="tick"),
         Variable("turn", str(cores.turn), expression="turn"),
-        Variable("ready", values.names(cores.ready), watched="ready", expression="ready"),
+        Variable("ready", names_shown(cores.ready), watched="ready", expression="ready"),
     ]
     seats = [(f"core {at}", name or "-") for at, name in enumerate(cores.running)]
     return found + [Variable(it, name, watched=it, expression=it) for it, name in seats]
@@ -138,86 +181,54 @@ def within_object(shown: Shown, kind: str, name: str) -> List[Variable]:
 
 def within_queue(it: replies.Queue) -> List[Variable]:
     """A queue: its count, who waits, and its items, the oldest first."""
-    found = [
-        amount("count", it.name, str(it.count)),
-        Variable("length", str(it.length)),
-        Variable("waits to receive", values.names(it.receivers)),
-        Variable("waits to send", values.names(it.senders)),
-    ]
-    if it.member_of:
-        found.append(Variable("member of", it.member_of))
-    return found + [
-        Variable(f"[{at}]", values.bytes_shown(item), put=item_of(it.name, at), is_indexed=True)
-        for at, item in enumerate(it.items)
-    ]
+    waiting = (names_shown(it.receivers), names_shown(it.senders))
+    found = plain(
+        {"length": it.length, "waits to receive": waiting[0], "waits to send": waiting[1]}
+    )
+    member = plain({"member of": it.member_of}) if it.member_of else []
+    items = indexed(map(bytes_shown, it.items), lambda at: item_of(it.name, at))
+    return [amount("count", it.name, str(it.count)), *found, *member, *items]
 
 
 def item_of(queue: str, at: int) -> Setter:
     """Sets an item of a queue."""
-    return lambda text: f"poke item {queue} {at} {values.content(text)}"
+    return lambda text: f"poke item {queue} {at} {typed_bytes(text)}"
 
 
 def within_set(it: replies.QueueSet) -> List[Variable]:
     """A queue set: who waits, and the queues of its handles, the oldest first."""
-    found = [
-        Variable("count", str(it.count)),
-        Variable("length", str(it.length)),
-        Variable("waits", values.names(it.waiters)),
-    ]
-    handles = enumerate(it.handles)
-    return found + [Variable(f"[{at}]", name, is_indexed=True) for at, name in handles]
+    found = {"count": it.count, "length": it.length, "waits": names_shown(it.waiters)}
+    return plain(found) + indexed(it.handles)
 
 
 def within_stream(it: replies.Stream) -> List[Variable]:
     """A stream buffer: how much is in it, who waits, and each byte, the oldest first."""
-    found = [
-        amount("bytes", it.name, str(it.held)),
-        Variable("size", str(it.size)),
-        Variable("trigger", str(it.trigger)),
-        Variable("waits to read", it.reader or "-"),
-        Variable("waits to write", it.writer or "-"),
-    ]
-    return found + [
-        Variable(
-            f"[{at}]",
-            f"0x{byte:02x}",
-            put=putting(f"poke byte {it.name} {at} {{}}", 255),
-            is_indexed=True,
-        )
-        for at, byte in enumerate(it.content)
-    ]
+    waits = {"waits to read": it.reader, "waits to write": it.writer}
+    found = plain({"size": it.size, "trigger": it.trigger, **waits})
+    put = lambda at: putting(f"poke byte {it.name} {at} {{}}", 255)
+    content = indexed((f"0x{byte:02x}" for byte in it.content), put)
+    return [amount("bytes", it.name, str(it.held)), *found, *content]
 
 
 def within_messages(it: replies.Messages) -> List[Variable]:
     """A message buffer: its messages, the oldest first, and who waits."""
-    found = [
-        amount("msgs", it.name, str(len(it.messages))),
-        Variable("held", str(it.held)),
-        Variable("size", str(it.size)),
-        Variable("waits to read", it.reader or "-"),
-        Variable("waits to write", it.writer or "-"),
-    ]
-    messages = enumerate(it.messages)
-    return found + [
-        Variable(f"[{at}]", values.bytes_shown(message), is_indexed=True)
-        for at, message in messages
-    ]
+    waits = {"waits to read": it.reader, "waits to write": it.writer}
+    found = plain({"held": it.held, "size": it.size, **waits})
+    messages = indexed(map(bytes_shown, it.messages))
+    return [amount("msgs", it.name, str(len(it.messages))), *found, *messages]
 
 
 def within_group(it: replies.Group) -> List[Variable]:
     """An event group: its bits, and who waits for which, in the order of arrival."""
     put = putting(f"poke group {it.name} {{}}", BITS)
     bits = amount("bits", it.name, f"0x{it.bits:06x}", put)
-    waiting = [
-        Variable(
-            f"[{at}]",
-            f"{wish.task}: {'all' if wish.wants_all else 'any'} of 0x{wish.bits:06x}, then"
-            f" {'cleared' if wish.clears else 'kept'}",
-            is_indexed=True,
-        )
-        for at, wish in enumerate(it.waiters)
-    ]
-    return [bits, Variable("waits", values.names([wish.task for wish in it.waiters])), *waiting]
+    texts = (
+        f"{wish.task}: {'all' if wish.wants_all else 'any'} of 0x{wish.bits:06x}, then"
+        f" {'cleared' if wish.clears else 'kept'}"
+        for wish in it.waiters
+    )
+    waits = plain({"waits": names_shown([wish.task for wish in it.waiters])})
+    return [bits, *waits, *indexed(texts)]
 
 
 WITHIN: Dict[str, Callable[..., List[Variable]]] = {

@@ -5,17 +5,16 @@ instruction that names a queue whose name was refused, or an operand that a refu
 """
 import contextlib
 import re
-from typing import Dict, List, Optional, Set, Tuple
+from typing import Dict, Iterator, List, Optional, Set, Tuple
 
-from rdbg.digits import is_digits
-from rdbg.fault import Fault
-from rdbg.instructions import form_of, is_final
-from rdbg.near import nearest
-from rdbg.operands import NAMED, Scope, is_name, to_text
 from rdbg.checking.reading import NAME_RULE, read
+from rdbg.checking.slips import as_bytes, is_binary
+from rdbg.digits import is_digits
+from rdbg.instructions import form_of, is_final
+from rdbg.operands import NAMED, PATTERN_OF, Scope, is_name, to_text
 from rdbg.shapes import FILE, NOT_THERE, OTHER_NAMES, Key, Shape
-from rdbg.tree import Node, Number, Object, Place, Value, kind_of, objects
-from rdbg.wording import quoted, shown
+from rdbg.tree import Fault, Node, Number, Object, Place, Value, kind_of, objects
+from rdbg.wording import nearest, quoted, shown
 
 SHAPE, LIMIT, NAME, INSTR = "L2 Shape", "L3 Limit", "L4 Name", "L5 Instr"
 OVERWRITE = "L6 OverwriteLength"
@@ -39,13 +38,6 @@ def faults_of(root: Node) -> List[Fault]:
 def called(value: Value) -> str:
     """What a value is called: `a list`, `the number 1.5`."""
     return shown(kind_of(value))
-
-
-def proposed(text: str) -> str:
-    """A name that is near to a text that is none, or the empty text."""
-    small = re.sub(r"(?<=[a-z0-9])(?=[A-Z])", "_", text).lower()
-    plain = re.sub(r"[^a-z0-9_]", "_", small).strip("_")[:16]
-    return plain if is_name(plain) else ""
 
 
 def bounds(key: Key) -> str:
@@ -214,7 +206,9 @@ class Finder:
             return
         first = self.names[shape.symbol].get(node.value)
         if not is_name(node.value):
-            near = proposed(node.value)
+            small = re.sub(r"(?<=[a-z0-9])(?=[A-Z])", "_", node.value).lower()
+            plain = re.sub(r"[^a-z0-9_]", "_", small).strip("_")[:16]
+            near = plain if is_name(plain) else ""
             self.refused[shape.symbol] |= {node.value, near}
             self.fault(NAME, node.place, f"{label}: {NAME_RULE}" + (f": {near}?" if near else ""))
         elif first is not None:
@@ -292,3 +286,38 @@ class Finder:
 def written(node: Node) -> str:
     """An instruction as it stands in the text, between quotes."""
     return quoted(str(node.value) if node.written is None else node.written)
+
+
+def binary(node: Node) -> Iterator[Fault]:
+    """Bytes of a script that look like a binary number."""
+    words = list(node.words()) if node.written is None else []
+    if [word for word, _ in words[:-1]] != ["data"]:
+        return
+    word, place = words[1]
+    if is_binary(word) and PATTERN_OF["HEX"].fullmatch(word):
+        said = f"the first of these bytes is 0b; the number {shown(word)}"
+        yield Fault(place, "", f"note: {said} is written data {shown(as_bytes(word))}")
+
+
+def remarks_of(root: Node) -> List[Fault]:
+    """What is no fault to rdbg, and most likely one all the same: a key that stands twice, and
+    bytes that look like a number."""
+    found: List[Fault] = []
+    values = [root]
+    while values:
+        node = values.pop()
+        value = node.value
+        if isinstance(value, str):
+            found += binary(node)
+        elif isinstance(value, Object):
+            places: Dict[str, Place] = {}
+            for member in value.members:
+                if member.key in places:
+                    first = f"the first, at {places[member.key]}, counts for nothing"
+                    message = f"note: the key {quoted(member.key)} stands here again; {first}"
+                    found.append(Fault(member.place, "", message))
+                places[member.key] = member.place
+                values.append(member.node)
+        elif isinstance(value, tuple):
+            values += value
+    return sorted(found, key=lambda remark: remark.place)

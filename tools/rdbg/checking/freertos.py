@@ -88,14 +88,15 @@ BY_NAME: Dict[str, str] = {
     **{name.lower(): text for name, text in WRITTEN.items()},
 }
 # Calls from an interrupt, by their names without FromISR, and the command that stands for each.
-FROM_ISR: Dict[str, str] = {
-    "xqueuesend": "isr send Q HEX",
-    "xqueuesendtoback": "isr send Q HEX",
-    "xtasknotify": "isr notify K 0 N ACTION",
-    "xtasknotifyindexed": "isr notify K I N ACTION",
-    "vtasknotifygive": "isr notify K 0 0 inc",
-    "vtasknotifygiveindexed": "isr notify K I 0 inc",
-}
+FROM_ISR = by_word(
+    {
+        "isr send Q HEX": "xqueuesend xqueuesendtoback",
+        "isr notify K 0 N ACTION": "xtasknotify",
+        "isr notify K I N ACTION": "xtasknotifyindexed",
+        "isr notify K 0 0 inc": "vtasknotifygive",
+        "isr notify K I 0 inc": "vtasknotifygiveindexed",
+    }
+)
 # What is said of the others.
 INTERRUPT = "; of an interrupt it is a call of a task with a core of its own (docs/FROM_C.md)"
 

@@ -1,17 +1,82 @@
 """Reads an instruction: its form and operands, or what is wrong with it and what would be right."""
 import dataclasses
+import itertools
 import re
 from typing import Dict, Iterator, List, Optional, Sequence, Tuple
 
 from rdbg.checking.freertos import sentence
+from rdbg.checking.slips import CONSTANTS, slip, statement
 from rdbg.instructions import FORM_OF, InstructionForm, form_of
-from rdbg.checking.layout import FEW, Layout
-from rdbg.near import nearest
 from rdbg.operands import KIND_OF, NAMED, PATTERN_OF, Scope
-from rdbg.checking.slips import slip
-from rdbg.checking.statements import statement
 from rdbg.tree import Node, Place
-from rdbg.wording import shown, with_article
+from rdbg.wording import nearest, shown, with_article
+
+# So many words at the most are too many for a look at which of them they are.
+FEW = 3
+
+
+class Layout:
+    """Lays words against the kinds of operands, given by their symbols; both by their indices."""
+
+    def __init__(self, symbols: Sequence[str], words: Sequence[str], scope: Scope) -> None:
+        self.symbols, self.words, self.scope = symbols, words, scope
+
+    def fits(self, operand: int, word: int) -> bool:
+        """Whether a word has the form of an operand."""
+        return self.scope.fits(self.symbols[operand], self.words[word])
+
+    def weight(self, operand: int, word: int) -> int:
+        """How well a word fits an operand; a name that nothing has fits less than others."""
+        symbol, text = self.symbols[operand], self.words[word]
+        is_there = symbol not in NAMED or text in self.scope.names.get(symbol, ())
+        if self.fits(operand, word):
+            return 2 + 2 * is_there
+        # (`pdTRUE` is meant to be `clear`; a variable is no operand)
+        return -1 if text.startswith("&") else int(text.lower() in CONSTANTS.get(symbol, ()))
+
+    def unfit(self) -> List[Tuple[int, int]]:
+        """The operands, each with its word, that haven't the form of the operand."""
+        return [pair for pair in self.choice().items() if not self.fits(*pair)]
+
+    def in_order(self) -> Optional[Dict[int, int]]:
+        """Which word is which operand, where all are right in another order than they stand in."""
+        operands, words = len(self.symbols), len(self.words)
+        unfit = self.unfit() if words <= operands else []
+        if not unfit or any(self.is_of_kind(*pair) for pair in unfit):
+            return None
+        fits = [[self.fits(operand, word) for word in range(words)] for operand in range(operands)]
+        orders = itertools.permutations(range(operands), words)
+        fitting = [it for it in orders if all(fits[at][word] for word, at in enumerate(it))]
+        # (the order that moves the fewest words, of which names those that are there are more)
+        best = min(fitting, default=None, key=self.moved)
+        return None if best is None else {at: word for word, at in enumerate(best)}
+
+    def moved(self, order: Sequence[int]) -> Tuple[int, int]:
+        """How far an order is from the one that the words stand in."""
+        weight = sum(self.weight(at, word) for word, at in enumerate(order))
+        if len(order) == len(self.symbols):
+            return -sum(at == word for word, at in enumerate(order)), -weight
+        return sum(one > other for one, other in itertools.combinations(order, 2)), -weight
+
+    def is_of_kind(self, operand: int, word: int) -> bool:
+        """Whether a word has the form of an operand, but for a limit."""
+        return PATTERN_OF[self.symbols[operand]].fullmatch(self.words[word]) is not None
+
+    def choice(self) -> Dict[int, int]:
+        """Which word is which operand, in their order, so that as many as can be fit."""
+        operands, words = len(self.symbols), len(self.words)
+        few = min(operands, words)
+        if words > operands + FEW:
+            return {at: at for at in range(few)}
+        best = max(
+            itertools.product(
+                itertools.combinations(range(operands), few),
+                itertools.combinations(range(words), few),
+            ),
+            key=lambda pair: sum(self.weight(*each) for each in zip(*pair)),
+        )
+        return dict(zip(*best))
+
 
 Word = Tuple[str, Place]
 INSTR, NAME = "L5 Instr", "L4 Name"
@@ -31,7 +96,7 @@ INSTEAD = (
 
 @dataclasses.dataclass(frozen=True)
 class Operand:
-    """An operand: its kind's symbol, what it is called, its word, where that stands and how it is
+    """An operand: its kind's symbol, its name, its word, where that stands, and how it is
     written."""
 
     symbol: str
@@ -80,8 +145,8 @@ def read(node: Node, scope: Scope) -> Reading:
 
 
 def text_in_quotes(text: str) -> str:
-    """What to write in place of bytes that are given as a text in quotes: `'A'`; empty where there
-    is none."""
+    """What to write in place of bytes that are a text in quotes, as `'A'`; empty where they are
+    no such text."""
     found = re.fullmatch(r"(['\"])(.+?)\1?", text)
     if not found:
         return ""
@@ -139,9 +204,8 @@ class Reader:
         """The operands and the faults."""
         order = self.layout.in_order()
         if order is not None:
-            return refused(
-                self.form, self.another_order(order), self.words[self.layout.first_unfit()][1]
-            )
+            first = min(word for _, word in self.layout.unfit())
+            return refused(self.form, self.another_order(order), self.words[first][1])
         operands: List[Operand] = []
         for operand in self.aligned():
             operands.append(operand)
@@ -164,8 +228,8 @@ class Reader:
         return f"{lacks}, and its words stand in another order; write {line}"
 
     def aligned(self) -> Iterator[Operand]:
-        """Each operand that has a word, after a fault for those that lack one, or for words too
-        many."""
+        """Each operand that has a word, after a fault where operands lack a word, or words are
+        left over."""
         operands, words = len(self.symbols), len(self.words)
         chosen = self.layout.choice()
         missing = [at for at in range(operands) if at not in chosen]

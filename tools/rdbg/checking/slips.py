@@ -1,10 +1,11 @@
-"""What a word was meant to be that can't stand where it does: `portMAX_DELAY` for `max`."""
+"""What a word was meant to be that can't stand where it does: `portMAX_DELAY` for `max`. And what
+a line is for which a line of C was written."""
 import re
-from typing import Callable, Dict, Optional, Tuple
+from typing import Callable, Dict, Match, Optional, Sequence, Tuple
 
-from rdbg.near import nearest
+from rdbg.digits import is_digits
 from rdbg.operands import KIND_OF, MOST_NUMBER, Scope, are
-from rdbg.wording import by_word
+from rdbg.wording import by_word, nearest
 
 YES, NO = "pdtrue true 1", "pdfalse false 0"
 # What C calls the words of operands, by the symbols of these.
@@ -60,7 +61,7 @@ def number_slip(symbol: str, word: str, scope: Scope) -> Optional[str]:
     if value is not None and value > MOST_NUMBER:
         return f"a number is at most {MOST_NUMBER}"
     if symbol == "I" and value is not None:
-        return f'"notes" says that there {are(scope.entries, "entry", "entries")}'
+        return f'"notes" says that there {are(scope.entries)}'
     if symbol == "L" and not scope.in_lines and re.fullmatch(r"[A-Za-z_]\w*:?", word):
         return "a jump names its instruction by number, counted from 0"
     return None
@@ -124,8 +125,7 @@ def stray_slip(symbol: str, word: str, scope: Scope) -> Optional[str]:
 
 def near_slip(symbol: str, word: str, scope: Scope) -> Optional[str]:
     """The nearest of the words, or of the names, that can stand there."""
-    others = scope.names.get(symbol, KIND_OF[symbol].words())
-    near = nearest(word, others)
+    near = nearest(word, scope.names.get(symbol, KIND_OF[symbol].words()))
     return f"{near}?" if near else None
 
 
@@ -135,10 +135,76 @@ READERS: Tuple[Callable[[str, str, Scope], Optional[str]], ...] = (
 
 
 def slip(symbol: str, word: str, scope: Scope) -> str:
-    """What to write in place of a word that isn't an operand of this kind; empty where nothing is
-    near."""
+    """What to write in place of a word that is no such operand; empty where nothing is near."""
     for read in READERS:
         found = read(symbol, word, scope)
         if found is not None:
             return found
     return ""
+
+
+A, B = "(?P<a>[rR][0-7])", "(?P<b>[rR][0-7])"
+N, L = r"(?P<n>-?[^\s=!<>&*]+)", "(?P<l>[A-Za-z0-9_]+)"
+# The instruction of each, its operands by their names; that of `take` is `add`, of what is below 0.
+STATEMENTS: Tuple[Tuple[str, str], ...] = (
+    (rf"{A} ?\+\+|\+\+ ?(?P<b>[rR][0-7])", "add a 1"),
+    (rf"inc {A}", "add a 1"),
+    (rf"{A} ?--|-- ?(?P<b>[rR][0-7])", "take a 1"),
+    (rf"dec {A}", "take a 1"),
+    (rf"{A} ?= ?{B}", "move a b"),
+    (rf"(?:mov|ld|lda) {A} {B}", "move a b"),
+    (rf"{A} ?\+= ?{N}", "add a n"),
+    (rf"{A} ?= ?(?P=a) ?\+ ?{N}", "add a n"),
+    (rf"(?:addi|inc) {A} {N}", "add a n"),
+    (rf"{A} ?-= ?{N}", "take a n"),
+    (rf"{A} ?= ?(?P=a) ?- ?{N}", "take a n"),
+    (rf"(?:sub|subi|dec) {A} {N}", "take a n"),
+    (rf"{A} ?= ?{N}", "set a n"),
+    (rf"(?:mov|movi|ld|ldi|li|lda) {A} {N}", "set a n"),
+    (rf"(?:goto|jmp|br|b) {L}", "jump l"),
+    (rf"(?:jz|beqz|cbz|brz) {A} {L}", "jumpz a l"),
+    (rf"if (?:! ?{A}|{B} ?== ?0) (?:goto|jump|jmp) {L}", "jumpz a l"),
+)
+REGISTER = re.compile("[rR][0-7]")
+NOISE = re.compile(r"[\s(),;]+")
+
+
+def plain_number(word: str, in_lines: bool, is_taken: bool) -> Optional[str]:
+    """A number, or what it is below 0, as an instruction has it. None where it isn't one."""
+    sign, digits = (-1, word[1:]) if word.startswith("-") else (1, word)
+    sign = -sign if is_taken else sign
+    if REGISTER.fullmatch(digits) or not digits:
+        return None
+    if in_lines:
+        plain = re.fullmatch(r"[A-Za-z0-9_]+", digits)
+        return ("-" if sign < 0 else "") + digits if plain else None
+    value = as_number(digits)
+    return None if value is None or value >> 32 else str(sign * value & 0xFFFF_FFFF)
+
+
+def written_as(found: Match[str], instruction: str, in_lines: bool) -> Optional[str]:
+    """The instruction with the operands that were found."""
+    parts: Dict[str, Optional[str]] = found.groupdict()
+    first, *symbols = instruction.split(" ")
+    operands = []
+    for symbol in symbols:
+        word = parts.get(symbol) or (parts.get("b") if symbol == "a" else symbol)
+        text = plain_number(word or "", in_lines, first == "take") if symbol in "n1" else word
+        if text is None or symbol == "l" and not (in_lines or is_digits(text)):
+            return None
+        operands.append(text.lower() if symbol in "ab" else text)
+    return " ".join(["add" if first == "take" else first, *operands])
+
+
+def statement(words: Sequence[str], in_lines: bool) -> Optional[str]:
+    """What a statement on registers is written as: `r1++` is `add r1 1`. None where it is no such
+    one, or where no instruction does it."""
+    text = NOISE.sub(" ", " ".join(words)[:100]).strip()
+    for pattern, instruction in STATEMENTS:
+        found = re.fullmatch(pattern, text)
+        made = written_as(found, instruction, in_lines) if found else None
+        if made is not None:
+            return f"{text} is written {made}"
+    if re.match(r"r[0-7] ?[-+*/&|^<>]?=|r[0-7]$", text):
+        return "no instruction begins with a register: set, add and move change one, as set r1 5"
+    return None

@@ -6,14 +6,13 @@ import sys
 from typing import Any, Dict, List, Sequence
 
 from rdbg import kinds
-from rdbg.checking.faults import MOST_FAULTS
-from rdbg.checking.remarks import remarks_of
-from rdbg.wording import counted, shown
+from rdbg.checking.faults import MOST_FAULTS, remarks_of
 from rdbg.digits import number
 from rdbg.failure import Failure
-from rdbg.fault import Fault
 from rdbg.files.definitions import take_definitions
-from rdbg.files.source import Given, Source, load, source, standard_input
+from rdbg.files.source import Source, load, source, standard_input
+from rdbg.tree import Fault
+from rdbg.wording import counted, shown
 
 SUMMARY = "says of application files where they are wrong, and what would be right"
 STANDARD_INPUT, NOTE = "-", "note: "
@@ -25,7 +24,8 @@ KIND = re.compile(r"L[1-7] ")
 EPILOG = (
     "Each fault is one line on standard output, FILE:LINE:COLUMN: and what would be right; the last"
     " line says what rdbg itself says of the file. The status is 0 where all files are accepted,"
-    " 1 where one is refused, or its C has gone another way than its lines, 2 where one can't be read."
+    " 1 where one is refused, or its C has gone another way than its lines, 2 where one can't be"
+    " read."
 )
 
 
@@ -40,28 +40,25 @@ def natural(word: str) -> int:
 def parser() -> argparse.ArgumentParser:
     """The words of the command line."""
     made = argparse.ArgumentParser(prog="rdbg check", description=SUMMARY, epilog=EPILOG)
-    made.add_argument(
+    word = made.add_argument
+    word(
         "files",
         nargs="+",
         metavar="FILE",
         help="JSON, a text in lines (.fw), or C with such lines (.c); - is standard input",
     )
-    made.add_argument(
+    word(
         "--first", action="store_true", help="prints the first fault of each file, and nothing else"
     )
-    made.add_argument(
-        "--json", action="store_true", help="prints it as JSON (docs/check.schema.json)"
-    )
-    made.add_argument(
+    word("--json", action="store_true", help="prints it as JSON (docs/check.schema.json)")
+    word(
         "--most",
         type=natural,
         default=MOST,
         metavar="N",
         help=f"so many faults a file, else {MOST}",
     )
-    made.add_argument(
-        "--name", metavar="FILE", help="what standard input is called, and so how it is read"
-    )
+    word("--name", metavar="FILE", help="what standard input is called, and so how it is read")
     take_definitions(made)
     return made
 
@@ -76,17 +73,14 @@ def main(words: Sequence[str]) -> int:
     return status
 
 
-def read(path: str, name: str, consts: Given) -> Source:
-    """The file of a path, or standard input under a name."""
-    if path != STANDARD_INPUT:
-        return load(path, consts)
-    return source(name or path, standard_input(), consts)
-
-
 def check(path: str, given: argparse.Namespace, values: List[Values]) -> int:
     """Prints what there is to say of one file, or puts it to `values`, and answers its status."""
     try:
-        found = read(path, given.name, dict(given.consts))
+        consts = dict(given.consts)
+        if path == STANDARD_INPUT:
+            found = source(given.name or path, standard_input(), consts)
+        else:
+            found = load(path, consts)
     except Failure as failure:
         sys.stdout.flush()
         where = "" if path in str(failure) else f"{path}: "
@@ -95,7 +89,8 @@ def check(path: str, given: argparse.Namespace, values: List[Values]) -> int:
     apart = drifts(found)
     faults = [*found.faults, *apart][: given.most]
     remarks = [] if found.root is None else [*found.remarks, *remarks_of(found.root)]
-    verdict = f"{said(found, given.most)}{told_of(apart)}"
+    differs = f"; the C differs from it in {counted(len(apart), 'place')}" if apart else ""
+    verdict = f"{said(found, given.most)}{differs}"
     if given.json:
         values.append(as_values(found, [*faults, *remarks[: given.most]], verdict))
     elif given.first:
@@ -121,7 +116,7 @@ def as_values(found: Source, faults: Sequence[Fault], verdict: str) -> Values:
 
 
 def drifts(found: Source) -> List[Fault]:
-    """Where a C source and the model in it have gone apart. (Of one with faults nothing is known.)"""
+    """Where a C source and the model in it have gone apart; of one with faults, nothing."""
     named = found.named()
     if not found.is_c or found.application is None or named is None:
         return []
@@ -131,22 +126,13 @@ def drifts(found: Source) -> List[Fault]:
     return drifts_of(found.path, found.text, names, named.constants)
 
 
-def told_of(apart: Sequence[Fault]) -> str:
-    """How often they have gone apart."""
-    if not apart:
-        return ""
-    return f"; the C differs from it in {counted(len(apart), 'place')}"
-
-
 def said(found: Source, most: int) -> str:
     """What rdbg says of a file."""
     if found.application is not None:
         cores = counted(found.application.cores, "core")
         return "accepted: " + ", ".join([*found.application.counts(), cores])
     count = len(found.faults)
-    faults = counted(count, "fault")
-    if count == MOST_FAULTS:
-        faults = f"{faults} or more"
+    faults = counted(count, "fault") + " or more" * (count == MOST_FAULTS)
     shown = f", {most} shown" if count > most else ""
     kind = found.faults[0].kind
     # (of a text in lines that makes no JSON rdbg can say nothing)

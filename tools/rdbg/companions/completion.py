@@ -7,8 +7,8 @@ from rdbg.completing.table import SHELLS
 
 SUMMARY = "prints the script by which bash or zsh completes the words of rdbg"
 EPILOG = (
-    "In bash: source <(rdbg completion bash). In zsh, behind compinit: source <(rdbg completion zsh)."
-    " An installed package has both where the shells look for them."
+    "In bash: source <(rdbg completion bash). In zsh, behind compinit: source <(rdbg completion"
+    " zsh). An installed package has both where the shells look for them."
 )
 
 

@@ -6,7 +6,7 @@ import sys
 import time
 from typing import IO, Iterator, List, Optional, Sequence, Tuple
 
-from rdbg import commands, digits, links, whole_file
+from rdbg import digits, links, options, whole_file
 from rdbg.application import NO_INTERRUPT
 from rdbg.driving.target import Unable
 from rdbg.failure import Failure, trying
@@ -15,12 +15,13 @@ from rdbg.files.source import Source, accepted
 from rdbg.hunting import goals, report
 from rdbg.hunting.differs import Difference, Differs
 from rdbg.hunting.goals import Goal
-from rdbg.hunting.interrupts import OPTION, handlers
+from rdbg.hunting.interrupts import handlers
 from rdbg.hunting.search import Search
 from rdbg.hunting.stage import Find, Stage
 from rdbg.options import bounded
 from rdbg.reaching import beside
 from rdbg.reaching.asking import CTRL_C, LOST, QUESTIONS, REACH, Asker, NoQuestion
+from rdbg.reaching.handlers import OPTION
 from rdbg.reaching.said import Answer, Bound, Kind
 from rdbg.replies import Refused
 
@@ -34,8 +35,8 @@ EPILOG = (
 )
 NONE_FOUND, FOUND, CANT, STOPPED = 0, 1, 2, 130
 STANDARD = "-"
-# Options of the program that searches, which are passed on to it, each with how its value is written,
-# and what it is.
+# Options of the program that searches, which are passed on to it, each with how its value is
+# written, and what it is.
 PASSED = {
     "--pace": ("M..N", "each busy core makes M to N moves from one tick to the next"),
     "--states": ("N", "how many states are kept"),
@@ -47,12 +48,9 @@ OF_ONE_GOAL = ("--pace", "--part")
 
 
 def part(text: str) -> str:
-    """Reads K/N, the part K of N."""
-    first, slash, second = text.partition("/")
-    if slash and commands.is_count(first) and commands.is_count(second):
-        if int(first) <= int(second):
-            return text
-    raise argparse.ArgumentTypeError(f"K/N with K of 1 to N, not '{text}'")
+    """Reads K/N, the part K of N, and passes it on."""
+    options.part(text)
+    return text
 
 
 def seconds(text: str) -> float:
@@ -77,38 +75,38 @@ def parser() -> argparse.ArgumentParser:
     made = argparse.ArgumentParser(
         prog="rdbg hunt", description=SUMMARY, epilog=EPILOG, formatter_class=OneGoal
     )
-    made.add_argument("file", metavar="FILE", help="the application, JSON or in lines (.fw)")
-    made.add_argument("goal", metavar="GOAL", nargs="+", help="one goal; its words may be apart")
-    made.add_argument("-o", dest="output", metavar="OUT", help="where the lines of a find go")
-    made.add_argument(
-        "--page", metavar="OUT.html", help="writes the first find as one page of HTML"
+    word = made.add_argument
+    word("file", metavar="FILE", help="the application, JSON or in lines (.fw)")
+    word("goal", metavar="GOAL", nargs="+", help="one goal; its words may be apart")
+    word("-o", dest="output", metavar="OUT", help="where the lines of a find go")
+    word("--page", metavar="OUT.html", help="writes the first find as one page of HTML")
+    word(
+        "--report",
+        metavar="FILE",
+        help="writes what came of it as SARIF, or where FILE ends in .xml as JUnit's XML",
     )
-    made.add_argument("--report", metavar="FILE", help="writes what came of it as SARIF")
     count = bounded(1)
-    made.add_argument(
+    word(
         "--surprises", type=bounded(0), metavar="N", help="orders of so many surprises at the most"
     )
-    made.add_argument("--moves", type=count, metavar="N", help="orders of at most so many moves")
-    made.add_argument(
+    word("--moves", type=count, metavar="N", help="orders of at most so many moves")
+    word(
         "--isr",
         action="append",
         default=[],
         metavar="CALLS",
         help="an interrupt that may come once, at any place: send Q HEX, notify K I N ACTION, or"
         " several calls with ; between them; said twice, it may come twice; or one that the text"
-        " names, which comes as that says. Without it all come that the text names; none: none of them",
+        " names, which comes as that says. Without it all come that the text names; none: none of"
+        " them",
     )
-    made.add_argument(
-        "--exhaustive", action="store_true", help="surprises aren't counted: the fewest moves"
-    )
-    made.add_argument(
-        "--smallest", action="store_true", help="shows that none has fewer surprises, or moves"
-    )
-    made.add_argument("--all", type=count, metavar="N", help="the first N finds that end otherwise")
-    made.add_argument("--expect", choices=["none", "found"], help="what the status is 0 for")
-    made.add_argument("--within", type=seconds, metavar="SECONDS", help="a limit of time")
+    word("--exhaustive", action="store_true", help="surprises aren't counted: the fewest moves")
+    word("--smallest", action="store_true", help="shows that none has fewer surprises, or moves")
+    word("--all", type=count, metavar="N", help="the first N finds that end otherwise")
+    word("--expect", choices=["none", "found"], help="what the status is 0 for")
+    word("--within", type=seconds, metavar="SECONDS", help="a limit of time")
     for name, (value, what) in PASSED.items():
-        made.add_argument(name, type=part if name == "--part" else str, metavar=value, help=what)
+        word(name, type=part if name == "--part" else str, metavar=value, help=what)
     take_definitions(made)
     return made
 
@@ -121,11 +119,10 @@ def passed(given: argparse.Namespace) -> List[Tuple[str, str]]:
 
 def check_words(given: argparse.Namespace, goal: Goal) -> None:
     """Raises `Failure` where words can't stand together."""
-    if given.exhaustive:
-        both = (("--surprises", given.surprises), ("--smallest", given.smallest or None))
-        for name, value in both:
-            if value is not None:
-                raise Failure(f"--exhaustive goes through every order; it takes no {name}", CANT)
+    options_given = (("--surprises", given.surprises is not None), ("--smallest", given.smallest))
+    for name, is_given in options_given:
+        if given.exhaustive and is_given:
+            raise Failure(f"--exhaustive goes through every order; it takes no {name}", CANT)
     if given.smallest and given.all is not None:
         raise Failure("--smallest is of one find; it takes no --all", CANT)
     if goal.compares:
@@ -197,21 +194,20 @@ class Hunt:
 
     def say(self) -> None:
         """Prints what was found, or that nothing was, and reports it."""
-        said = self._said()
-        self._print(said)
+        self._print(self._said())
         self._report()
 
     def _report(self) -> None:
         """Writes what came of it, where that was asked."""
         if self.given.report is None:
             return
-        from rdbg.hunting import sarif  # (which takes its time)
+        from rdbg.hunting import reports, sarif  # (which take their time)
 
         finds = self.finds or [it.find for it in self.differences]
-        left = self.search.left()
-        found = sarif.results(self.source, self.goal.text, self.stage, finds, left)
-        with whole_file.written(self.given.report) as file:
-            file.write(sarif.text_of([*found]))
+        goal, path, left = self.goal.text, self.given.report, self.search.left()
+        found = [*sarif.results(self.source, goal, self.stage, finds, left)]
+        with whole_file.written(path) as file:
+            file.write(reports.text_of(path, self.source.path, goal, found, self.given.expect))
 
     def _print(self, said: Sequence[str]) -> None:
         """Prints what is said, and the lines of what was found."""
@@ -220,17 +216,13 @@ class Hunt:
             is_mixed = path in (None, STANDARD)
             print(*said, sep="\n", file=sys.stderr if is_mixed else sys.stdout, flush=True)
             return
-        lines = report.lines_of(self.goal, self.stage, self._orders())
+        own = [] if self.differs is None else [self.differs.own.find]
+        orders = [*own, *self.finds, *(it.find for it in self.differences)]
+        lines = report.lines_of(self.goal, self.stage, orders)
         with outputs(path) as (file, out):
             print(*lines, sep="\n", file=file, flush=True)
             print(*said, sep="\n", file=out, flush=True)
         self._write_page()
-
-    def _orders(self) -> List[Find]:
-        """All orders that are shown."""
-        if self.differs is None:
-            return self.finds
-        return [self.differs.own.find, *(it.find for it in self.differences)]
 
     def _said(self) -> List[str]:
         """What is said."""
@@ -238,11 +230,11 @@ class Hunt:
             left = self.search.left()
             said = [*report.none(self.goal, left, self.stage.application)]
             return [*said, *self._remarks(left)]
+        goal, stage = self.goal, self.stage
         if self.differs is not None:
-            own = self.differs.own
-            said = [*report.differing(self.goal, self.stage, own, self.differences)]
+            said = [*report.differing(goal, stage, self.differs.own, self.differences)]
         else:
-            said = [*report.found(self.goal, self.stage, self.finds, self.given.exhaustive)]
+            said = [*report.found(goal, stage, self.finds, self.given.exhaustive)]
         said.append(report.gone_through(self.search.counts))
         if self.given.smallest:
             said += report.smaller(self.search.none)
@@ -303,20 +295,18 @@ def hunt(given: argparse.Namespace, source: Source, path: str) -> int:
         if output not in (None, STANDARD):
             whole_file.check(output)
     end = None if given.within is None else time.monotonic() + given.within
-    options = tuple(word for pair in passed(given) for word in pair)
+    words_passed = tuple(word for pair in passed(given) for word in pair)
     stage = Stage(source, may_come)
     bound = Bound(given.moves, given.surprises)
-    search = Search(Asker(path, options, end), stage, goal, bound, question, given.exhaustive)
+    search = Search(Asker(path, words_passed, end), stage, goal, bound, question, given.exhaustive)
     it = Hunt(given, source, goal, search)
-    try:
-        it.run()
-    except KeyboardInterrupt:
-        search.none.append(Answer(Kind.UNTOLD, why=CTRL_C))
-    try:
+    with contextlib.closing(stage):
+        try:
+            it.run()
+        except KeyboardInterrupt:
+            search.none.append(Answer(Kind.UNTOLD, why=CTRL_C))
         it.say()
         return it.status()
-    finally:
-        stage.close()
 
 
 def main(words: Sequence[str]) -> int:
@@ -331,9 +321,7 @@ def main(words: Sequence[str]) -> int:
         if str(refused):
             raise Failure(f"rdreach refuses it: {refused}", CANT) from None
         return CANT  # (it has said why)
-    except Unable as unable:
-        raise Failure(str(unable), CANT) from None
     except Refused as refused:
         raise Failure(f"rdbg refused it: no {refused}", CANT) from None
-    except Failure as failure:
-        raise Failure(str(failure), CANT) from None
+    except (Unable, Failure) as wrong:
+        raise Failure(str(wrong), CANT) from None

@@ -1,38 +1,40 @@
 """Joins the answers of the parts of one search."""
 import argparse
+import contextlib
+import dataclasses
 import pathlib
 import sys
-from typing import Sequence
+from typing import List, Sequence
 
 from rdbg.driving.target import Unable
-from rdbg.failure import Failure, trying
+from rdbg.failure import Failure, of_words, trying, turned
 from rdbg.files.definitions import take_definitions
 from rdbg.files.source import accepted
-from rdbg.hunting import parts
 from rdbg.hunting.interrupts import handlers
 from rdbg.hunting.stage import Stage
 from rdbg.reaching import said
-from rdbg.reaching.said import Answer
+from rdbg.reaching.said import Answer, Bound, Kind
 
 SUMMARY = "joins the answers of the parts of one search"
 EPILOG = (
     "Each ANSWER is a file with what one part has answered. The first line is found, never, not"
-    " within a bound, or full: not within one, as that of one search; the status is 1, 0, or 2. It is"
-    " found where one part has found it, and the order is the one with the fewest surprises, and of"
-    " those the fewest moves; never, and not within, are said where all parts are there and none has"
-    " found it, with the least bound of them. Parts that are lacking are told, and the status is 2"
-    " then, unless another has found it."
+    " within a bound, or full: not within one, as that of one search; the status is 1, 0, or 2. It"
+    " is found where one part has found it, and the order is the one with the fewest surprises, and"
+    " of those the fewest moves; never, and not within, are said where all parts are there and none"
+    " has found it, with the least bound of them. Parts that are lacking are told, and the status"
+    " is 2 then, unless another has found it."
 )
+# Why an answer isn't of all orders.
+LACKING = "a part of the search is lacking"
 
 
 def parser() -> argparse.ArgumentParser:
     """The words of the command line."""
     made = argparse.ArgumentParser(prog="rdbg join", description=SUMMARY, epilog=EPILOG)
-    made.add_argument("file", metavar="FILE", help="the application, JSON or in lines (.fw)")
-    made.add_argument("answers", metavar="ANSWER", nargs="+", help="what a part has answered")
-    made.add_argument(
-        "--isr", action="append", default=[], metavar="CALLS", help="as the parts were given it"
-    )
+    word = made.add_argument
+    word("file", metavar="FILE", help="the application, JSON or in lines (.fw)")
+    word("answers", metavar="ANSWER", nargs="+", help="what a part has answered")
+    word("--isr", action="append", default=[], metavar="CALLS", help="as the parts were given it")
     take_definitions(made)
     return made
 
@@ -41,13 +43,41 @@ def read(path: str) -> Answer:
     """The answer in a file. Raises `Failure` where there is none of a part."""
     with trying(f"read {path}"):
         text = pathlib.Path(path).read_text(encoding="utf-8", errors="replace")
-    try:
+    with turned(of_words, Failure, of=path):
         answer = said.read(text.splitlines())
-    except Failure as failure:
-        raise Failure(f"{path}: {failure}", 2) from None
     if answer.part is None:
         raise Failure(f"{path}: its first line says no part of a search", 2)
     return answer
+
+
+def check(answers: Sequence[Answer]) -> List[int]:
+    """The parts that aren't among these. Raises `Failure` where they aren't parts of one search."""
+    numbers = [it.part for it in answers if it.part is not None]
+    if len({count for _, count in numbers}) > 1:
+        raise Failure("they are parts of searches in different numbers of parts", 2)
+    for part in {part for part, _ in numbers}:
+        if sum(it[0] == part for it in numbers) > 1:
+            raise Failure(f"part {part} is there twice", 2)
+    return [part for part in range(1, numbers[0][1] + 1) if part not in {it for it, _ in numbers}]
+
+
+def joined(answers: Sequence[Answer], stage: Stage) -> Answer:
+    """What the answers of parts say together: an order where one has one, that with the fewest
+    surprises and of those the fewest moves; else what all of them say."""
+    found = [it for it in answers if it.kind is Kind.REACHED]
+    counts = answers[0].counts
+    for it in answers[1:]:
+        counts = said.summed(counts, it.counts)
+    if found:
+        sizes = {it.order: stage.find(it.order).size for it in found}
+        least = min(found, key=lambda it: sizes[it.order])
+        return dataclasses.replace(least, counts=counts, part=None)
+    together = said.together(answers)
+    if check(answers):
+        return dataclasses.replace(
+            together, kind=Kind.UNTOLD, bound=Bound(), why=LACKING, missed=()
+        )
+    return dataclasses.replace(together, part=None)
 
 
 def main(words: Sequence[str]) -> int:
@@ -56,16 +86,12 @@ def main(words: Sequence[str]) -> int:
     source = accepted(given.file, dict(given.consts))
     assert source is not None
     answers = [read(path) for path in given.answers]
-    lacking = parts.check(answers)
+    lacking = check(answers)
     assert source.application is not None
     stage = Stage(source, handlers(given.isr, source.application))
-    try:
-        joined = parts.joined(answers, stage)
-    except Unable as unable:
-        raise Failure(str(unable), 2) from None
-    finally:
-        stage.close()
+    with turned(of_words, Unable), contextlib.closing(stage):
+        whole = joined(answers, stage)
     for part in lacking:
         print(f"rdbg join: part {part} is lacking", file=sys.stderr)
-    print(*said.lines(joined), sep="\n")
-    return joined.kind.value
+    print(*said.lines(whole), sep="\n")
+    return whole.kind.value

@@ -3,16 +3,17 @@ text from the JSON."""
 import argparse
 import os
 import sys
-from typing import Optional, Sequence, Tuple
+from typing import Iterable, Iterator, Optional, Sequence, Set, Tuple
 
-from rdbg.application import Application
+from rdbg.application import Application, Instruction, Task
 from rdbg.failure import Failure
-from rdbg.json_layout import MOST_BYTES, json_of
-from rdbg.firmware.expansion import expansions
-from rdbg.from_c.lines import in_lines
-from rdbg.firmware.writer import jumps_of, text_of
 from rdbg.files.definitions import take_definitions
 from rdbg.files.source import Given, Source, load, source
+from rdbg.firmware.writer import jumps_of, text_of
+from rdbg.from_c.lines import in_lines
+from rdbg.json_layout import MOST_BYTES, json_of
+from rdbg.operands import to_text
+from rdbg.tree import Place
 from rdbg.whole_file import STANDARD_OUTPUT, written
 from rdbg.wording import counted
 
@@ -20,7 +21,8 @@ SUMMARY = "makes an application's JSON from a text in lines (.fw), or the text f
 EPILOG = (
     "FILE.fw becomes FILE.json beside it, in place of the one that was there. Where the text has"
     " faults they are printed on standard error, each as FILE:LINE:COLUMN: and what would be right,"
-    " and nothing is written. Lines that become several instructions are printed with these. The status is 0, 1 for faults, or 2 for a file that can't be had."
+    " and nothing is written. Lines that become several instructions are printed with these. The"
+    " status is 0, 1 for faults, or 2 for a file that can't be had."
 )
 TEXT, JSON, C = ".fw", ".json", ".c"
 MOST_FAULTS = 100
@@ -29,18 +31,15 @@ MOST_FAULTS = 100
 def parser() -> argparse.ArgumentParser:
     """The words of the command line."""
     made = argparse.ArgumentParser(prog="rdbg make", description=SUMMARY, epilog=EPILOG)
-    made.add_argument(
+    word = made.add_argument
+    word(
         "file",
         metavar="FILE",
         help="the text in lines, FILE.fw; with --back, FILE.json; with --from-c, FILE.c",
     )
-    made.add_argument(
-        "--back", action="store_true", help="makes the text from the JSON, on standard output"
-    )
-    made.add_argument(
-        "-o", dest="output", metavar="OUT", help="writes to OUT; - is standard output"
-    )
-    made.add_argument(
+    word("--back", action="store_true", help="makes the text from the JSON, on standard output")
+    word("-o", dest="output", metavar="OUT", help="writes to OUT; - is standard output")
+    word(
         "--from-c",
         dest="is_c",
         action="store_true",
@@ -48,6 +47,28 @@ def parser() -> argparse.ArgumentParser:
     )
     take_definitions(made)
     return made
+
+
+def expansions(application: Application, made: Iterable[Tuple[int, str]]) -> Iterator[str]:
+    """A line for each line of the text that becomes others than it is: its number, what is written,
+    and of an object what stands for it (`made`), of a line of a task which instructions, with what
+    these cost. Of tasks with one script it is told of the first."""
+    yield from (f"{line}: {text}" for line, text in made)
+    told: Set[Place] = set()
+    for task in application.tasks:
+        for number, it in enumerate(task.code):
+            if it.part is not None and it.begins and it.place not in told:
+                told.add(it.place)
+                yield f"{it.place.line}: {it.written}: {becomes(task, number, it)}"
+
+
+def becomes(task: Task, number: int, it: Instruction) -> str:
+    """What an instruction's line becomes, the first of which it is."""
+    assert it.part is not None
+    end = number + it.part.count
+    numbers = to_text(number, end - 1).replace(" to ", "-")
+    texts = "; ".join(each.text for each in task.code[number:end])
+    return f"{task.name} {numbers}, {it.part.cost}: {texts}"
 
 
 def main(words: Sequence[str]) -> int:

@@ -6,16 +6,17 @@ import signal
 import sys
 from typing import Iterator, List, NoReturn, Optional, Sequence, Tuple
 
-from rdbg import output, program_help, whole_file
+from rdbg import ending, program_help, whole_file
+from rdbg.driving.target import Unable
 from rdbg.ending import ENDING
-from rdbg.failure import Failure, trying
+from rdbg.failure import Failure, of_words, trying, turned
 from rdbg.files.definitions import definition
 from rdbg.files.source import LINES, Source, load
 from rdbg.goals.reading import NoGoal
-from rdbg.goals.words import for_search
 from rdbg.goals.scope import Scope
+from rdbg.goals.words import for_search
 from rdbg.reaching import beside, running, said
-from rdbg.reaching.asking import STOPPED
+from rdbg.reaching.asking import DOOMED, LOST as LOST_AT, PROGRAM, REACH, STOPPED, Question
 from rdbg.reaching.handlers import handlers, told as told_of
 from rdbg.reaching.said import UNTOLD, Answer
 from rdbg.reaching.words import (
@@ -30,10 +31,9 @@ from rdbg.reaching.words import (
     Words,
     read,
 )
+from rdbg.replies import Refused
 
 SUMMARY = "answers whether some order of moves comes to a goal; that none does is a theorem"
-# What names the program.
-PROGRAM = "RDBG_REACH"
 
 
 def program() -> str:
@@ -44,9 +44,14 @@ def program() -> str:
     return named
 
 
+def question_of(asked: Words) -> Question:
+    """Which question is asked of the goal."""
+    words = asked.program
+    return LOST_AT if LOST in words else DOOMED if f"--{DOOMED.word}" in words else REACH
+
+
 def check_output(asked: Words) -> None:
-    """Raises `Failure` where the order, its page or the report couldn't be written, before it is
-    looked for."""
+    """Raises `Failure` where the order, its page or the report couldn't be written."""
     if asked.report is not None and LOST in asked.program:
         raise Failure(f"{REPORT} is of what an order leads to; {LOST} asks of a run", 2)
     for option, path in ((OUTPUT, asked.output), (PAGE, asked.page), (REPORT, asked.report)):
@@ -69,8 +74,8 @@ def save(path: str, answered: str) -> None:
 
 
 def with_remarks(asked: Words, output: str, source: Optional[Source], goal: str) -> str:
-    """An answer of the program's as it is told: of a text in lines the instructions that no order came
-    to stand there with their lines, and behind it what there is to say of it."""
+    """An answer of the program's as it is told: of a text in lines the instructions that no order
+    came to stand there with their lines, and behind it what there is to say of it."""
     lines = output.splitlines()
     is_answer = any(map(said.COUNTS.fullmatch, lines))
     if source is None or not is_in_lines(source.path) or not is_answer:
@@ -86,15 +91,16 @@ def with_remarks(asked: Words, output: str, source: Optional[Source], goal: str)
 def say(asked: Words, outcome: running.Outcome, source: Optional[Source], goal: str) -> int:
     """Says what came of a search for a goal, and answers the exit status."""
     last, surprises = outcome.last, asked.surprises()
+    is_reach = question_of(asked) is REACH
     if outcome.is_stopped and last is None:
         raise Failure("it was stopped before it could say how far it was", UNTOLD)
     if outcome.is_stopped:
-        answer = said.stopped(last, surprises, STOPPED)
+        answer = said.stopped(last, surprises, STOPPED, is_reach)
         told = "".join(f"{line}\n" for line in said.lines(answer))
         sys.stdout.write(with_remarks(asked, told, source, goal))
         write_report(asked, answer)
         return UNTOLD
-    said.check(outcome.output, outcome.status, said.known(last, surprises))
+    said.check(outcome.output, outcome.status, said.known(last, surprises, is_reach))
     try:
         if asked.output is not None and outcome.status != UNTOLD:
             save(asked.output, outcome.output)
@@ -103,28 +109,23 @@ def say(asked: Words, outcome: running.Outcome, source: Optional[Source], goal: 
         sys.stdout.write(with_remarks(asked, outcome.output, source, goal))
     if outcome.output:
         sys.stdout.flush()
+        answer = said.read(outcome.output.splitlines())
         if asked.page is not None:
-            write_page(asked, outcome.output, asked.page)
-        write_report(asked, said.read(outcome.output.splitlines()))
+            write_page(asked, answer, asked.page)
+        write_report(asked, answer)
     return outcome.status
 
 
-def write_page(asked: Words, answered: str, path: str) -> None:
-    """Writes the page of the order in an answer, or of the run that was asked about."""
-    from rdbg.tracing.answered import write  # (which takes its time)
-
-    file, *goal = (asked.program[at] for at in asked.plain())
-    write(asked, source_of(asked, file), " ".join(goal), answered, path)
-
-
 def write_report(asked: Words, answer: Answer) -> None:
-    """Writes an answer as SARIF, where that was asked."""
+    """Writes the report of an answer, where that was asked."""
     if asked.report is None:
         return
-    from rdbg.hunting import sarif  # (which takes its time)
+    from rdbg.hunting import reports, sarif  # (which take their time)
 
-    file, *goal = (asked.program[at] for at in asked.plain())
-    text = sarif.of_answer(source_of(asked, file), " ".join(goal), answer)
+    file, *words = (asked.program[at] for at in asked.plain())
+    goal = " ".join(words)
+    found = sarif.of_answer(source_of(asked, file), goal, answer)
+    text = reports.text_of(asked.report, file, goal, [found])
     with whole_file.written(asked.report) as written:
         written.write(text)
 
@@ -132,10 +133,9 @@ def write_report(asked: Words, answer: Answer) -> None:
 def source_of(asked: Words, file: str) -> Source:
     """The application's file, of which the consts that are asked for are these numbers. Raises
     `Failure` where it can't be read, or has no such const."""
-    try:
-        return load(file, dict(map(definition, asked.consts)))
-    except argparse.ArgumentTypeError as error:
-        raise Failure(f"{DEFINE}: {error}", UNTOLD) from None
+    with turned(of_words, argparse.ArgumentTypeError, of=DEFINE):
+        source = load(file, dict(map(definition, asked.consts)))
+    return source
 
 
 def is_in_lines(file: str) -> bool:
@@ -145,9 +145,9 @@ def is_in_lines(file: str) -> bool:
 
 @contextlib.contextmanager
 def in_its_words(asked: Words) -> Iterator[Tuple[List[str], Optional[Source], str]]:
-    """The program's words, the file, and the goal as the program has it: a text in lines as JSON, and
-    the interrupts that it names. Raises `Failure` where there is no goal in them. A file that can't
-    be read is the program's to refuse."""
+    """The program's words, the file, and the goal as the program has it: a text in lines as JSON,
+    and the interrupts that it names. Raises `Failure` where there is no goal in them. A file that
+    can't be read is the program's to refuse."""
     file, *goal = (asked.program[at] for at in asked.plain())
     try:
         source = source_of(asked, file)
@@ -161,10 +161,8 @@ def in_its_words(asked: Words) -> Iterator[Tuple[List[str], Optional[Source], st
             raise Failure(f"{file}:{source.faults[0]}; {file} {source.refused()}", UNTOLD)
         yield asked.program, None, ""
         return
-    try:
+    with turned(of_words, NoGoal, of="goal"):
         told = for_search(goal, Scope.of(source))[1] if goal else ""
-    except NoGoal as wrong:
-        raise Failure(f"goal: {wrong}", UNTOLD) from None
     application = source.application
     named = asked.with_interrupts(lambda texts: handlers(texts, application))
     with source.as_json() as path:
@@ -172,9 +170,9 @@ def in_its_words(asked: Words) -> Iterator[Tuple[List[str], Optional[Source], st
 
 
 def become_engine(asked: Words, words: Sequence[str]) -> NoReturn:
-    """Becomes the program, which answers lines where it is asked for no goal: nothing stands between.
-    Raises `Failure` where it can't be started, and where something is asked that goes with a goal.
-    """
+    """Becomes the program, which answers lines where it is asked for no goal: nothing stands
+    between. Raises `Failure` where it can't be started, and where something is asked that goes with
+    a goal."""
     if (asked.output, asked.seconds, asked.page, asked.report) != (None, None, None, None):
         raise Failure(f"{OUTPUT}, {WITHIN}, {PAGE} and {REPORT} go with a goal", 2)
     found = program()
@@ -198,6 +196,33 @@ def unlinked(asked: Words) -> List[str]:
     return [it for it in told if it != PROGRESS]
 
 
+def write_page(asked: Words, answer: Answer, path: str) -> None:
+    """Writes the page of the order in an answer, or of the run that was asked about; where there is
+    none to show, it is said that none is written. Raises `Failure` where it can't be."""
+    from rdbg.tracing.command import lines_in, page_of, text_of  # (which take their time)
+    from rdbg.tracing.page.asked import asked as asked_of
+
+    file, *rest = (asked.program[at] for at in asked.plain())
+    source, goal = source_of(asked, file), " ".join(rest)
+    if source.application is None:
+        return
+    question = question_of(asked)
+    from_path = asked.value("--from")
+    begin = [it.text for it in lines_in(text_of(from_path).text)] if from_path is not None else []
+    lines = begin if question is LOST_AT else [*answer.order] or begin
+    if not lines:
+        print(f"rdbg reach: no order leads there, so {path} isn't written", file=sys.stderr)
+        return
+    order = answer.order if question is LOST_AT else ()
+    try:
+        told = told_of(asked.interrupts(), source.application)
+        page_of(source, lines, path, lambda at: asked_of(question, goal, answer, at, order, told))
+    except Unable as unable:
+        raise Failure(str(unable), 2) from None
+    except Refused as refused:
+        raise Failure(f"rdbg refused it: no {refused}", 2) from None
+
+
 def main(words: Sequence[str]) -> int:
     """Searches, and says what came of it."""
     if {"-h", "--help"} & {*words}:
@@ -216,7 +241,7 @@ def main(words: Sequence[str]) -> int:
         return status
     except OSError as error:
         ENDING.check()
-        output.give_up()
+        ending.give_up()
         raise Failure(error.strerror or str(error), UNTOLD) from None
     except MemoryError:
         raise Failure("there is no memory", UNTOLD) from None

@@ -7,7 +7,7 @@ from types import FrameType
 from typing import Optional, Sequence, Tuple
 
 from rdbg.files.definitions import take_definitions
-from rdbg.files.source import accepted
+from rdbg.files.source import Source, accepted
 from rdbg.options import bounded, port
 from rdbg.door import TOKEN, Door
 from rdbg.ending import Terminated
@@ -20,12 +20,12 @@ from rdbg.rooms.room import IDLE, Room
 from rdbg.rooms.talk import Talk, opened
 from rdbg.rooms.web import Served
 from rdbg.driving.target import Limits
-from rdbg.files.source import Source
 
 SUMMARY = "a room for several at one target, by names: what anyone does, all are told"
 EPILOG = (
     "`rdbg sh --port P --name NAME` attaches to it, or any program that opens a connection, as nc."
-    f" Lines that begin with # are for the room: {remarks.WORDS}. Typed at the room itself, `free` gives back the wheel of who is idle."
+    f" Lines that begin with # are for the room: {remarks.WORDS}. Typed at the room itself, `free`"
+    " gives back the wheel of who is idle."
     " Ctrl-C, or SIGTERM, ends it with rdbg's own audit. The status is"
     " 0; 1 where the application is refused, rdbg ends before, its audit finds something, or the"
     " talk couldn't be kept; 2 where a file or a port can't be had."

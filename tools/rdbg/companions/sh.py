@@ -18,27 +18,22 @@ from rdbg.driving.target import Limits
 SUMMARY = "a prompt: rdbg's lines with history, Tab and help, and what each move did"
 EPILOG = (
     "Not at a terminal it is a filter: it prints what rdbg answers, and lines of its own begin with"
-    " '# '; hints go to standard error. The status is 0, 1 where the application is refused, or where"
-    " rdbg, or a room, has ended, 2 where a file or a port can't be had."
+    " '# '; hints go to standard error. The status is 0, 1 where the application is refused, or"
+    " where rdbg, or a room, has ended, 2 where a file or a port can't be had."
 )
 
 
 def parser() -> argparse.ArgumentParser:
     """The words of the command line."""
     made = argparse.ArgumentParser(prog="rdbg sh", description=SUMMARY, epilog=EPILOG)
-    made.add_argument(
-        "file", nargs="?", metavar="FILE", help="the application, JSON or in lines (.fw)"
-    )
-    made.add_argument("--app", metavar="FILE", help="the same")
-    made.add_argument(
-        "--port", type=port, metavar="P", help="attaches to `rdbg serve` or `rdbg room` there"
-    )
-    made.add_argument("--name", metavar="NAME", help="who one is at `rdbg room`")
-    made.add_argument("--moves", type=bounded(1), metavar="N", help="how many moves may be done")
-    made.add_argument("--history", type=bounded(2), metavar="N", help="entries of the history")
-    made.add_argument(
-        "--nx", action="store_true", help=f"leaves out the files {START} (see `help source`)"
-    )
+    word = made.add_argument
+    word("file", nargs="?", metavar="FILE", help="the application, JSON or in lines (.fw)")
+    word("--app", metavar="FILE", help="the same")
+    word("--port", type=port, metavar="P", help="attaches to `rdbg serve` or `rdbg room` there")
+    word("--name", metavar="NAME", help="who one is at `rdbg room`")
+    word("--moves", type=bounded(1), metavar="N", help="how many moves may be done")
+    word("--history", type=bounded(2), metavar="N", help="entries of the history")
+    word("--nx", action="store_true", help=f"leaves out the files {START} (see `help source`)")
     take_definitions(made)
     return made
 

@@ -18,36 +18,31 @@ EPILOG = (
 def parser() -> argparse.ArgumentParser:
     """The words of the command line."""
     made = argparse.ArgumentParser(prog="rdbg trace", description=SUMMARY, epilog=EPILOG)
-    made.add_argument("file", nargs="?", metavar="FILE", help="the application, JSON or .fw")
-    made.add_argument("commands", nargs="?", metavar="COMMANDS", help="the lines of the run")
-    made.add_argument(
-        "--port", type=port, metavar="P", help="the moves that are done at `rdbg serve` there"
-    )
-    made.add_argument(
+    word = made.add_argument
+    word("file", nargs="?", metavar="FILE", help="the application, JSON or .fw")
+    word("commands", nargs="?", metavar="COMMANDS", help="the lines of the run")
+    word("--port", type=port, metavar="P", help="the moves that are done at `rdbg serve` there")
+    word(
         "--only",
         metavar="NAMES",
         help="rows of these tasks, objects and cores: jobs,worker,0; of rows alone",
     )
-    made.add_argument(
+    word(
         "--when",
         metavar="GOAL",
         help="rows of moves behind which it holds: 'count jobs > 0 and not runs worker'; as above",
     )
-    made.add_argument("--from", dest="first", type=bounded(0), metavar="N", help="from place N on")
-    made.add_argument("--to", dest="last", type=bounded(0), metavar="N", help="up to place N")
-    made.add_argument(
-        "--events", metavar="OUT", help="writes Chrome trace events to OUT; - is standard output"
-    )
-    made.add_argument(
-        "--page", metavar="OUT.html", help="writes the run as one page of HTML; - as above"
-    )
-    made.add_argument(
+    word("--from", dest="first", type=bounded(0), metavar="N", help="from place N on")
+    word("--to", dest="last", type=bounded(0), metavar="N", help="up to place N")
+    word("--events", metavar="OUT", help="writes Chrome trace events to OUT; - is standard output")
+    word("--page", metavar="OUT.html", help="writes the run as one page of HTML; - as above")
+    word(
         "--against",
         metavar="COMMANDS2",
         help="of a page: another run of the same application below it, and where they first differ",
     )
     take_report(made)
-    made.add_argument("--moves", type=bounded(1), metavar="N", help="how many moves may be done")
+    word("--moves", type=bounded(1), metavar="N", help="how many moves may be done")
     take_definitions(made)
     return made
 

@@ -43,7 +43,10 @@ _rdbg() {{
     word=${{COMP_WORDS[at]}}
     found=$(_rdbg_behind "$word" "$before")
     if [ -z "$found" ]; then
-        case $begun in -*) found=$(_rdbg_options "$word") ;; *) found=$(_rdbg_placed "$word") ;; esac
+        case $begun in
+            -*) found=$(_rdbg_options "$word") ;;
+            *) found=$(_rdbg_placed "$word") ;;
+        esac
     fi
     case $found in
         -) ;;
@@ -97,21 +100,17 @@ def bash(words: Sequence[Word]) -> str:
     for word in words:
         names = " ".join(name for it in word.options for name in it.names)
         options.append(f"        {word.name}) echo {shlex.quote(names)} ;;")
-        placed.append(
-            f"        {word.name}) echo {shlex.quote(behind(word.has_files, word.choices))} ;;"
-        )
+        there = shlex.quote(behind(word.has_files, word.choices))
+        placed.append(f"        {word.name}) echo {there} ;;")
         for it in word.options:
             if it.value:
                 which = " | ".join(shlex.quote(f"{word.name} {name}") for name in it.names)
                 said = shlex.quote(behind(it.is_file, it.choices))
                 values.append(f"        {which}) echo {said} ;;")
     first = [it.name for it in words] + [name for it in own() for name in it.names]
-    return BASH.format(
-        words=shlex.quote(" ".join(first)),
-        options="\n".join(options),
-        values="\n".join(values),
-        placed="\n".join(placed),
-    )
+    lists = {"options": options, "values": values, "placed": placed}
+    texts = {name: "\n".join(lines) for name, lines in lists.items()}
+    return BASH.format(words=shlex.quote(" ".join(first)), **texts)
 
 
 def told(text: str) -> str:
@@ -129,11 +128,8 @@ def action(is_file: bool, choices: Sequence[str]) -> str:
 def specifications(option: Option) -> List[str]:
     """An option as zsh's `_arguments` has it, by each name."""
     value = f":{told(option.value)}:{action(option.is_file, option.choices)}"
-    repeated = "*" if option.is_repeated else ""
-    return [
-        f"{repeated}{name}[{told(option.text)}]{value if option.value else ''}"
-        for name in option.names
-    ]
+    text = f"[{told(option.text)}]{value if option.value else ''}"
+    return [f"{'*' * option.is_repeated}{name}{text}" for name in option.names]
 
 
 def case_of(word: Word) -> str:

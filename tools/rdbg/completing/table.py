@@ -7,18 +7,7 @@ from typing import Iterator, List, Optional, Tuple
 from rdbg import main, program_help
 
 # What is behind an option or a word: a file, or a folder.
-FILES = (
-    "FILE",
-    "OUT",
-    "OUT.html",
-    "OUT.json",
-    "COMMANDS",
-    "ANSWER",
-    "FOLDER",
-    "PATH",
-    "PREFIX",
-    "IN",
-)
+FILES = "FILE OUT OUT.html OUT.json COMMANDS ANSWER FOLDER PATH PREFIX IN".split()
 # An option as the help of a program has it, with its value.
 TOLD = re.compile(r"^ +(?:(-\w), )?(--?[\w-]+)(?: <?([\w.\-/=]+)>?)?  +(\S.*)$", re.MULTILINE)
 PLACED = re.compile(r"[<\[]?\b([A-Z]+)\b[>\]]?")
@@ -27,8 +16,8 @@ SHELLS = ("bash", "zsh")
 
 @dataclasses.dataclass(frozen=True)
 class Option:
-    """An option by its names; what its value is called, empty where none stands behind it; what that
-    can be; and whether the option may stand more than once."""
+    """An option by its names; what its value is called, empty where none stands behind it; what
+    that can be; and whether the option may stand more than once."""
 
     names: Tuple[str, ...]
     value: str
@@ -44,8 +33,7 @@ class Option:
 
 @dataclasses.dataclass(frozen=True)
 class Word:
-    """A word behind `rdbg`: what it is for, its options, and what may stand behind it: files, or
-    these words."""
+    """A word behind `rdbg`: what it is for, its options, and what may stand behind it."""
 
     name: str
     text: str
@@ -54,17 +42,14 @@ class Word:
     choices: Tuple[str, ...] = ()
 
 
-def repeats(action: argparse.Action) -> bool:
-    """Whether an option may stand more than once."""
-    return isinstance(action.default, (list, dict))
-
-
 def option_of(action: argparse.Action) -> Option:
     """An option of a command line that is read here."""
     value = "" if action.nargs == 0 else str(action.metavar or action.dest.upper())
     choices = tuple(map(str, action.choices or ()))
-    names = tuple(action.option_strings)
-    return Option(names, value, (action.help or "").replace("%%", "%"), choices, repeats(action))
+    text = (action.help or "").replace("%%", "%")
+    # (it may stand more than once where it gathers what stands behind it)
+    is_repeated = isinstance(action.default, (list, dict))
+    return Option(tuple(action.option_strings), value, text, choices, is_repeated)
 
 
 def of_parser(name: str, parser: argparse.ArgumentParser) -> Word:
@@ -103,12 +88,9 @@ def words() -> List[Word]:
     known = {it.name for it in found}
     found += filter(None, (companion(name) for name in main.names() if name not in known))
     names = tuple(sorted(it.name for it in found))
-    return sorted([*found, Word("help", "says more of a word", choices=names)], key=by_name)
-
-
-def by_name(word: Word) -> str:
-    """By what words are ordered."""
-    return word.name
+    return sorted(
+        [*found, Word("help", "says more of a word", choices=names)], key=lambda it: it.name
+    )
 
 
 def own() -> Iterator[Option]:

@@ -1,5 +1,4 @@
-"""The moves of a target as few lines that make them anew: what a new program is told to be where
-the old one was."""
+"""The moves of a target as few lines that make them anew, in a new program."""
 import dataclasses
 from typing import List
 
@@ -16,10 +15,6 @@ class Run:
 
     line: str
     count: int = 1
-
-    def text(self) -> str:
-        """The line."""
-        return f"{FORWARD} {self.count}" if self.line == FORWARD else self.line
 
 
 class Journal:
@@ -58,7 +53,8 @@ class Journal:
     def lines(self) -> List[str]:
         """The lines that lead from the start to this place, with the same moves to be made again
         and the same records."""
-        made = [run.text() for run in [*self._done, *reversed(self._undone)]]
+        runs = [*self._done, *reversed(self._undone)]
+        made = [f"{FORWARD} {it.count}" if it.line == FORWARD else it.line for it in runs]
         back = [record.back(self.undone)] if self.undone else []
         return made + back + ([record.trim(self.place - self.base)] if self.base else [])
 

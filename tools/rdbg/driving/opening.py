@@ -4,14 +4,14 @@ import sys
 import threading
 from typing import Iterator, Optional
 
-from rdbg import scratch
-from rdbg.files import source as sources
+from rdbg import own_file
 from rdbg.application import Application
 from rdbg.client import Session
-from rdbg.failure import Failure
-from rdbg.replies import Refused, Unreadable, read
 from rdbg.driving.target import Limits, Target
+from rdbg.failure import Failure
+from rdbg.files import source as sources
 from rdbg.files.source import LINES, Source
+from rdbg.replies import Refused, Unreadable, read
 
 # The application that rdbg has without a file.
 BUILTIN = b"""{"profile": 1, "cores": 1, "queues": [{"name": "q0", "length": 2, "item": 1}],
@@ -50,15 +50,14 @@ def as_read(source: Source) -> Iterator[str]:
         with source.as_json() as path:
             yield path
         return
-    with scratch.folder() as folder:
+    with own_file.folder() as folder:
         made = folder / "application.json"
         made.write_bytes(source.text.encode("utf-8", "replace"))
         yield str(made)
 
 
 def greet(session: Session) -> None:
-    """Waits until a session answers. An empty line is no command, and has no place in the
-    history."""
+    """Waits until a session answers. (An empty line takes no place in the history.)"""
     try:
         reply = session.tell("")
         try:

@@ -2,8 +2,7 @@
 
 On a board a tick is thousands of instructions, so that a wait of 5 ticks isn't over before whoever
 is to end it has made a move. The program's `forward` makes one instruction of each busy core in a
-tick; a run at a pace makes more, by lines `step` and `tick`.
-"""
+tick; a run at a pace makes more, by lines `step` and `tick`."""
 import dataclasses
 import re
 from typing import Dict, Optional, Sequence, Tuple

@@ -42,14 +42,10 @@ class Part:
 
 
 def look_through(target: Target, first: int, last: int) -> Part:
-    """The moves to these places, with the looks, of a target that has come to them or further.
-    Stays where it is."""
+    """The moves to these places, all of which have been made, with the looks. Stays where it is."""
     walk = Walk(target, Interrupt())
-    here = walk.place
-    try:
+    with walk.staying():
         return walk_through(walk, first, last)
-    finally:
-        walk.goto(here)
 
 
 def walk_through(walk: Walk, first: int, last: int) -> Part:

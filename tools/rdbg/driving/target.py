@@ -1,5 +1,4 @@
-"""A session with what is known of its target: names, place, what was done by hand, watches, and what
-was asked."""
+"""A session with what is known of its target: names, place, moves by hand, watches."""
 import contextlib
 import dataclasses
 import functools
@@ -70,7 +69,10 @@ class Target:
         # Counts what can have changed the target, so that a look is known to be new.
         self.changes = 0
         self.echo: Optional[Callable[[str], None]] = None
-        session.on_line = self._seen
+        # Who hears of each line with its reply, once that is known here, and where the target
+        # stood.
+        self.hearing: List[Callable[[str, str, int], None]] = []
+        session.on_line = self._hear
 
     @property
     def is_own(self) -> bool:
@@ -158,6 +160,12 @@ class Target:
         found = self.application.instruction(task, pc) if self.application else None
         return found.text if found else None
 
+    def _hear(self, line: str, reply: str) -> None:
+        before = self.place
+        self._seen(line, reply)
+        for hear in self.hearing:
+            hear(line, reply, before)
+
     def _seen(self, line: str, reply: str) -> None:
         if self.echo is not None:
             self.echo(line)
@@ -183,7 +191,10 @@ class Target:
         elif isinstance(value, replies.Moved):
             self._moved(command, value)
         elif isinstance(value, replies.WatchDone):
-            self._watched(command, value.number)
+            if command.form.word == "watch":
+                self.watches[value.number] = " ".join(command.condition_words())
+            else:
+                self.watches.pop(value.number, None)
         elif isinstance(value, replies.WheelDone):
             self.has_wheel = command.words[1] == "take"
         elif isinstance(value, replies.Moves):
@@ -217,13 +228,6 @@ class Target:
         if word in BY_HAND:
             self.by_hand[at] = ByHand(" ".join(command.words), moved.answer)
         self.place = at
-
-    def _watched(self, command: commands.Command, number: int) -> None:
-        """Keeps account of watches."""
-        if command.form.word == "watch":
-            self.watches[number] = " ".join(command.condition_words())
-        else:
-            self.watches.pop(number, None)
 
     def _learn(self, value: replies.Reply) -> None:
         """Keeps the names that a reply says."""

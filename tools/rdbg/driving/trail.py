@@ -5,10 +5,10 @@ from typing import Callable, Iterator, List, Optional, Sequence, Tuple
 from rdbg import record, replies
 from rdbg.application import Application
 from rdbg.by_hand import could_be
-from rdbg.effects import Move, move_between
-from rdbg.looks import Look, Names
 from rdbg.driving.target import Target, read
 from rdbg.driving.walk import Walk
+from rdbg.effects import Move, move_between
+from rdbg.looks import Look, Names
 
 CHUNK = 64
 # Is told how many of how many were done, and what was done with them.
@@ -46,11 +46,11 @@ def moves(
     """The moves to the places `first` to `last`, and the look at the last, which there must be.
     Stays where it is. Raises `Unable` where the history has too little room, `Interrupted` after
     Ctrl-C."""
-    target, here = walk.target, walk.place
+    target = walk.target
     looked = target.names if names is None else names
     target.afford(lines_for(last - first + 1, looked))
-    walk.goto(first - 1)
-    try:
+    with walk.staying():
+        walk.goto(first - 1)
         found: List[Move] = []
         before = target.look(looked)
         while walk.place < last:
@@ -60,9 +60,7 @@ def moves(
                 before = after
             if progress is not None:
                 progress(len(found), last - first + 1, "looked at")
-        return found, before
-    finally:
-        walk.goto(here)
+    return found, before
 
 
 def rows(found: Sequence[Move]) -> List[str]:
@@ -72,7 +70,7 @@ def rows(found: Sequence[Move]) -> List[str]:
     at = 0
     while at < len(found):
         end = at
-        while end < len(found) and is_bare(found[end]):
+        while end < len(found) and found[end].kind == "tick" and not found[end].effects:
             end += 1
         if end > at + 1:
             first, last = found[at], found[end - 1]
@@ -82,11 +80,6 @@ def rows(found: Sequence[Move]) -> List[str]:
             shown.append(found[at].row(width))
             at += 1
     return shown
-
-
-def is_bare(move: Move) -> bool:
-    """Whether a move is a tick that woke and turned nobody."""
-    return move.kind == "tick" and not move.effects
 
 
 def made(target: Target, moves: Sequence[Move], names: Names) -> Iterator[Tuple[Move, str, Look]]:

@@ -1,7 +1,7 @@
 """Runs and ways back in pieces, so that Ctrl-C can come between two of them."""
 import contextlib
 import time
-from typing import List, Optional, Sequence
+from typing import Iterator, List, Optional, Sequence
 
 from rdbg import commands, record, replies
 from rdbg.replies import Refused
@@ -50,8 +50,7 @@ class Walk:
         return self.target.place
 
     def forward(self, count: int) -> int:
-        """Makes so many moves of a run's choice, or as many as there can be, and answers how many
-        those are."""
+        """Makes so many moves of a run's choice, or as many as there can be; how many those are."""
         start, left = self.place, count
         while left and self._run("forward {}", left) is not None:
             left = count - (self.place - start)
@@ -71,8 +70,7 @@ class Walk:
         return None
 
     def _run(self, form: str, count: int) -> Optional[replies.Moved]:
-        """One piece of a run; a smaller one where it is refused at a wall, none where there is
-        no further move."""
+        """One piece of a run; a smaller one at a wall, none where there is no further move."""
         self.interrupt.check()
         self.target.afford(1)
         piece = self.pace.begin(count)
@@ -106,6 +104,18 @@ class Walk:
             self.target.ask(record.way(self.place, self.place + step), replies.Moved)
             self.pace.end(piece)
 
+    @contextlib.contextmanager
+    def staying(self) -> Iterator[None]:
+        """Ends where it began. Raises `Unable` where no record leads there any more."""
+        here = self.place
+        try:
+            yield
+        except BaseException:
+            self.target.places()  # (a signal may have come before the answer to a move was read)
+            raise
+        finally:
+            self.goto(here)
+
     def reach(self, place: int) -> None:
         """Goes to a place that a run came through from here, or from behind here."""
         if place < self.place:
@@ -126,8 +136,7 @@ class Pieces:
 
     A run in pieces gives what one line would: where a later piece is refused, what the earlier ones
     made is taken back, and the refusal is the answer. What then differs from one line is `is_again`
-    alone: that these moves can be made again.
-    """
+    alone: that these moves can be made again."""
 
     def __init__(self, walk: Walk) -> None:
         self.walk, self.target = walk, walk.target
@@ -150,8 +159,7 @@ class Pieces:
         return self._in_pieces([word], count)[-1]
 
     def _run(self, command: commands.Command, count: int, line: str) -> str:
-        """A run. Where moves were taken back that a run refused as a whole would leave, it is asked
-        in one piece."""
+        """A run; in one piece where moves were taken back that a run refused as a whole leaves."""
         limits = self.target.limits
         fits = limits is None or self.walk.place + count <= limits.moves
         if not self.target.can_afford(2 * count // LEAST_PIECE) or (

@@ -26,8 +26,8 @@ def definition(text: str) -> Tuple[str, int]:
 
 
 def take_definitions(parser: argparse.ArgumentParser) -> None:
-    """Has a command line take consts, as the pairs of `consts`. One that is given twice has its last
-    number, as in C."""
+    """Has a command line take consts, as the pairs of `consts`. One that is given twice has its
+    last number, as in C."""
     parser.add_argument(
         OPTION,
         dest="consts",

@@ -3,20 +3,20 @@ import contextlib
 import dataclasses
 import pathlib
 import sys
-from typing import TYPE_CHECKING, Iterator, List, Mapping, Optional, Sequence, Tuple
+from typing import TYPE_CHECKING, Iterator, Mapping, Optional, Sequence, Tuple
 
-from rdbg import scratch
-from rdbg.application import Application, Interrupt, application
-from rdbg.failure import Failure, trying
-from rdbg.fault import Fault
+from rdbg import own_file
+from rdbg.application import Application, Instruction, Interrupt, Task, application
 from rdbg.checking.faults import faults_of
+from rdbg.failure import Failure, trying
 from rdbg.from_c.lines import ENDING, code_below, in_lines
 from rdbg.json_layout import MOST_BYTES, json_of
-from rdbg.tree import Node, Object
+from rdbg.tree import Fault, Node, Object
 from rdbg.wording import counted
 
 if TYPE_CHECKING:
     from rdbg.firmware.reader import Named
+
 
 # A text in lines, or a C source in whose comments the lines stand.
 LINES = (".fw", ENDING)
@@ -51,10 +51,6 @@ class Source:
         named = f" as {kind}" if kind[1:2].isdigit() else ""
         return f"is refused{named}: {count}, as `./rdbg check {self.path}` says"
 
-    def lines(self) -> List[str]:
-        """The lines of the text."""
-        return self.text.split("\n")
-
     def named(self) -> Optional["Named"]:
         """What an accepted text in lines names besides tasks and objects; none of a JSON."""
         if not self.path.endswith(LINES):
@@ -65,13 +61,12 @@ class Source:
 
     @contextlib.contextmanager
     def as_json(self) -> Iterator[str]:
-        """The path of a JSON file of an accepted application: the file itself, or one that is made
-        for as long."""
+        """The path of a JSON of an accepted application: the file, or one made for as long."""
         if not self.path.endswith(LINES):
             yield self.path
             return
         assert self.application is not None
-        with scratch.folder() as folder:
+        with own_file.folder() as folder:
             made = folder / "application.json"
             made.write_text(json_of(self.application))
             yield str(made)
@@ -131,8 +126,6 @@ def source(path: str, content: bytes, given: Optional[Given] = None) -> Source:
     said = application(value) if isinstance(value, Object) else None
     shown = content.decode("utf-8", "replace")
     if said is not None and (comments or interrupts):
-        from rdbg.firmware.comments import with_comments
-
         below = code_below(shown) if path.endswith(ENDING) else {}
         said = dataclasses.replace(with_comments(said, comments, below), interrupts=interrupts)
     return Source(
@@ -148,8 +141,8 @@ def source(path: str, content: bytes, given: Optional[Given] = None) -> Source:
 
 
 def lines_in(path: str, content: bytes) -> bytes:
-    """The lines of a file: those of a C source, which stand there where they stand in it. One that is
-    too long is left as it is, and is refused for it."""
+    """The lines of a file: those of a C source, which stand there where they stand in it. One that
+    is too long is left as it is, and is refused for it."""
     if not path.endswith(ENDING) or len(content) > MOST_BYTES:
         return content
     return in_lines(content.decode("utf-8", "replace")).encode()
@@ -159,3 +152,27 @@ def check_none(given: Optional[Given]) -> None:
     """Raises `Failure` where consts are given for a JSON, which has none."""
     for name in given or {}:
         raise Failure(f"-D {name}: a JSON has no consts; a text in lines (.fw) has", 2)
+
+
+def with_comments(
+    application: Application, comments: Mapping[int, str], below: Mapping[int, str]
+) -> Application:
+    """The application with the comments of each line at its first instruction, or else what is
+    `below` it, and there those of the lines above it, up to the one before it or to the task's own
+    line, which is among them."""
+    pairs = ((it, tuple(put(it, comments, below))) for it in application.tasks)
+    tasks = tuple(dataclasses.replace(task, code=code) for task, code in pairs)
+    return dataclasses.replace(application, tasks=tasks)
+
+
+def put(task: Task, comments: Mapping[int, str], below: Mapping[int, str]) -> Iterator[Instruction]:
+    """The instructions of a task with their comments."""
+    last = task.place.line - 1
+    for it in task.code:
+        line = it.place.line
+        if it.begins:
+            above = tuple(comments[at] for at in range(last + 1, line) if at in comments)
+            said = comments.get(line, below.get(line, ""))
+            it = dataclasses.replace(it, above=above, beside=said)
+        yield it
+        last = max(last, line)

@@ -1,8 +1,7 @@
 """Lines of a script that aren't instructions: `loop`, `while`, `if`, `else`, `end`, `break`.
 
-A block begins with `loop`, `while TEST` or `if TEST`, and ends with `end`. Where none is open, `end`
-is the instruction that ends the task, which inside of one is written `end task`.
-"""
+A block begins with `loop`, `while TEST` or `if TEST`, and ends with `end`. Where none is open,
+`end` is the instruction that ends the task, which inside of one is written `end task`."""
 import dataclasses
 from typing import TYPE_CHECKING, Callable, Dict, List, Optional, Sequence, Tuple
 

@@ -1,11 +1,10 @@
 """What `if` and `while` look at, and the instructions that go on elsewhere by it.
 
-A script has one test, `jumpz`, of a register that is 0 or isn't. Another number is compared by taking
-it away from a copy, and bits are looked at by a notification entry of the task's own: the value is
-put there, all other bits are cleared, and what is left is taken. The texts of instructions have
-`{spare}` for a register and `{entry}` for an entry that the task doesn't use, `{own}` for the task
-itself, `{target}` for where they jump, and `{here[N]}` for the Nth of them.
-"""
+A script has one test, `jumpz`, of a register that is 0 or isn't. Another number is compared by
+taking it away from a copy, and bits are looked at by a notification entry of the task's own: the
+value is put there, all other bits are cleared, and what is left is taken. The texts of instructions
+have `{spare}` for a register and `{entry}` for an entry that the task doesn't use, `{own}` for the
+task itself, `{target}` for where they jump, and `{here[N]}` for the Nth of them."""
 import dataclasses
 import re
 from typing import List, Optional, Sequence, Tuple
@@ -32,8 +31,8 @@ ONE_OF = "r0 to r7, what it is compared with, or its bits: r0, !r0, r0 = 7, r0 !
 
 @dataclasses.dataclass(frozen=True)
 class Jump:
-    """Instructions that jump to their target or go on behind them, and how many moves it takes until
-    they have gone on, and until they have jumped."""
+    """Instructions that jump to their target or go on behind them, and how many moves it takes
+    until they have gone on, and until they have jumped."""
 
     texts: Tuple[str, ...]
     goes_on: int
@@ -153,8 +152,7 @@ class Tests:
                 raise Refusal(token.place, "this ( isn't closed")
             return found
         if not re.fullmatch(REGISTER, token.text):
-            message = f"{shown(token.text)} can't be looked at: {ONE_OF}"
-            raise Refusal(token.place, message)
+            raise Refusal(token.place, f"{shown(token.text)} can't be looked at: {ONE_OF}")
         return Test(token.text, 0, is_turned=True)
 
     def _compared(self, left: Test, behind: int) -> Test:

@@ -1,20 +1,92 @@
-"""The scripts of a text in lines: each instruction as rdbg reads it, with numbers for labels."""
+"""The scripts of a text in lines: each instruction as rdbg reads it, with numbers for labels. And
+the registers that a task leaves free."""
 import dataclasses
 import re
-from typing import Container, Dict, Iterator, List, Mapping, Optional, Sequence, Tuple, Union
+from typing import (
+    Container,
+    Dict,
+    Iterable,
+    Iterator,
+    List,
+    Mapping,
+    Optional,
+    Sequence,
+    Set,
+    Tuple,
+    Union,
+)
 
-from rdbg.fault import Fault
+from rdbg.digits import is_digits
 from rdbg.firmware import waits
 from rdbg.firmware.blocks import WORDS, Blocks, Mark
 from rdbg.firmware.branches import Test
 from rdbg.firmware.numbers import NAME, Kept, near_to
 from rdbg.firmware.operands import Operand, Operands, as_written, made
 from rdbg.firmware.semaphores import Semaphore, why_not
-from rdbg.firmware.spare import Spare, Uses
 from rdbg.firmware.tokens import Refusal, Stop, Token, shown, written
-from rdbg.instructions import FORM_OF
-from rdbg.tree import Node, Part, Place, Places
+from rdbg.instructions import FORM_OF, WRITES_R1
+from rdbg.operands import PATTERN_OF
+from rdbg.tree import Fault, Member, Node, Object, Part, Place, Places
 from rdbg.wording import quoted
+
+# The registers that a line can have, the first one first.
+REGISTERS = ("r7", "r6", "r5", "r4", "r3", "r2", "r1")
+# Calls of an entry of one's own, of one of any task, and those that wait by entry 0.
+OWN, OF_ANY = ("take", "nwait"), ("notify", "query", "nclear", "vclear")
+BY_ENTRY_0 = ("sread", "swrite", "mread", "mwrite")
+
+
+@dataclasses.dataclass(frozen=True)
+class Spare:
+    """A register and two notification entries that a task doesn't use, one to look at bits, and one
+    at which it waits (`ending`); none where all are used."""
+
+    register: Optional[str]
+    entry: Optional[int]
+    ending: Optional[int] = None
+
+
+class Uses:
+    """What instructions use: registers, entries of their own task, and entries of tasks by name."""
+
+    def __init__(self) -> None:
+        self.registers: Set[str] = {"r0"}
+        self.entries: Set[int] = set()
+        self.told: Set[Tuple[str, int]] = set()
+
+    def add(self, words: Sequence[str]) -> None:
+        """Takes note of an instruction."""
+        form = FORM_OF.get(words[0])
+        if form is None:
+            return
+        for symbol, word in zip(form.symbols, words[1:]):
+            if symbol in ("R", "V", "T") and PATTERN_OF["R"].fullmatch(word):
+                self.registers.add(word)
+        if words[0] in WRITES_R1:
+            self.registers.add("r1")
+        if words[0] in BY_ENTRY_0:
+            self.entries.add(0)
+        if words[0] in OWN and words[1:] and is_digits(words[1]):
+            self.entries.add(int(words[1]))
+        self.tell(words)
+
+    def tell(self, words: Sequence[str]) -> None:
+        """Takes note of a call of an entry of any task, of an interrupt too."""
+        if words[0] in OF_ANY and words[2:] and is_digits(words[2]):
+            self.told.add((words[1], int(words[2])))
+
+
+def spare(
+    names: Sequence[str], own: Uses, all_uses: Iterable[Uses], entries: int, has_waits: bool
+) -> Spare:
+    """What tasks of these names, which have one script, don't use, of so many entries each, where
+    some lines wait at one or none does."""
+    told = {entry for uses in all_uses for name, entry in uses.told if name in names}
+    free = (it for it in reversed(range(entries)) if it not in own.entries | told)
+    register = next((it for it in REGISTERS if it not in own.registers), None)
+    ending = next(free, None) if has_waits else None
+    return Spare(register, next(free, None), ending)
+
 
 # So many instructions of a script are read; fewer are too many already.
 MOST_READ = 1000
@@ -237,8 +309,7 @@ class Script:
     def _operands(self, tokens: Sequence[Token], found: List[Refusal]) -> List[Operand]:
         """The operands of an instruction; what is too much as it is written."""
         symbols = FORM_OF[tokens[0].text].symbols
-        kept = Kept(self.kept.constants, found)
-        reader = Operands(without_parentheses(tokens[1:]), kept)
+        reader = Operands(without_parentheses(tokens[1:]), Kept(self.kept.constants, found))
         operands: List[Operand] = []
         while reader.next() is not None:
             at, count = reader.at, len(operands)
@@ -288,13 +359,15 @@ class Script:
                 self.refusals.append(self._told(refusal, at, line.tokens))
 
     def remarks(self, spare: Spare, names: Sequence[str]) -> Iterator[Fault]:
-        """What there is to say of lines that look at bits, and of waits whose end is chosen, of tasks
-        of these names."""
+        """What there is to say of lines that look at bits, and of waits whose end is chosen, of
+        tasks of these names. Nothing is said of one that is refused."""
         for _, line in self._lines:
-            if isinstance(line, Several) and line.needs_ending:
+            if not isinstance(line, Several) or line.lacks(spare):
+                continue
+            if line.needs_ending:
                 ends = [f"{name}{waits.NAME_END}" for name in names]
                 yield Fault(line.tokens[0].place, "", waits.remark(line.cost, ends))
-            if isinstance(line, Several) and line.needs_entry:
+            if line.needs_entry:
                 by = f"entry {spare.entry} and {spare.register}"
                 text = f"note: {line.cost}, by {by}; r0 is another in between, and then as before"
                 yield Fault(line.tokens[0].place, "", text)
@@ -344,3 +417,43 @@ class Script:
         message = f"there is no label {shown(name)}{hint}"
         self.refusals.append(self._told(Refusal(label.place, message, "L5 Instr"), index, tokens))
         return part
+
+
+@dataclasses.dataclass(frozen=True)
+class Thing:
+    """An object or a task: its first word, its keys with their values, and a task's script, which
+    several have where there is a count."""
+
+    word: Token
+    members: Tuple[Member, ...]
+    script: Optional[Script] = None
+    count: Optional[int] = None
+
+    def name(self) -> str:
+        """Its name; empty where there is none."""
+        return next((str(it.node.value) for it in self.members if it.key == "name"), "")
+
+    def names(self) -> Tuple[str, ...]:
+        """The names of the tasks or the object that it is."""
+        numbers = [""] if self.count is None else [str(it) for it in range(self.count)]
+        return tuple(self.name() + number for number in numbers)
+
+    def nodes(self, spare: Spare) -> Iterator[Node]:
+        """The thing, or the tasks that it is, as parts of the tree, by what its script leaves."""
+        for name in self.names():
+            members = [it if it.key != "name" else renamed(it, name) for it in self.members]
+            if self.script is not None:
+                code = Node(self.script.nodes(name, spare), self.word.place)
+                members.append(Member("code", self.word.place, code))
+            yield Node(Object(tuple(members)), self.word.place)
+
+
+def renamed(member: Member, name: str) -> Member:
+    """The name of a thing, or of one of several tasks."""
+    node = member.node
+    if node.value == name:
+        return member
+    columns = [node.place.column] * len(name)
+    return dataclasses.replace(
+        member, node=Node(name, node.place, Places(node.place.line, columns))
+    )

@@ -26,10 +26,6 @@ class Call:
     words: Tuple[str, ...]
     tokens: Tuple[Token, ...]
 
-    def text(self) -> str:
-        """It as rdbg reads it behind `isr`."""
-        return " ".join(self.words)
-
 
 @dataclasses.dataclass(frozen=True)
 class Read:
@@ -44,7 +40,7 @@ class Read:
     def interrupt(self) -> Interrupt:
         """It without the places of its words."""
         after = self.after.text if self.after else None
-        calls = tuple(call.text() for call in self.calls)
+        calls = tuple(" ".join(call.words) for call in self.calls)
         return Interrupt(self.name.text, calls, self.times, after, self.apart)
 
 

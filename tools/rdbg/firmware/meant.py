@@ -1,21 +1,19 @@
 """What a line was meant to be that begins with no word that lines begin with.
 
 Such a line is refused. The names that it gives are kept all the same, so that the lines that use
-them aren't refused as well.
-"""
+them aren't refused as well."""
 import re
 from typing import Container, Iterator, Optional, Sequence, Set, Tuple
 
+from rdbg.checking.freertos import called, sentence
+from rdbg.checking.slips import statement
 from rdbg.firmware import blocks
 from rdbg.firmware.numbers import LONGEST, NAME, near_to
 from rdbg.firmware.objects import OBJECTS, SETTINGS, form_of
 from rdbg.firmware.semaphores import FORMS, GIVE, MUTEX, Semaphore
 from rdbg.firmware.tokens import Token, shown
-from rdbg.checking.freertos import called, sentence
 from rdbg.instructions import FORM_OF
-from rdbg.near import nearest
-from rdbg.checking.statements import statement
-from rdbg.wording import by_word
+from rdbg.wording import by_word, nearest
 
 FIRST_WORDS = (
     *FORM_OF,
@@ -80,8 +78,7 @@ def is_label(tokens: Sequence[Token], targets: Set[str]) -> bool:
 
 
 def object_of(tokens: Sequence[Token]) -> Tuple[str, Optional[Token]]:
-    """The word of the object that a line was meant to give, and its name; an empty word where it
-    gives none."""
+    """The word of the object that a line was meant to give, and its name; empty for none."""
     while STORAGE.fullmatch(tokens[0].text) and len(tokens) > 1:
         tokens = tokens[1:]
     tokens = tokens[:MOST_TOKENS]
@@ -106,15 +103,13 @@ def semaphores_of(
 ) -> Iterator[Tuple[str, Semaphore]]:
     """Those that lines were meant to give, by their names, beside those that are known."""
     for tokens in lines:
-        small = tokens[0].text.lower()
-        word, name = object_of(tokens) if small in SEMAPHORES else ("", None)
+        word, name = object_of(tokens) if tokens[0].text.lower() in SEMAPHORES else ("", None)
         if name is not None and word == MUTEX and name.text not in known:
             yield name.text, Semaphore(tokens[0], name.text, 1, True)
 
 
 def near_object(word: str, others: Sequence[str]) -> str:
-    """The word of an object's line that is near to another, where its keys stand behind it; else
-    an empty word."""
+    """The word of an object's line that is near to another, if its keys stand behind it."""
     near = nearest(word[:LONGEST], FIRST_WORDS) or ""
     keys = OBJECTS[near].names()[1:] if near in OBJECTS else ()
     has_keys = any(nearest(other[:LONGEST], keys) for other in others[:6]) if keys else not others

@@ -2,11 +2,11 @@
 import re
 from typing import Dict, Iterable, List, Mapping, NamedTuple, Optional, Sequence, Set
 
-from rdbg.firmware.tokens import Refusal, Token, shown
-from rdbg.near import nearest
-from rdbg.operands import Scope
 from rdbg.checking.slips import slip
+from rdbg.firmware.tokens import Refusal, Token, shown
+from rdbg.operands import Scope
 from rdbg.tree import Place
+from rdbg.wording import nearest
 
 LARGEST = 0xFFFF_FFFF
 # (parentheses within parentheses)

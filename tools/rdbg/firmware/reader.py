@@ -1,26 +1,22 @@
 """An application in lines (`.fw`), as the tree of the JSON with the places of what is written.
 
 docs/FORMATS.md has the grammar. What it refuses is a fault of its own; what else can be wrong is
-found in the tree, as in that of a JSON (`rdbg.checking.faults`).
-"""
+found in the tree, as in that of a JSON (`rdbg.checking.faults`)."""
 import dataclasses
 import re
 from typing import Dict, List, Mapping, NamedTuple, Optional, Sequence, Set, Tuple
 
-from rdbg.fault import Fault
+from rdbg.application import Interrupt
 from rdbg.checking.faults import faults_of
 from rdbg.failure import Failure
-from rdbg.application import Interrupt
 from rdbg.firmware import blocks, interrupts, meant, semaphores, waits
-from rdbg.firmware.code import MOST_READ, Script, without_parentheses
+from rdbg.firmware.code import MOST_READ, Script, Spare, Thing, Uses, spare, without_parentheses
 from rdbg.firmware.numbers import Constants, Kept, Numbers, near_to
 from rdbg.firmware.objects import OBJECTS, SETTINGS, ObjectLine, form_of, number_of
-from rdbg.firmware.spare import Spare, Uses, spare
-from rdbg.firmware.things import Thing
 from rdbg.firmware.tokens import MOST_TOKENS, Refusal, Scanner, Stop, Token, decoded, shown, written
 from rdbg.instructions import FORM_OF
 from rdbg.shapes import FILE
-from rdbg.tree import Member, Node, Number, Object, Place
+from rdbg.tree import Fault, Member, Node, Number, Object, Place
 
 # The rest of a text isn't read behind so many lines or so many refusals.
 MOST_LINES = 20_000
@@ -65,11 +61,6 @@ class Reader:
         # (what lines name that are refused; words that are jumped to)
         self._meant: List[Thing] = []
         self._targets: Set[str] = set()
-
-    @property
-    def doubtful(self) -> Set[int]:
-        """The lines with a number that is refused where it has its name."""
-        return self.constants.doubtful
 
     def read(self, text: str) -> Optional[Node]:
         """The tree of a text, as far as it can be read; none where the rest of it isn't read. The
@@ -129,16 +120,12 @@ class Reader:
             at += 2
         self._check(tokens, at)
         for token in tokens[:at:2]:
-            self._label(token)
+            try:
+                self._script_of(token).label(token)
+            except Refusal as refusal:
+                self.refusals.append(refusal)
         if tokens[at:]:
             self._said(tokens[at:])
-
-    def _label(self, token: Token) -> None:
-        """Reads a label; what stands behind it is read whatever it is."""
-        try:
-            self._script_of(token).label(token)
-        except Refusal as refusal:
-            self.refusals.append(refusal)
 
     def _check(self, tokens: Sequence[Token], at: int) -> None:
         """Refuses what can't stand in any line. An instruction counts all the same."""
@@ -204,7 +191,7 @@ class Reader:
             raise
 
     def _check_never(self) -> None:
-        """Makes the queue from which waits receive, where there is none, and refuses what fills it."""
+        """Makes the queue that waits receive from, if it isn't there, and refuses what fills it."""
         if self._waits is None:
             return
         named = [it for it in self._things["queue"] if it.name() == waits.NEVER]
@@ -235,15 +222,6 @@ class Reader:
             self.remarks.append(Fault(place, "", text))
         self._things["queue"].append(Thing(tokens[0], line.members))
 
-    def _interrupt(self, tokens: Sequence[Token]) -> None:
-        """A line of an interrupt. The name of one that is refused is there all the same."""
-        try:
-            line = interrupts.InterruptLine(tokens, self._kept, self._semaphores)
-            self._interrupts.append(line.read())
-        except Refusal:
-            self._refused_interrupts += [token.text for token in tokens[1:2]]
-            raise
-
     def _structure(self, tokens: Sequence[Token]) -> None:
         """Reads a line that is no instruction."""
         word = tokens[0].text
@@ -254,7 +232,12 @@ class Reader:
         elif word in semaphores.FORMS:
             self._semaphore(tokens)
         elif word == interrupts.WORD:
-            self._interrupt(tokens)
+            try:
+                line = interrupts.InterruptLine(tokens, self._kept, self._semaphores)
+                self._interrupts.append(line.read())
+            except Refusal:
+                self._refused_interrupts += [token.text for token in tokens[1:2]]
+                raise
         elif word in OBJECTS:
             self._thing(tokens)
         else:
@@ -388,8 +371,7 @@ class Reader:
         tasks, queues = (
             [name for thing in things[word] for name in thing.names()] for word in things
         )
-        refused = self._refused_interrupts
-        names = interrupts.Names(tasks, queues, self._entries(), refused)
+        names = interrupts.Names(tasks, queues, self._entries(), self._refused_interrupts)
         for at, it in enumerate(self._interrupts):
             self.refusals += names.faults(it, self._interrupts[:at])
         profile = self._numbers.get("profile")
@@ -489,9 +471,9 @@ def named(text: str, given: Mapping[str, int]) -> Named:
 
 @dataclasses.dataclass(frozen=True)
 class Text:
-    """What a text says: its tree, none where it can't be read to its end, what is wrong with it, what
-    there is to remark, what lines of objects become, the comments of each line, and the interrupts
-    that may come."""
+    """What a text says: its tree, none where it can't be read to its end, what is wrong with it,
+    what there is to remark, what lines of objects become, the comments of each line, and the
+    interrupts that may come."""
 
     root: Optional[Node]
     faults: Tuple[Fault, ...]
@@ -503,32 +485,28 @@ class Text:
 
 def read(content: bytes, given: Mapping[str, int]) -> Text:
     """Reads a text, whose consts of these names are these numbers. Where anything is refused of it,
-    what else is wrong in other lines is among its faults, but for those with a number that is refused
-    where it has its name. Raises `Failure` where the text is too long, or where no line has a const
-    that is given."""
+    what else is wrong in other lines is among its faults, but for those with a number that is
+    refused where it has its name. Raises `Failure` where the text is too long, or where no line has
+    a const that is given."""
     reader = Reader(given)
     try:
         root = reader.read(decoded(content))
     except Refusal as refusal:
         reader.refusals.append(refusal)
         root = None
-    check_given(reader)
+    idle = min(reader.constants.idle, default=None)
+    if idle is not None:
+        near = near_to(idle, reader.constants.named)
+        raise Failure(f"-D {idle}: no line has a const {idle}{near}", 2)
     faults = [Fault(it.place, it.kind, it.message) for it in reader.refusals]
     others = [] if root is None else once(faults_of(root), reader.several())
     if faults:
-        lines = reader.doubtful | {fault.place.line for fault in faults}
+        lines = reader.constants.doubtful | {fault.place.line for fault in faults}
         others = [fault for fault in others if fault.place.line not in lines]
         others = sorted([*faults, *others], key=lambda fault: fault.place)
     remarks = sorted(reader.remarks, key=lambda it: it.place)
     made, may_come = tuple(reader.made), reader.interrupts()
     return Text(root, tuple(others), tuple(remarks), made, reader.comments, may_come)
-
-
-def check_given(reader: Reader) -> None:
-    """Raises `Failure` where a const is given that no line has."""
-    for name in sorted(reader.constants.idle):
-        near = near_to(name, reader.constants.named)
-        raise Failure(f"-D {name}: no line has a const {name}{near}", 2)
 
 
 def once(faults: Sequence[Fault], several: Set[int]) -> List[Fault]:

@@ -2,8 +2,7 @@
 
 A semaphore that is there at the start by nobody's giving can't be a queue with items, since a queue
 is empty at boot. So what is given then is a queue of what is taken: an item stands in it as long as
-somebody has it. Else an item is what can be taken.
-"""
+somebody has it. Else an item is what can be taken."""
 import dataclasses
 from typing import Dict, Mapping, Optional, Sequence, Tuple
 
@@ -26,8 +25,7 @@ NO_INHERITANCE = "no priority inheritance, and nobody owns it"
 
 @dataclasses.dataclass(frozen=True)
 class Semaphore:
-    """A semaphore or a mutex: what it is, its name, how often it can be taken, and whether it is
-    given at the start."""
+    """A semaphore or a mutex: its word, its name, its length, and whether it is given at first."""
 
     word: Token
     name: str
@@ -39,20 +37,12 @@ class Semaphore:
         full = "an item while it is taken" if self.is_given else "an item where it can be taken"
         return f"queue {self.name} length {self.length} item 1, with {full}"
 
-    def takes(self, time: str) -> str:
-        """The instruction that takes it."""
-        return f"{'send' if self.is_given else 'recv'} {self.name} {time}"
-
     def gives(self) -> str:
         """The instruction that gives it. One that is a queue of what is taken loses the one item
         that it can have, and the task's data stays; of more than one it takes one out."""
         if not self.is_given:
             return f"send {self.name} 0"
         return f"qreset {self.name}" if self.length == 1 else f"recv {self.name} 0"
-
-    def counts(self) -> str:
-        """The instruction that counts how often it can be taken."""
-        return f"{'spaces' if self.is_given else 'count'} {self.name}"
 
 
 class SemaphoreLine:
@@ -118,13 +108,13 @@ def instruction(
     reader = Operands(tokens[2:], kept)
     if word != TAKE:
         reader.end(f"{word} NAME")
-        return it.gives() if word == GIVE else it.counts()
+        return it.gives() if word == GIVE else f"{'spaces' if it.is_given else 'count'} {it.name}"
     if reader.next() is None:
         choices = KIND_OF["T"].choices
         raise Refusal(tokens[0].place, f"take NAME T lacks its block time ({choices})")
     time = reader.time().text
     reader.end("take NAME T")
-    return it.takes(time)
+    return f"{'send' if it.is_given else 'recv'} {it.name} {time}"
 
 
 def why_not(word: str, name: str, known: Mapping[str, Semaphore]) -> str:

@@ -1,9 +1,8 @@
 """`wait N` and `wait M..N`: a delay, and one whose end the search chooses.
 
-A delay is a receive from a queue that nobody fills. One of 3 to 100 ticks is a delay of 3, and then a
-wait of up to 97 more at a notification entry of the task's own, which an interrupt of its own may end
-at any time. Where that comes before, the wait takes its 3 ticks.
-"""
+A delay is a receive from a queue that nobody fills. One of 3 to 100 ticks is a delay of 3, and then
+a wait of up to 97 more at a notification entry of the task's own, which an interrupt of its own may
+end at any time. Where that comes before, the wait takes its 3 ticks."""
 from typing import Sequence, Tuple
 
 from rdbg.application import ANY, Interrupt
@@ -38,8 +37,7 @@ def between(token: Token, kept: Kept) -> Tuple[Tuple[str, ...], str]:
     first, _, last = token.text.partition(BETWEEN)
     known = len(kept.refusals)
     least = number(first, token, 0, kept)
-    at = len(first) + len(BETWEEN)
-    most = LARGEST if last == "max" else number(last, token, at, kept)
+    most = LARGEST if last == "max" else number(last, token, len(first) + len(BETWEEN), kept)
     if most <= least and len(kept.refusals) == known:
         message = f"{shown(token.text)} has no end to choose: the second number is the larger one"
         raise Refusal(token.place, message)

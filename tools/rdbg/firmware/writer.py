@@ -1,14 +1,94 @@
 """The text in lines (`.fw`) of an application: what `rdbg.firmware` reads, written to be read."""
+import dataclasses
+import re
 from typing import Any, Callable, Dict, Iterator, List, Optional, Sequence, Tuple
 
 from rdbg.application import Application, Instruction, Task
 from rdbg.digits import is_digits
-from rdbg.json_layout import pairs, settings
+from rdbg.firmware.branches import Test
 from rdbg.firmware.numbers import FOREVER, LARGEST
 from rdbg.firmware.objects import OBJECTS
-from rdbg.firmware.recognized import if_at
 from rdbg.instructions import FORM_OF
+from rdbg.json_layout import pairs, settings
 from rdbg.shapes import FILE
+
+JUMPS = ("jump", "jumpz")
+TARGET = re.compile(r"\{target\}")
+
+
+@dataclasses.dataclass(frozen=True)
+class FoundIf:
+    """An `if` of so many instructions, that jumps to one by its number."""
+
+    test: Test
+    length: int
+    target: int
+
+
+def text_of_test(test: Test) -> str:
+    """A test as it is written."""
+    sign = "!=" if test.is_turned else "="
+    if test.mask is None:
+        return f"{test.register} {sign} {test.number}"
+    looked = f"{test.register} & {test.mask:#x}"
+    if test.number:
+        return f"({looked}) {sign} {test.number:#x}"
+    return looked if test.is_turned else f"!({looked})"
+
+
+def jumped_into(code: Sequence[str]) -> Dict[int, List[int]]:
+    """The instructions that are jumped to, by their numbers, each with those that jump there."""
+    found: Dict[int, List[int]] = {}
+    for number, words in enumerate(text.split(" ") for text in code):
+        if words[0] in JUMPS and is_digits(words[-1]):
+            found.setdefault(int(words[-1]), []).append(number)
+    return found
+
+
+def tests_at(code: Sequence[str], at: int) -> Iterator[Tuple[Test, str, str]]:
+    """What an `if` that begins here may look at, its register and its entry of the task's own."""
+    words = [text.split(" ") for text in code[at : at + 5]]
+    if len(words) < 3 or words[0][0] != "move":
+        return
+    spare = words[0][1]
+    for is_turned in (False, True):
+        if words[1][:2] == ["add", spare]:
+            yield Test(words[0][2], -int(words[1][2]) & LARGEST, None, is_turned), spare, ""
+        elif words[1][0] == "notify" and words[2][0] == "vclear" and is_digits(words[2][3]):
+            mask, register = ~int(words[2][3]) & LARGEST, words[1][3]
+            tests = [Test(register, 0, mask, is_turned)]
+            if words[4:] and words[4][:2] == ["add", "r0"]:
+                tests.append(Test(register, -int(words[4][2]) & LARGEST, mask, is_turned))
+            yield from ((test, spare, words[1][2]) for test in tests)
+
+
+def target_of(template: str, text: str) -> Optional[int]:
+    """The target that an instruction has where its template has one."""
+    pattern = TARGET.sub("([0-9]+)", re.escape(template).replace(r"\{target\}", "{target}"))
+    found = re.fullmatch(pattern, text)
+    return int(found[1]) if found else None
+
+
+def if_at(code: Sequence[str], at: int, own: str) -> Optional[FoundIf]:
+    """The `if` that begins with an instruction, into whose middle nothing jumps, or none."""
+    into = jumped_into(code)
+    longest: Optional[FoundIf] = None
+    for test, spare, entry in tests_at(code, at):
+        templates = test.jump().texts
+        end = at + len(templates)
+        here = range(at, end + 1)
+        values = {"spare": spare, "entry": entry, "own": own, "here": here, "target": "{target}"}
+        texts = [template.format(**values) for template in templates]
+        targets = [target_of(*pair) for pair in zip(texts, code[at:end]) if "{" in pair[0]]
+        plain = [pair for pair in zip(texts, code[at:end]) if "{" not in pair[0]]
+        is_alone = all(at <= it < end for to in range(at + 1, end) for it in into.get(to, ()))
+        if end <= len(code) and is_alone and all(a == b for a, b in plain):
+            is_found = len(targets) == 1 and targets[0] is not None
+            if is_found and (longest is None or longest.length < len(templates)):
+                assert targets[0] is not None
+                longest = FoundIf(test, len(templates), targets[0])
+    return longest
+
 
 INDENT = "    "
 # The profile of a text that says nothing of it.
@@ -76,7 +156,7 @@ def lines_of(task: Task, has_ifs: bool) -> List[Line]:
     while at < len(code):
         several = if_at(code, at, task.name) if has_ifs else None
         if several is not None:
-            text = several.text(label(str(several.target)))
+            text = f"if {text_of_test(several.test)} goto {label(str(several.target))}"
             found.append((at, text, several.target))
             at += several.length
             continue
@@ -111,7 +191,7 @@ def task_blocks(app: Application, is_plain: bool) -> Iterator[List[str]]:
 
 
 def counted(left: Sequence[Tuple[Task, List[str]]]) -> int:
-    """How many tasks at the front have one script, a priority, and names that are counted from 0."""
+    """How many tasks at the front have one script and priority, and names counted from 0."""
     first, script = left[0]
     count = 0
     while first.name.endswith("0") and count < len(left):

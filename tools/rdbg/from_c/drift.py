@@ -1,15 +1,172 @@
 """Where the C of a firmware and the model in its comments have gone apart."""
-from typing import Dict, Iterator, List, Mapping, NamedTuple, Optional, Sequence, Set
+import pathlib
+import re
+from typing import (
+    Dict,
+    Iterable,
+    Iterator,
+    List,
+    Mapping,
+    NamedTuple,
+    Optional,
+    Sequence,
+    Set,
+    Tuple,
+)
 
-from rdbg.fault import Fault
-from rdbg.from_c.calls import TEMPLATES, Block, Call, blocks, calls_in, made_by
-from rdbg.from_c.comparing import Comparing, Model, fault
-from rdbg.from_c.headers import of_headers
-from rdbg.from_c.lexer import pieces
+from rdbg.from_c.calls import CHOICES, TEMPLATES, Block, Call, Operand, blocks, calls_in, made_by
+from rdbg.from_c.lexer import DIRECTIVE, Piece, pieces
 from rdbg.from_c.lines import SKIP, Line, lines_of, rows_alone
-from rdbg.from_c.said import Said, first_of, said, shown
-from rdbg.from_c.values import defined
-from rdbg.tree import Place
+from rdbg.from_c.said import (
+    Said,
+    Value,
+    defined,
+    first_of,
+    is_name,
+    said,
+    shown,
+    value_of,
+    values,
+)
+from rdbg.json_layout import MOST_BYTES
+from rdbg.operands import PATTERN_OF
+from rdbg.tree import Fault, Place
+
+DRIFT = "drift"
+NOUN = {"Q": "object", "K": "task", "T": "block time", "V": "number"}
+# The own task, which a script names.
+OWN = "NULL"
+HANDLE = re.compile(r"[&*()]+")
+
+
+class Model(NamedTuple):
+    """What the model of a source names: things, and numbers; and numbers of the C."""
+
+    names: Set[str]
+    known: Mapping[str, int]
+    of_c: Mapping[str, int]
+
+
+def fault(place: Place, message: str) -> Fault:
+    """What is told at a place."""
+    return Fault(place, DRIFT, message)
+
+
+def handle(text: str) -> str:
+    """What C calls a thing, without what it is reached by."""
+    return HANDLE.sub("", text).replace(" ", "")
+
+
+class Comparing:
+    """Holds the lines of a function against its calls."""
+
+    def __init__(self, model: Model) -> None:
+        self._model = model
+        # (what C calls each thing, with the thing's name and the line that says so)
+        self._handles: Dict[str, Tuple[str, int]] = {}
+
+    def would_be(self, call: Call) -> str:
+        """The line that a call would have."""
+        form = TEMPLATES[call.name][0]
+        parts = [form.word]
+        for it in form.operands:
+            text = call.argument(it.argument)
+            named = self._handles.get(handle(text))
+            choice = CHOICES.get(it.kind, {}).get(text)
+            plain = handle(text) if is_name(it.kind) else text
+            parts.append(it.fixed or choice or (named[0] if named else plain) or it.kind)
+        return " ".join(parts)
+
+    def judge(self, line: Said, call: Call) -> Iterator[Fault]:
+        """Where the line of a call of FreeRTOS says something else; what it names stands for that
+        from there on."""
+        yield from self.faults(line, call)
+        for operand, value in self._pairs(line, call):
+            if is_name(operand.kind):
+                text = handle(call.argument(operand.argument))
+                self._handles.setdefault(text, (value.text, line.line.number))
+
+    def _pairs(self, line: Said, call: Call) -> List[Tuple[Operand, Value]]:
+        """The operands of a line, as the call has them; none where the line is of another call."""
+        for form in TEMPLATES[call.name]:
+            found = values(line, form, self._model.known) if form.word == line.word else None
+            if found is not None:
+                return [*zip(form.operands, found)]
+        return []
+
+    def faults(self, line: Said, call: Call, is_one: bool = True) -> Iterator[Fault]:
+        """Where a line says something else than a call of FreeRTOS; of what it names only where it
+        is the one line of that call."""
+        pairs = self._pairs(line, call)
+        both = f"{shown(line)}: {call.name} in line {call.place.line}"
+        if not pairs:
+            words = [form.word for form in TEMPLATES[call.name]]
+            message = f"{both} is {' or '.join(words)}"
+            yield fault(line.line.place, message + ", with other operands" * (line.word in words))
+        for operand, value in pairs:
+            wrong = self._differs(operand, value, call)
+            if wrong and (is_one or not is_name(operand.kind)):
+                yield fault(line.line.place, f"{both} has {wrong}")
+
+    def _differs(self, operand: Operand, value: Value, call: Call) -> str:
+        """What a call has in the place of an operand, where it is something else."""
+        text = operand.fixed or call.argument(operand.argument)
+        noun = NOUN.get(operand.kind, "")
+        if is_name(operand.kind):
+            return self._other_thing(handle(text), value.text, noun)
+        if operand.kind in CHOICES:
+            choice = operand.fixed or CHOICES[operand.kind].get(text, "")
+            return f"{text}, which is {choice}" if choice not in ("", value.text) else ""
+        if PATTERN_OF["R"].fullmatch(value.text):
+            return ""
+        if operand.kind not in NOUN:
+            return f"{text} there" if text != value.text else ""
+        numbers = {} if operand.fixed else {**self._model.known, **self._model.of_c}
+        expected = value_of(text, numbers)
+        if expected is None or value.number is None or expected == value.number:
+            return ""
+        known = f", which is {expected}" if text != str(expected) else ""
+        return f"{text} as its {noun}{known}"
+
+    def _other_thing(self, text: str, name: str, noun: str) -> str:
+        """What a call names, where that is another thing."""
+        if not text or text == OWN:
+            return ""
+        if text in self._model.names:
+            return f"{text} as its {noun}" if text != name else ""
+        other, line = self._handles.get(text, (name, 0))
+        return f"{text} as its {noun}, which is {other} in line {line}" if other != name else ""
+
+
+INCLUDE = re.compile(r'#\s*include\s*"([^"/\\]+)"')
+# The kernel's own header includes the configuration of an application.
+KERNEL, CONFIGURATION = "FreeRTOS.h", "FreeRTOSConfig.h"
+
+
+def included(directives: Iterable[Piece]) -> List[str]:
+    """The names that are included by quotes."""
+    found = (INCLUDE.match(it.text) for it in directives if it.kind == DIRECTIVE)
+    names = [it[1] for it in found if it]
+    return [*names, CONFIGURATION] if KERNEL in names else names
+
+
+def of_headers(path: str, source: Iterable[Piece]) -> List[Piece]:
+    """What stands in the headers of a source of this path, and in theirs. Those that aren't in its
+    folder are passed over."""
+    folder, found = pathlib.Path(path).parent, []
+    names = [*dict.fromkeys(included(source))]
+    for name in names:
+        try:
+            file = folder / name
+            is_read = file.is_file() and file.stat().st_size <= MOST_BYTES
+            text = file.read_text("utf-8", "replace") if is_read else ""
+        except (OSError, ValueError):
+            continue
+        header = [*pieces(text)]
+        found += header
+        names += [it for it in dict.fromkeys(included(header)) if it not in names]
+    return found
+
 
 TASK, CONSTS = "task", ("const", "#define")
 
@@ -41,8 +198,8 @@ class Function:
         self._comparing = Comparing(model)
 
     def faults(self) -> Iterator[Fault]:
-        """Where it and the model have gone apart. A line is of the call beside it that it is the word
-        of, and only then of another one beside it."""
+        """Where it and the model have gone apart. A line is of the call beside it that it is the
+        word of, and only then of another one beside it."""
         calls = [*self._beside()]
         naming = {it.call: self._naming(it) for it in calls}
         lines = {it.call: self._fitting(it, False) for it in calls if not naming[it.call]}
@@ -94,8 +251,8 @@ class Function:
         return [line for line in near if line.line.function == it.call.name]
 
     def _fitting(self, it: Beside, is_any: bool) -> Optional[Said]:
-        """The nearest line beside a call of FreeRTOS. It has the word of the call, or, where it may be
-        any, that of another."""
+        """The nearest line beside a call of FreeRTOS. It has the word of the call, or, where it may
+        be any, that of another."""
         words = words_of(it.call)
         found = [
             line
@@ -127,8 +284,8 @@ class Function:
             yield fault(call.place, f"{call.name} has no line beside it: {would}")
 
     def _judge_several(self, it: Beside, lines: Sequence[Said]) -> Iterator[Fault]:
-        """What is told of a call whose function these lines name: they are of that call, or of those
-        that it makes, where its function is in the source."""
+        """What is told of a call whose function these lines name: they are of that call, or of
+        those that it makes, where its function is in the source."""
         name = it.call.name
         if name in TEMPLATES:
             for line in lines:
@@ -174,8 +331,8 @@ def like(line: Said) -> str:
 
 
 def is_of_task(block: Block, lines: Sequence[Line], before: int) -> bool:
-    """Whether a function is that of a task: lines of a model stand in it, or the last above it, behind
-    the function before, begins a task."""
+    """Whether a function is that of a task: lines of a model stand in it, or the last above it,
+    behind the function before, begins a task."""
     if any(block.begin <= it.number <= block.end for it in lines):
         return True
     above = [it for it in lines if before < it.number < block.begin]

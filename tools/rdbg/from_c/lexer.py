@@ -6,7 +6,7 @@ from typing import Iterator, NamedTuple, Sequence
 
 from rdbg.tree import Place
 
-COMMENT, TEXT, DIRECTIVE, WORD, SIGN = "comment", "text", "directive", "word", "sign"
+COMMENT, TEXT, DIRECTIVE, WORD = "comment", "text", "directive", "word"
 PIECE = re.compile(
     r"""(?P<comment>//(?:\\\n|[^\n])*|/\*.*?(?:\*/|\Z))
     |(?P<text>"(?:\\.|[^"\\\n])*"?|'(?:\\.|[^'\\\n])*'?)

@@ -78,8 +78,8 @@ def code_beside(text: str, found: Sequence[Piece]) -> Dict[int, str]:
 
 
 def in_lines(text: str) -> str:
-    """The model of a source as a text in lines: each line stands where it stands in the source, with
-    the C beside it as its comment."""
+    """The model of a source as a text in lines: each line stands where it stands in the source,
+    with the C beside it as its comment."""
     found = [*pieces(text)]
     said: Dict[int, str] = {}
     for line in lines_of(found):
@@ -94,7 +94,7 @@ def in_lines(text: str) -> str:
 
 
 def code_below(text: str) -> Dict[int, str]:
-    """The C that lines of a model are of that stand alone in theirs: the next below each."""
+    """For each line of a model that stands alone in its row, by number: the next row of C below."""
     found = [*pieces(text)]
     beside = code_beside(text, found)
     rows = sorted({it.place.line for it in found if it.is_code})
@@ -103,6 +103,6 @@ def code_below(text: str) -> Dict[int, str]:
 
 
 def below(text: str) -> Dict[int, int]:
-    """The lines of C that stand below lines of a model alone in theirs, each with the last of these."""
+    """The lines of C below lines of a model that stand alone, each with the last of these."""
     alone = {it.number for it in lines_of([*pieces(text)]) if it.is_alone}
     return {number + 1: number for number in alone if number + 1 not in alone}

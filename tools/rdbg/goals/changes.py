@@ -2,11 +2,11 @@
 from typing import Dict, List, Optional, Tuple, cast
 
 from rdbg import kinds, replies
-from rdbg.looks import KINDS, Object, content_of
-from rdbg.goals.conditions import AMOUNTS, Condition
-from rdbg.goals.ways import Way, latest, nearest, otherwise
 from rdbg.driving.target import Target, read
 from rdbg.driving.walk import Walk
+from rdbg.goals.conditions import AMOUNTS, Condition
+from rdbg.goals.ways import Way, latest, nearest, otherwise
+from rdbg.looks import KINDS, Object, content_of
 
 # Of each kind of object what its reply is.
 REPLY_OF = {kind: reply for reply, kind in KINDS.items()}
@@ -57,8 +57,7 @@ class Changes(Way):
         return found if scanned is None else scanned
 
     def _scan(self, walk: Walk, end: int) -> Optional[int]:
-        """The first place up to one, or back to one, where it isn't as it is here, by a look at
-        each."""
+        """The first place up or back to one where it isn't as it is here, by a look at each."""
         return otherwise(walk, end, self.view, lambda seen: content_of(self._known(seen)))
 
     def _known(self, seen: replies.Reply) -> Object:

@@ -1,10 +1,10 @@
-"""What goals claim of a place, and how claims are joined: each is judged by a look, and says by which
-conditions of rdbg's own it could become otherwise."""
+"""What goals claim of a place, and how claims are joined: each is judged by a look, and says by
+which conditions of rdbg's own it could become otherwise."""
 import dataclasses
 from typing import Iterator, List, Optional, Sequence
 
 from rdbg import kinds
-from rdbg.goals.conditions import Condition, compared
+from rdbg.goals.conditions import OPERATORS, Condition
 from rdbg.looks import Look, Names
 from rdbg.replies import Reply, Task
 
@@ -115,7 +115,7 @@ class Masked(Goal):
 
     def is_so(self, look: Look) -> bool:
         value = self.amount.amount(reply_of(self.amount, look))
-        return compared(self.operator, value & self.mask, self.number)
+        return OPERATORS[self.operator](value & self.mask, self.number)
 
     def turns(self, look: Look, earlier: bool) -> Turns:
         return changes_of(self.amount, look)
@@ -138,7 +138,7 @@ class Among(Goal):
 
     def is_so(self, look: Look) -> bool:
         one, other = (it.amount(reply_of(it, look)) for it in (self.one, self.other))
-        return compared(self.operator, one, other)
+        return OPERATORS[self.operator](one, other)
 
     def turns(self, look: Look, earlier: bool) -> Turns:
         return changes_of(self.one, look) + changes_of(self.other, look)
@@ -187,8 +187,8 @@ class At(OfTask):
 
 @dataclasses.dataclass(frozen=True)
 class Waits(OfTask):
-    """A task waits at a place, whose words and whose name in a phase these are; wherever, where they
-    are empty. `is_endless`: it waits without a deadline."""
+    """A task waits at a place, whose words and whose name in a phase these are; wherever, where
+    they are empty. `is_endless`: it waits without a deadline."""
 
     words: str = ""
     place: str = ""
@@ -369,9 +369,7 @@ class Joined(Goal):
         yield from self.other.claims()
 
     def names(self, there: Names) -> Names:
-        one, other = self.one.names(there), self.other.names(there)
-        objects = dict.fromkeys((*one.objects, *other.objects))
-        return Names(tasks_named(*one.tasks, *other.tasks).tasks, tuple(objects))
+        return Names.all((self.one.names(there), self.other.names(there)))
 
     def is_so(self, look: Look) -> bool:
         both = (self.one.is_so(look), self.other.is_so(look))
@@ -390,7 +388,6 @@ class Joined(Goal):
 
 
 def enclosed(goal: Goal, text: str, word: str = "") -> str:
-    """The text of a goal where a word that binds more stands beside it: `not`, which is the empty
-    one, or `and`."""
+    """The text of a goal where `and` stands beside it, or `not`, which is the empty word."""
     is_apart = isinstance(goal, Joined) and goal.word != word and word != "or"
     return f"({text})" if is_apart else text

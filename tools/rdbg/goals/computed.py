@@ -1,6 +1,6 @@
 """Numbers and truths that are computed of what there is: amounts in the words of conditions, `count
-jobs + 1`, and short, `jobs.count`, `worker.r0`, joined by the operators of C, of which those that compare
-bind least. Numbers are whole, of any size."""
+jobs + 1`, and short, `jobs.count`, `worker.r0`, joined by the operators of C, of which those that
+compare bind least. Numbers are whole, of any size."""
 import dataclasses
 import operator
 import re
@@ -9,6 +9,7 @@ from typing import Callable, Dict, List, Sequence, Tuple
 from rdbg import kinds
 from rdbg.goals import claims, reading
 from rdbg.goals.claims import Goal, Holds
+from rdbg.goals.conditions import OPERATORS
 from rdbg.goals.meant import with_meant
 from rdbg.goals.reading import CLOSE, OPEN, NoGoal, Reader
 from rdbg.goals.scope import Scope, part_of
@@ -46,13 +47,11 @@ def shifted(one: int, other: int) -> int:
 
 
 # From those that bind least on.
-COMPARING: Dict[str, Callable[[int, int], int]] = {
-    "=": operator.eq,
+COMPARING: Dict[str, Callable[[int, int], bool]] = {
+    **OPERATORS,
     "==": operator.eq,
     "!=": operator.ne,
-    "<": operator.lt,
     "<=": operator.le,
-    ">": operator.gt,
     ">=": operator.ge,
 }
 LEVELS: Tuple[Dict[str, Callable[[int, int], int]], ...] = (
@@ -84,10 +83,7 @@ class Expression:
 
     def names(self, there: Names) -> Names:
         """What has to be looked at, of what is there."""
-        found = [it.names(there) for it in self.about]
-        tasks = dict.fromkeys(name for it in found for name in it.tasks)
-        objects = dict.fromkeys(key for it in found for key in it.objects)
-        return Names(tuple(tasks), tuple(objects))
+        return Names.all(it.names(there) for it in self.about)
 
 
 class Computer(Reader):
@@ -155,7 +151,7 @@ class Computer(Reader):
 
 
 def words_of(text: str, task: str = "") -> List[str]:
-    """The words and signs of an expression, its short forms in full; `r0` is of the task at hand."""
+    """The words and signs of an expression, in full; `r0` is of the task at hand."""
     found: List[str] = []
     for word in SIGNS.findall(text.replace("$", "")):
         dotted = f"{task}.{word}" if task and re.fullmatch("r[0-7]", word) else word

@@ -1,8 +1,9 @@
 """Conditions of rdbg's language as values: which line looks at them, and whether they hold."""
 import dataclasses
+import operator
 from typing import Callable, Dict, List, Optional, Sequence, Tuple, cast
 
-from rdbg import commands, replies
+from rdbg import commands, kinds, replies
 
 # The phases from which a task can have come into a phase, and those into which it can go. An edit
 # changes none.
@@ -55,11 +56,10 @@ class Condition:
         return VIEWS[self.kind].format(self.name)
 
     def holds(self, reply: replies.Reply) -> bool:
-        """Whether it holds, by the reply to `view`. Raises `IndexError` where there is no such
-        register or entry."""
+        """Whether it holds, by the reply to `view`. Raises `IndexError` as `amount` does."""
         if self.kind == "phase":
             return cast(replies.Task, reply).phase.word == self.phase
-        return compared(self.operator, self.amount(reply), self.number)
+        return OPERATORS[self.operator](self.amount(reply), self.number)
 
     def others(self, earlier: bool) -> List["Condition"]:
         """Conditions of which one holds wherever this one doesn't: of a phase, those from which
@@ -72,33 +72,24 @@ class Condition:
             "<": ((">", self.number - 1),),
             ">": (("<", self.number + 1),),
         }[self.operator]
-        possible = [
-            (operator, number)
-            for operator, number in bounds
-            if (operator, number) != ("<", 0) and 0 <= number <= commands.MOST_NUMBER
+        return [
+            dataclasses.replace(self, operator=sign, number=number)
+            for sign, number in bounds
+            if (sign, number) != ("<", 0) and 0 <= number <= commands.MOST_NUMBER
         ]
-        return [dataclasses.replace(self, operator=op, number=number) for op, number in possible]
-
-
-def compared(operator: str, one: int, other: int) -> bool:
-    """Whether two numbers are to each other as an operator says."""
-    if operator == "=":
-        return one == other
-    return one < other if operator == "<" else one > other
 
 
 # Of these a number says which one of a task's is looked at.
 INDEXED = ("reg", "note")
 VIEWS: Dict[str, str] = {
-    "count": "show queue {}",
-    "bytes": "show stream {}",
-    "msgs": "show message {}",
-    "bits": "show group {}",
-    "reg": "show task {}",
-    "pc": "show task {}",
-    "note": "show task {}",
+    **{word: f"show {kind.word} {{}}" for word, kind in kinds.OF_AMOUNT.items()},
+    **dict.fromkeys(("reg", "pc", "note", "phase"), "show task {}"),
     "tick": "show cores",
-    "phase": "show task {}",
+}
+OPERATORS: Dict[str, Callable[[int, int], bool]] = {
+    "=": operator.eq,
+    "<": operator.lt,
+    ">": operator.gt,
 }
 AMOUNTS: Dict[str, Callable[[replies.Reply, int], int]] = {
     "count": lambda it, _: cast(replies.Queue, it).count,

@@ -7,7 +7,7 @@ from rdbg.goals import reading
 from rdbg.goals.reading import NoGoal
 from rdbg.goals.scope import Scope
 from rdbg.looks import Names
-from rdbg.near import nearest
+from rdbg.wording import nearest
 
 # So many words are mended at the most, and so many names are said.
 MOST_MENDED, MOST_SAID = 8, 8
@@ -83,7 +83,9 @@ def repaired(words: List[str], at: int, wanted: str, scope: Scope) -> Optional[L
     if word in OTHERS and wanted in (reading.CLAIM, reading.JOIN):
         return [*words[:at], OTHERS[word], *words[at + 1 :]]
     if wanted == reading.CLAIM:
-        return as_claim(words, at, scope)
+        found = with_subject(words, at, scope.names)
+        meant = near(words[at].lower(), (*reading.CLAIMS, *reading.JOINING))
+        return found or (None if meant is None else [*words[:at], meant, *words[at + 1 :]])
     if wanted == reading.COMPARISON:
         return as_comparison(words, at)
     labels = labels_at(words, at, wanted, scope)
@@ -139,13 +141,6 @@ def with_subject(words: List[str], at: int, names: Names) -> Optional[List[str]]
     return None
 
 
-def as_claim(words: List[str], at: int, scope: Scope) -> Optional[List[str]]:
-    """A claim that begins with this word: one that is near, or what a name lacks before it."""
-    found = with_subject(words, at, scope.names)
-    meant = near(words[at].lower(), (*reading.CLAIMS, *reading.JOINING))
-    return found or (None if meant is None else [*words[:at], meant, *words[at + 1 :]])
-
-
 def with_operator(words: List[str], at: int) -> Optional[List[str]]:
     """Words with `==`, `>=` or `<=` as an operator that there is."""
     word, number = words[at], (words[at + 1] if at + 1 < len(words) else "")
@@ -160,12 +155,7 @@ def with_operator(words: List[str], at: int) -> Optional[List[str]]:
 
 def as_comparison(words: List[str], at: int) -> Optional[List[str]]:
     """An operator of another language as one that there is."""
-    first = claim_before(words, at)
+    first = next((it for it in range(at - 1, -1, -1) if words[it] in reading.CONDITIONS), None)
     if words[at] == "!=" and first is not None:
         return [*words[:first], "not", *words[first:at], "=", *words[at + 1 :]]
     return with_operator(words, at)
-
-
-def claim_before(words: Sequence[str], at: int) -> Optional[int]:
-    """Where the condition begins whose operator stands at a place."""
-    return next((it for it in range(at - 1, -1, -1) if words[it] in reading.CONDITIONS), None)

@@ -49,21 +49,16 @@ class PacedWalk(Walk):
         self._states: Dict[int, State] = {target.place: State(is_new_tick=True)}
         # (the line of each move that such a run has made, by the place behind it)
         self._own: Dict[int, str] = {}
-        self._is_over = False
-        self._told = target.session.on_line
-        target.session.on_line = self._seen
+        target.hearing.append(self._seen)
 
     def end(self) -> None:
-        """Hears of no more lines. (Others may hear of them by it, and go on.)"""
-        self._is_over = True
+        """Hears of no more lines."""
+        self.target.hearing.remove(self._seen)
 
-    def _seen(self, line: str, reply: str) -> None:
+    def _seen(self, line: str, reply: str, before: int) -> None:
         """Takes note of moves, whoever makes them."""
-        before = self.target.place
-        if self._told is not None:
-            self._told(line, reply)
         word = line.split(" ", 1)[0]
-        if self._is_over or not reply.startswith("ok at ") or word not in NEW:
+        if not reply.startswith("ok at ") or word not in NEW:
             return
         state = self._states.get(before, State())
         self._states = {at: it for at, it in self._states.items() if at <= before}
@@ -93,8 +88,8 @@ class PacedWalk(Walk):
         return line
 
     def _with_interrupt(self, state: State, tick: int) -> State:
-        """The state with the lines of the first interrupt that may come now and hasn't come in this
-        tick."""
+        """The state with the lines of the first interrupt that may come now. Where none may, none
+        is looked for until the next tick."""
         came = dict(state.came)
         for it in self.interrupts:
             before = came.get(it.name, Came())

@@ -1,7 +1,6 @@
-"""The reader of goals: words that are claims, joined by `not`, `and` and `or`, of which the first binds
-most and the last least, and by parentheses, each of which is a word. What is refused is told as the
-program that searches tells it.
-"""
+"""The reader of goals: words that are claims, joined by `not`, `and` and `or`, of which the first
+binds most and the last least, and by parentheses, each of which is a word. What is refused is told
+as the program that searches tells it."""
 import re
 from typing import Callable, Dict, List, Mapping, Optional, Sequence, Tuple
 

@@ -1,5 +1,5 @@
-"""What a goal can name: tasks and objects, entries and instructions, and of a text in lines its labels
-and constants."""
+"""What a goal can name: tasks and objects, entries and instructions, and of a text in lines its
+labels and constants."""
 import dataclasses
 from typing import Dict, Mapping, Optional, Sequence
 
@@ -14,8 +14,9 @@ REGISTERS = 8
 
 @dataclasses.dataclass(frozen=True)
 class Scope:
-    """What there is. Where the application isn't known, whatever has the form of a name may be there.
-    `constants` are none but of a text in lines; `watches` are conditions by their numbers."""
+    """What there is. Where the application isn't known, whatever has the form of a name may be
+    there. `constants` are none but of a text in lines; `watches` are conditions by their
+    numbers."""
 
     names: Names
     application: Optional[Application] = None

@@ -18,8 +18,7 @@ OBJECTS = tuple(kind.word for kind in kinds.OBJECTS)
 def way(
     words: Sequence[str], target: Target, scope: Scope, becoming: bool
 ) -> Tuple[Way, Optional[int]]:
-    """The way to what these words name, and the COUNT behind them, if one stands there. Raises
-    `NoGoal`."""
+    """The way to what these words name, and the COUNT behind them, if any. Raises `NoGoal`."""
     if words and words[0] in reading.OF_MOVES:
         found, at = of_move(words, target, scope)
         if at == len(words):

@@ -1,8 +1,7 @@
 """The ways to a goal: what a run goes to, and a way back.
 
-A goal is found by small runs and looks between. A way says the place of the very move, and may leave
-the target anywhere that a run from where it began came through.
-"""
+A goal is found by small runs and looks between. A way says the place of the very move, and may
+leave the target anywhere that a run from where it began came through."""
 import dataclasses
 from typing import Callable, Iterator, List, Optional, Sequence, Tuple
 
@@ -76,8 +75,7 @@ def looked(
 def otherwise(
     walk: Walk, end: int, view: str, of: Callable[[replies.Reply], object]
 ) -> Optional[int]:
-    """The first place up to one, or back to one, where what a line shows isn't as it is here, by a
-    look at each."""
+    """The first place up or back to one where a line doesn't show what it does here."""
     here, chunk = of(read(walk.target.tell(view))), FIRST_CHUNK
     while True:
         walk.interrupt.check()
@@ -178,8 +176,8 @@ class Search:
         self._short = self._short + 1 if count < NEAR else 0
 
     def _scan(self, end: int) -> Optional[int]:
-        """Looks at some of the places up to one, or back to one, one by one. The first of them where
-        the goal holds; the target ends behind the last."""
+        """Looks at some of the places up to one, or back to one, one by one. The first of them
+        where the goal holds; the target ends behind the last."""
         most = self._chunk
         self._chunk, self._short = min(2 * most, MOST_CHUNK), self._short // 2
         for place, seen in looked(self.walk, end, most, self._names.lines()):
@@ -196,22 +194,21 @@ class Search:
             asked = min(stride, limit - (low - start))
             made = walk.forward(asked)
             if is_so(walk.target, self.goal):
-                return self._between(low, walk.place)
+                return self.between(low, walk.place)
             if made < asked:
                 break
             stride = min(stride * 2, MOST_STRIDE)
         return None
 
-    def _between(self, low: int, high: int) -> int:
+    def between(self, low: int, high: int) -> int:
         """The first place where what lasts is so, above one where it isn't, at most one where it
         is."""
         while high - low > 1:
-            middle = (low + high) // 2
-            self.walk.goto(middle)
+            self.walk.goto((low + high) // 2)
             if is_so(self.walk.target, self.goal):
-                high = middle
+                high = self.walk.place
             else:
-                low = middle
+                low = self.walk.place
         return high
 
     def _before(self, low: int, high: int) -> Optional[int]:
@@ -220,7 +217,7 @@ class Search:
         if not is_so(self.walk.target, self.goal):
             return None
         assert isinstance(self.goal, Not)
-        return Search(self.walk, self.goal.goal)._between(low, high) - 1
+        return Search(self.walk, self.goal.goal).between(low, high) - 1
 
 
 def only_runs(target: Target) -> bool:
@@ -235,8 +232,7 @@ class Way:
     text = ""
 
     def next(self, walk: Walk, limit: int) -> Optional[int]:
-        """The first place behind this one, at most `limit` moves on, where it is met; none where
-        there is none."""
+        """The first place behind this one, at most so many moves on, where it is met, or none."""
         raise NotImplementedError
 
     def last(self, walk: Walk) -> Optional[int]:

@@ -1,12 +1,11 @@
 """Two orders that end otherwise: `forward`'s own, and one that is found.
 
-Where `forward` comes to rest, so that no core is busy and no task has a deadline, an order differs that
-comes to rest otherwise. Where it goes on for ever, tasks of it may be at rest, and an order differs
-behind which one of them can't come to rest as it does there any more, whatever comes next.
+Where `forward` comes to rest, so that no core is busy and no task has a deadline, an order differs
+that comes to rest otherwise. Where it goes on for ever, tasks of it may be at rest, and an order
+differs behind which one of them can't come to rest as it does there any more, whatever comes next.
 
-Interrupts come to `forward`'s own order where nothing else is left to do, each as often as it may; so
-that one came is no difference by itself.
-"""
+Interrupts come to `forward`'s own order where nothing else is left to do, each as often as it may;
+so that one came is no difference by itself."""
 import dataclasses
 import itertools
 import re
@@ -138,8 +137,8 @@ class Differs:
         return True
 
     def _by_leaving(self, wanted: int) -> List[Difference]:
-        """Those that leave `forward`'s order at one place, those with fewer surprises first; the first
-        that there is, where one is wanted."""
+        """Those that leave `forward`'s order at one place, those with fewer surprises first; the
+        first that there is, where one is wanted."""
         found: List[Difference] = []
         if self.search.bound.surprises == 0:
             return found
@@ -157,8 +156,8 @@ class Differs:
         return sorted(found, key=lambda it: it.find.size)
 
     def _leavings(self) -> Iterator[Tuple[List[str], List[Tuple[str, ...]]]]:
-        """The orders that leave `forward`'s once, by their moves, at each place from boot up to where
-        a state comes again; and which interrupts have come."""
+        """The orders that leave `forward`'s once, by their moves, at each place from boot up to
+        where a state comes again; and which interrupts have come."""
         seen: Set[Tuple[object, ...]] = set()
         before: List[str] = []
         while len(before) < self.own.find.order.place:
@@ -182,8 +181,7 @@ class Differs:
 
     def _stand(self, lines: Sequence[str]) -> bool:
         """Goes to where these moves lead, if all of them can be made."""
-        answers = self.stage.at_boot().tell_all(lines)
-        return not any(it.startswith("no ") for it in answers)
+        return not any(it.startswith("no ") for it in self.stage.at_boot().tell_all(lines))
 
     def _state(self, cores: Cores, views: Sequence[str]) -> Tuple[object, ...]:
         """What is the same where all goes on alike, whatever the tick."""
@@ -194,38 +192,33 @@ class Differs:
         tick = cores.tick % len(cores.running)
         return (cores.running, cores.ready, tick, choice(cores), *left)
 
-    def _bound(self, moves: int) -> Bound:
-        """Of which orders is asked behind one with a surprise and so many moves."""
-        bound = self.search.bound
-        surprises = None if bound.surprises is None else bound.surprises - 1
-        return Bound(None if bound.moves is None else max(0, bound.moves - moves), surprises)
-
     def _behind(
         self, leaving: Sequence[str], come: Sequence[Tuple[str, ...]]
     ) -> Optional[Difference]:
         """What differs behind an order that has left `forward`'s."""
         if not self._stand(leaving):
             return None
-        bound = self._bound(len(leaving))
+        most, moves = self.search.bound.surprises, self.search.bound.moves
+        left = None if moves is None else max(0, moves - len(leaving))
+        bound = Bound(left, None if most is None else most - 1)
         if not self.own.resting:
             found = self.search.ask(self.search.goal.asked, bound, leaving, come, keeps=False)
             return None if found is None else Difference(found)
         for name in self.own.resting:
             ends = {claims(it.look, self.stage.application)[name] for it in self.own.ends}
             goal = " or ".join(f"( {it} )" for it in sorted(ends))
-            if not self._is_lost(goal, leaving, come):
+            # (of whatever length)
+            more = self.search.interrupts(come)
+            answer = self.search.asker.ask(goal, Bound(), leaving, more, self.search.question)
+            if self.search.is_stopped_by(answer):
+                return None
+            if answer.kind is not Kind.NONE:
                 continue
             task = self.stage.application.task(name)
             assert task is not None
             found = self.search.ask(at_rest(task), bound, leaving, come, keeps=False)
             return Difference(found or self.stage.find(leaving), (name,))
         return None
-
-    def _is_lost(self, goal: str, leaving: Sequence[str], come: Sequence[Tuple[str, ...]]) -> bool:
-        """Whether no order, of whatever length, leads to a goal from where these moves lead."""
-        more = self.search.interrupts(come)
-        answer = self.search.asker.ask(goal, Bound(), leaving, more, self.search.question)
-        return answer.kind is Kind.NONE
 
 
 def at_rest(task: Task) -> str:
@@ -238,9 +231,6 @@ def at_rest(task: Task) -> str:
 def compared(own: Own, difference: Difference) -> Dict[str, Tuple[str, str]]:
     """What ends otherwise in two orders, thing by thing."""
     pairs = zip(own.find.views, difference.find.views)
-    named = {" ".join(one.split()[1:3]): (one, other) for one, other in pairs if one != other}
-    return {
-        thing: pair
-        for thing, pair in named.items()
-        if not difference.tasks or pair[0].split()[1] in difference.tasks
-    }
+    others = [(one.split(), (one, other)) for one, other in pairs if one != other]
+    tasks = difference.tasks
+    return {" ".join(it[1:3]): pair for it, pair in others if not tasks or it[1] in tasks}

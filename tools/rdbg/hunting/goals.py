@@ -1,11 +1,10 @@
-"""Goals of a hunt: how the program that searches is asked for one, and what shows that it is met."""
+"""Goals of a hunt: how the search is asked for one, and what shows that it is met."""
 import dataclasses
 from typing import List, Optional, Sequence
 
+from rdbg.failure import of_words, turned
 from rdbg.files.source import Source
-from rdbg.failure import Failure
-from rdbg.goals import claims, reading
-from rdbg.goals import words as goal_words
+from rdbg.goals import claims, reading, words as goal_words
 from rdbg.goals.scope import Scope
 from rdbg.looks import Look, Names
 from rdbg.reaching.asking import REACH, Question
@@ -56,20 +55,17 @@ class Goal:
             return ["show watches", watched.condition.view]
         if self.of_places is None:
             return names.lines()
-        objects = self.of_places.names(names).objects
-        return Names(names.tasks, objects).lines()
+        return Names(names.tasks, self.of_places.names(names).objects).lines()
 
 
 def read(parts: Sequence[str], source: Source, question: Question = REACH) -> Goal:
-    """The goal that these words are, of which this is asked. Raises `Failure` where they are none, or
-    the program that searches has no words for it."""
+    """The goal that these words are, of which this is asked. Raises `Failure` where they are none,
+    or the program that searches has no words for it."""
     scope = Scope.of(source)
     if list(parts) == [DIFFERS]:
         # (all that come to a rest end so)
         return Goal(DIFFERS, STUCK.asked(scope.names.tasks))
-    try:
+    with turned(of_words, reading.NoGoal, of="goal"):
         goal, asked = goal_words.for_search(parts, scope)
-    except reading.NoGoal as wrong:
-        raise Failure(f"goal: {wrong}", 2) from None
     told = goal.text if question == REACH else f"{question.word} {goal.text}"
     return Goal(told, asked, goal, question.is_met)

@@ -1,20 +1,17 @@
 """Interrupts that may come in a hunt: those that a user names.
 
 A handler is its calls, one behind the other with nothing between them. It may come once at any
-place; who names it twice has it come up to twice.
-"""
+place; who names it twice has it come up to twice."""
 import dataclasses
 from typing import Dict, List, Sequence, Tuple
 
 from rdbg import commands
 from rdbg.application import MOST_TIMES, NO_INTERRUPT, Application
 from rdbg.failure import Failure
-from rdbg.near import nearest
-from rdbg.reaching.handlers import EVER, TIMES
-from rdbg.reaching.handlers import Handler as Named
-from rdbg.reaching.handlers import handlers as by_name
+from rdbg.reaching.handlers import EVER, OPTION, TIMES, WORD, handlers as by_name
+from rdbg.wording import nearest
 
-OPTION, WORD, BETWEEN = "--isr", "isr", ";"
+BETWEEN = ";"
 # The profile from which on there are interrupts.
 PROFILE = 2
 FORMS = "send Q HEX, or notify K I N ACTION; more calls of one handler with ; between them"
@@ -36,6 +33,10 @@ class Handler:
         """Its calls, as they are typed behind the option."""
         return f"{BETWEEN} ".join(call[len(WORD) + 1 :] for call in self.calls)
 
+    def begins(self, lines: Sequence[str]) -> bool:
+        """Whether these lines begin with its calls."""
+        return self.calls == tuple(lines[: len(self.calls)])
+
     def line(self) -> str:
         """The line that lets it come, of the program that searches."""
         times = EVER if self.is_endless else str(self.times)
@@ -43,14 +44,15 @@ class Handler:
 
 
 def handlers(texts: Sequence[str], application: Application) -> Tuple[Handler, ...]:
-    """The handlers that are named, or all that are declared, each once, with how often it may come.
-    Raises `Failure`."""
+    """The handlers that are named, or all, with how often each may come. Raises `Failure`."""
     if texts and [*texts] != [NO_INTERRUPT] and application.profile < PROFILE:
         raise Failure(
             f"NoIsr: {OPTION} needs profile {PROFILE}, and the file has {application.profile}", 2
         )
     found: List[Handler] = []
-    for it in named(texts, application):
+    # (those that the text names stand first: `after` has their numbers, and others may be joined)
+    names = [text for text in texts if application.interrupt(text.strip()) is not None]
+    for it in by_name([*names, *[text for text in texts if text not in names]], application):
         when = dict(it.when)
         calls = tuple(call_of(part, it.calls, application) for part in it.calls.split(BETWEEN))
         times = when.pop(TIMES, "1")
@@ -62,20 +64,6 @@ def handlers(texts: Sequence[str], application: Application) -> Tuple[Handler, .
             most = MOST_TIMES if is_endless else int(times)
             found.append(Handler(calls, most, tuple(when.items()), is_endless))
     return tuple(found)
-
-
-def named(texts: Sequence[str], application: Application) -> List[Named]:
-    """Those that are named, and those that end waits; the ones that others come after first, so that
-    their numbers stay."""
-    names = [text for text in texts if application.interrupt(text.strip()) is not None]
-    others = [text for text in texts if text not in names]
-    return by_name([*names, *others], application)
-
-
-def first_of(handlers: Sequence[Handler], lines: Sequence[str]) -> int:
-    """How many of these lines are the calls of one handler, the first of them among its own."""
-    fitting = [len(it.calls) for it in handlers if it.calls == tuple(lines[: len(it.calls)])]
-    return max(fitting, default=1)
 
 
 def call_of(part: str, text: str, application: Application) -> str:

@@ -1,14 +1,14 @@
 """Orders of moves: the lines that make one, and what in it is a surprise.
 
-A surprise is a move that `forward` wouldn't make next, where the moves of one core in a row, all ahead
-of it, count as one; an interrupt is one, whatever it calls.
-"""
+A surprise is a move that `forward` wouldn't make next, where the moves of one core in a row, all
+ahead of it, count as one; an interrupt is one, whatever it calls."""
 import dataclasses
 from typing import Iterator, List, Optional, Sequence, Tuple
 
 from rdbg.driving.target import Target, read
 from rdbg.failure import Failure
-from rdbg.hunting.interrupts import WORD, Handler, first_of
+from rdbg.hunting.interrupts import Handler
+from rdbg.reaching.handlers import WORD
 from rdbg.replies import Cores
 from rdbg.wording import counted
 
@@ -42,14 +42,12 @@ class Run:
         """The surprise that it is; empty where it is none."""
         if self.line == FORWARD:
             return ""
-        return f"at {self.place}: {self._text()}"
-
-    def _text(self) -> str:
         if self.calls:
-            return f"an interrupt comes: {Handler(self.calls).text}"
+            return f"at {self.place}: an interrupt comes: {Handler(self.calls).text}"
         if self.line == TICK:
-            return "a tick comes early"
-        return f"core {self.line.split()[1]} is {counted(self.count, 'move')} ahead"
+            return f"at {self.place}: a tick comes early"
+        moves = counted(self.count, "move")
+        return f"at {self.place}: core {self.line.split()[1]} is {moves} ahead"
 
     def lines(self) -> List[str]:
         """The lines that make it."""
@@ -62,16 +60,9 @@ FORWARD = "forward"
 
 
 def choice(cores: Cores) -> Optional[int]:
-    """The core that `forward` would move next: the first busy one from the turn on; none where it
-    would be a tick."""
+    """The core that `forward` would move next, the first busy one from the turn on, if any."""
     busy = (core for core, task in enumerate(cores.running) if task and core >= cores.turn)
     return next(busy, None)
-
-
-def expected(cores: Cores) -> str:
-    """The line of the move that `forward` would make next."""
-    core = choice(cores)
-    return TICK if core is None else f"step {core}"
 
 
 def runs_of(
@@ -83,10 +74,14 @@ def runs_of(
     while at < len(lines):
         line = lines[at]
         if line.split()[0] == WORD:
-            count = first_of(handlers, lines[at:])
+            # (the calls of one handler, the first of them among its own)
+            fitting = (len(it.calls) for it in handlers if it.begins(lines[at:]))
+            count = max(fitting, default=1)
             run = Run(line, count, at, tuple(lines[at : at + count]))
         else:
-            run = Run(FORWARD if line == expected(looks[at]) else line, 1, at)
+            core = choice(looks[at])
+            expected = TICK if core is None else f"step {core}"
+            run = Run(FORWARD if line == expected else line, 1, at)
         at += run.count
         if last is not None and last.line == run.line and run.line != TICK and not run.calls:
             last.count += 1

@@ -2,9 +2,9 @@
 from typing import Iterator, List, Optional, Sequence, Tuple
 
 from rdbg.application import Application
+from rdbg.failure import Failure
 from rdbg.hunting.differs import Difference, Own, compared
 from rdbg.hunting.goals import Goal
-from rdbg.hunting.search import check
 from rdbg.hunting.stage import Find, Stage
 from rdbg.reaching.said import Answer, Kind
 
@@ -50,7 +50,8 @@ def one_found(
     if not is_exhaustive:
         yield from (f"  {told}" for told in find.order.told)
     table, is_so = stage.table(find, goal.is_so)
-    check(is_so)
+    if not is_so:
+        raise Failure("what was found doesn't come to its goal when it is made again")
     yield from table
 
 

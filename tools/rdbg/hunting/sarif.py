@@ -1,29 +1,35 @@
-"""What a search has come to, as SARIF: each order that was found is a result, whose moves are its code
-flow."""
+"""What a search has come to, as SARIF: each order that was found is a result, whose moves are its
+code flow."""
+import contextlib
 import json
 import os
+import re
 from typing import Any, Dict, Iterator, Optional, Sequence
 from urllib.parse import quote
 
 from rdbg.application import Application
+from rdbg.client import version
 from rdbg.driving.parts import look_through
 from rdbg.effects import Move
 from rdbg.files.source import Source
 from rdbg.hunting.stage import Find, Stage
 from rdbg.reaching.said import Answer, Kind
 from rdbg.tree import Place
+from rdbg.wording import counted
 
 Values = Dict[str, Any]
 SCHEMA = "https://json.schemastore.org/sarif-2.1.0.json"
 VERSION = "2.1.0"
+# How what rdbg says of itself begins, where its version is known.
+NUMBERED = re.compile(r"rdbg (\d+\.\d+\.\d+)\b")
 RULE = "goal-reached"
 RULES = [
     {
         "id": RULE,
         "shortDescription": {"text": "an order of moves leads to a goal"},
         "fullDescription": {
-            "text": "Some order of the moves of tasks, ticks and interrupts leads to where the goal is"
-            " so. Its moves are the code flow."
+            "text": "Some order of the moves of tasks, ticks and interrupts leads to where the goal"
+            " is so. Its moves are the code flow."
         },
     }
 ]
@@ -64,9 +70,8 @@ def found(
     """An order that was found, by the lines that make it from boot, with what is told of it."""
     stage.at_boot().tell_all(lines)
     count = stage.walk.place
-    last_told = min(count, MOST_MOVES)
-    moves = look_through(stage.target, 1, last_told).moves if count else ()
-    said = f"{goal}: so behind {count} move{'' if count == 1 else 's'}"
+    moves = look_through(stage.target, 1, min(count, MOST_MOVES)).moves if count else ()
+    said = f"{goal}: so behind {counted(count, 'move')}"
     if told:
         said += f"; {'; '.join(told)}"
     steps = [step(source, move) for move in moves]
@@ -107,19 +112,23 @@ def results(
         yield none(source, goal, answer)
 
 
+def driver() -> Values:
+    """What has made a report: rdbg, of which version, and whether its program is proved."""
+    said = version()
+    number = NUMBERED.match(said)
+    numbered = {"version": number[1]} if number else {}
+    return {"name": "rdbg", "fullName": said, **numbered, "rules": RULES}
+
+
 def text_of(said: Sequence[Values]) -> str:
     """A report of these results."""
-    driver = {"name": "rdbg", "rules": RULES}
-    run = {"tool": {"driver": driver}, "results": list(said), "columnKind": "unicodeCodePoints"}
+    run = {"tool": {"driver": driver()}, "results": list(said), "columnKind": "unicodeCodePoints"}
     return json.dumps({"$schema": SCHEMA, "version": VERSION, "runs": [run]}, indent=2) + "\n"
 
 
-def of_answer(source: Source, goal: str, answer: Answer) -> str:
-    """The report of an answer to whether a goal can come; its order is made by rdbg."""
+def of_answer(source: Source, goal: str, answer: Answer) -> Values:
+    """What an answer to whether a goal can come is; its order is made by rdbg."""
     if not answer.has_order:
-        return text_of([none(source, goal, answer)])
-    stage = Stage(source, ())
-    try:
-        return text_of([found(source, goal, stage, answer.order)])
-    finally:
-        stage.close()
+        return none(source, goal, answer)
+    with contextlib.closing(Stage(source, ())) as stage:
+        return found(source, goal, stage, answer.order)

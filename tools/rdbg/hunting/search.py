@@ -1,13 +1,12 @@
 """What is asked of the program that searches, one question after the other, for what a hunt wants.
 
-A find is the answer to one question. That it is the smallest, has the fewest moves of all, or that no
-other ends otherwise, are further questions, of which each answer is said of every order in a bound.
-"""
+A find is the answer to one question. That it is the smallest, has the fewest moves of all, or that
+no other ends otherwise, are further questions, of which each answer is said of every order in a
+bound."""
 import dataclasses
 import heapq
 from typing import Callable, Dict, FrozenSet, List, Optional, Sequence, Tuple
 
-from rdbg.failure import Failure
 from rdbg.hunting.ends import claims, denied
 from rdbg.hunting.goals import Goal
 from rdbg.hunting.stage import Find, Stage
@@ -15,8 +14,9 @@ from rdbg.reaching import said
 from rdbg.reaching.asking import CTRL_C, REACH, TIME, Asker, NoQuestion, Question
 from rdbg.reaching.said import Answer, Bound, Kind
 
-# Why a goal isn't asked for any more.
+# Why a goal isn't asked for any more, and why nothing is.
 TOO_LONG = "the goal is too long"
+STOPS = (TIME, CTRL_C)
 Cell = FrozenSet[str]
 Ask = Callable[[str], Optional[Find]]
 # A find that waits to be told, behind those that have fewer surprises, fewer moves, or came first;
@@ -26,8 +26,8 @@ Waiting = Tuple[Tuple[int, int], int, Find, Cell]
 
 @dataclasses.dataclass
 class Search:
-    """A search for a goal in a bound, by a question of the program's, with what it was answered where
-    nothing was found. Where it is exhaustive, surprises aren't counted."""
+    """A search for a goal in a bound, by a question of the program's, with what it was answered
+    where nothing was found. Where it is exhaustive, surprises aren't counted."""
 
     asker: Asker
     stage: Stage
@@ -43,7 +43,13 @@ class Search:
 
     def is_stopped(self) -> bool:
         """Whether the time is up, or Ctrl-C came."""
-        return any(it.why in (TIME, CTRL_C) for it in self.none)
+        return any(it.why in STOPS for it in self.none)
+
+    def is_stopped_by(self, answer: Answer) -> bool:
+        """Whether the time was up, or Ctrl-C came, while that was looked for: then it is kept."""
+        if answer.why in STOPS:
+            self.none.append(answer)
+        return answer.why in STOPS
 
     def interrupts(self, come: Sequence[Tuple[str, ...]] = ()) -> List[str]:
         """The lines that let those interrupts come that are left where these have come."""
@@ -58,8 +64,8 @@ class Search:
         come: Sequence[Tuple[str, ...]] = (),
         keeps: bool = True,
     ) -> Optional[Find]:
-        """The order that is found for a goal, made again; none where there is none, whose answer is
-        kept."""
+        """The order that is found for a goal, made again. Where there is none its answer is kept,
+        without `keeps` only one that leaves it open."""
         more, asked = self.interrupts(come), self.bound if bound is None else bound
         answer = self.asker.ask(goal, asked, begin, more, self.question)
         if answer.kind is Kind.REACHED:
@@ -79,8 +85,8 @@ class Search:
         return [] if found is None else [found]
 
     def smallest(self) -> List[Find]:
-        """The find with the fewest surprises, and of those the fewest moves, held against the others:
-        none has fewer."""
+        """The find with the fewest surprises, and of those the fewest moves, held against the
+        others: none has fewer."""
         found = self.first()
         while found and not self.is_stopped():
             surprises, moves = found[0].size
@@ -124,7 +130,9 @@ class Search:
             asked[cell] = None
             found = self._in_cell(cell, find)
             if found is not None:
-                heapq.heappush(waiting, (self._size(found), len(asked), found, cell))
+                surprises, moves = found.size
+                size = (0 if self.is_exhaustive else surprises), moves
+                heapq.heappush(waiting, (size, len(asked), found, cell))
 
         look(frozenset())
         while waiting and len(finds) < wanted:
@@ -136,11 +144,6 @@ class Search:
                     look(cell | {claim})
         self.is_all = len(finds) < wanted
         return finds
-
-    def _size(self, find: Find) -> Tuple[int, int]:
-        """How many surprises a find has, where they are counted, and how many moves."""
-        surprises, moves = find.size
-        return (0 if self.is_exhaustive else surprises), moves
 
     def _in_cell(self, cell: Cell, find: Ask) -> Optional[Find]:
         """What is found in a cell."""
@@ -166,9 +169,3 @@ class Search:
         if self.is_exhaustive:
             return self.different(wanted, self.shortest, is_new)
         return self.different(wanted, self.ask, is_new)
-
-
-def check(found: bool) -> None:
-    """Raises `Failure` where what was found isn't so when it is made again."""
-    if not found:
-        raise Failure("what was found doesn't come to its goal when it is made again")

@@ -22,8 +22,7 @@ LEFT = 100_000
 
 @dataclasses.dataclass(frozen=True)
 class Find:
-    """An order, and what there is at its end: as a look, and as the program's views of tasks and
-    objects."""
+    """An order, and what there is at its end, as a look and as the program's views."""
 
     order: Order
     look: Look
@@ -81,8 +80,8 @@ class Stage:
         return Find(order, look, tuple(views[1:]))
 
     def table(self, find: Find, is_so: Callable[[Look], bool]) -> Tuple[List[str], bool]:
-        """Who did what in an order, as `rdbg trace` says it, and whether something is so at its end,
-        when it is made once more."""
+        """Who did what in an order, as `rdbg trace` says it, and whether something is so at its
+        end, when it is made once more."""
         self.at_boot().tell_all(find.order.lines)
         return [*self._rows()], self.walk.place == find.order.place and is_so(self.target.look())
 

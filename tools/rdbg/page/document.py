@@ -10,34 +10,17 @@ from typing import Mapping, Sequence
 HERE = pathlib.Path(__file__).resolve().parent
 # The scripts that all pages of runs have, each behind those that it uses.
 SCRIPTS = tuple(
-    HERE / name
+    HERE / f"{name}.js"
     for name in (
-        "run.js",
-        "words.js",
-        "signs.js",
-        "segments.js",
-        "arrangement.js",
-        "lanes.js",
-        "painter.js",
-        "timeline.js",
-        "tables.js",
-        "folds.js",
-        "panels.js",
-        "search.js",
-        "lane_panel.js",
-        "dragging.js",
-        "viewer.js",
-    )
+        "run words signs segments arrangement lanes painter timeline tables folds panels search"
+        " lane_panel dragging viewer"
+    ).split()
 )
 STYLE = HERE / "style.css"
 # The parts of HTML that they have, by the names that stand for them.
 PARTS = {
-    "header": "header.html",
-    "finding": "finding.html",
-    "lanes": "lanes.html",
+    **{name: f"{name}.html" for name in "header finding lanes state help".split()},
     "script-panel": "script.html",
-    "state": "state.html",
-    "help": "help.html",
 }
 POLICY = "default-src 'none'; img-src data:"
 

@@ -123,7 +123,7 @@ function scriptRows({ begin, end, line, text, beside, above }, next) {
   return [...above.map((it) => ["", "", "", "", it]), own];
 }
 
-// (what stands beside a text in lines that isn't in C are its comments)
+// (a text in lines has comments beside its instructions, a C source the C)
 const SCRIPT_HEADS = ["next", "pc", "line", "instruction", "C or comment"];
 
 // A script around its next instruction: of the task that moved last, or of one that is chosen.

@@ -1,9 +1,10 @@
 // What there is in words, as rdbg's other companions have it.
 
 const NOBODY = "-";
-const NO_LIMIT = "with no limit of time (portMAX_DELAY)";
-// The same within brackets.
-const EFFECT_NO_LIMIT = "with no limit of time: portMAX_DELAY";
+const PLAIN_NO_LIMIT = "with no limit of time";
+// The same with the name that C has for it, and so where it stands in brackets already.
+const NO_LIMIT = `${PLAIN_NO_LIMIT} (portMAX_DELAY)`;
+const EFFECT_NO_LIMIT = `${PLAIN_NO_LIMIT}: portMAX_DELAY`;
 
 function joined(list) {
   return list && list.length ? list.join(",") : NOBODY;
@@ -103,7 +104,7 @@ function waitingNames(name, value) {
 }
 
 function effectWords(move) {
-  const said = move.effects.map(([text]) => text.replace("without end", EFFECT_NO_LIMIT));
+  const said = move.effects.map(([text]) => text.replace(PLAIN_NO_LIMIT, EFFECT_NO_LIMIT));
   return said.join(", ");
 }
 

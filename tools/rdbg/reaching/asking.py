@@ -19,8 +19,8 @@ TIME, CTRL_C, STOPPED = "the time was up", "Ctrl-C came", "it was stopped"
 
 class Question(NamedTuple):
     """A question that the program has: the word that stands before the goal, whether the goal holds
-    behind the order that is its answer, what it asks, with more on it, and what an answer says whose
-    order is empty."""
+    behind the order that is its answer, what it asks, with more on it, and what an answer says
+    whose order is empty."""
 
     word: str
     is_met: bool
@@ -46,15 +46,15 @@ LOST = Question(
     "lost",
     False,
     "at which move it was lost, if it was",
-    "Of the moves that are done: from which place on no order leads there, of whatever length, the move\n"
-    "that made it so, and an order from before it; or still, with an order from here.",
+    "Of the moves that are done: from which place on no order leads there, of whatever length,"
+    " the move\nthat made it so, and an order from before it; or still, with an order from here.",
 )
 DOOMED = Question(
     "doomed",
     False,
     "whether an order leads to where it is lost",
-    "Found, with an order to a place from which none leads there any more, of whatever length; or never:\n"
-    "from every place that an order leads to some order leads there.",
+    "Found, with an order to a place from which none leads there any more, of whatever length;"
+    " or never:\nfrom every place that an order leads to some order leads there.",
     "from here no order leads there",
 )
 # Each is one row; what its answer begins with is a row of `said.HEADS`.
@@ -72,16 +72,11 @@ def program() -> str:
 
 @dataclasses.dataclass(frozen=True)
 class Asker:
-    """What is asked of: an application's file, with these options of the program; and when the time
-    is up."""
+    """An application's file, options of the program that is asked, and when the time is up."""
 
     file: str
     options: Tuple[str, ...] = ()
     end: Optional[float] = None
-
-    def left(self) -> Optional[float]:
-        """How many seconds are left."""
-        return None if self.end is None else max(0.001, self.end - time.monotonic())
 
     def ask(
         self,
@@ -92,33 +87,30 @@ class Asker:
         question: Question = REACH,
     ) -> Answer:
         """The answer to a question about a goal, behind these command lines, and of orders within a
-        bound; `more` are further lines of the program, before the question. Raises `NoQuestion` where
-        it is refused, `Failure` where the program ends otherwise than by an answer."""
+        bound; `more` are further lines of the program, before the question. Raises `NoQuestion`
+        where it is refused, `Failure` where the program ends otherwise than by an answer."""
+        bounds = (("moves", bound.moves), ("surprises", bound.surprises))
         lines = [
             *more,
             *(f"line {it}" for it in begin),
-            *bound_lines(bound),
+            *[f"{word} {count}" for word, count in bounds if count is not None],
             f"{question.word} {goal}",
         ]
         words = [program(), "--progress", *self.options, "--", self.file]
         with tempfile.TemporaryFile() as file:
             file.write("".join(f"{line}\n" for line in lines).encode())
             file.seek(0)
-            outcome = running.run(words, self.left(), file)
+            left = None if self.end is None else max(0.001, self.end - time.monotonic())
+            outcome = running.run(words, left, file)
         if outcome.is_stopped:
             is_time = self.end is not None and time.monotonic() >= self.end
-            return said.stopped(outcome.last, bound.surprises, TIME if is_time else CTRL_C)
-        return answered(outcome, bound)
+            why = TIME if is_time else CTRL_C
+            return said.stopped(outcome.last, bound.surprises, why, question is REACH)
+        return answered(outcome, bound, question)
 
 
-def bound_lines(bound: Bound) -> Sequence[str]:
-    """The lines that say of which orders a question is."""
-    bounds = (("moves", bound.moves), ("surprises", bound.surprises))
-    return [f"{word} {count}" for word, count in bounds if count is not None]
-
-
-def answered(outcome: running.Outcome, bound: Bound) -> Answer:
-    """The answer that a program has given."""
+def answered(outcome: running.Outcome, bound: Bound, question: Question) -> Answer:
+    """The answer that a program has given to a question."""
     if outcome.status == UNTOLD and not outcome.output:
         raise NoQuestion("", UNTOLD)  # (which has said why)
     replies = [it.splitlines() for it in outcome.output.split("\n\n") if it]
@@ -126,7 +118,8 @@ def answered(outcome: running.Outcome, bound: Bound) -> Answer:
         if reply[0].startswith(REFUSED):
             raise NoQuestion(reply[0][len(REFUSED) :], UNTOLD)
     if outcome.status != 0:
-        said.check("", outcome.status or 1, said.known(outcome.last, bound.surprises))
+        known = said.known(outcome.last, bound.surprises, question is REACH)
+        said.check("", outcome.status or 1, known)
     if not replies or replies[-1] == [DONE]:
         raise Failure("the program ended before its answer", UNTOLD)
     return said.read(replies[-1])

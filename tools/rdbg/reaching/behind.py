@@ -21,9 +21,9 @@ def ask_behind(
 ) -> Answer:
     """The answer about a goal, as the program has it, behind these lines, and the order behind them
     alone. The interrupts of these names may come, all that are declared where there is none, and
-    those that end waits: as often as is left, or as if none had come yet, where `counts` isn't so, or
-    where a run lost the goal is asked. `more` are further lines of the program, and `asker` has its
-    options. Raises `Failure`."""
+    those that end waits: as often as is left, or as if none had come yet, where `counts` isn't so,
+    or where a run lost the goal is asked. `more` are further lines of the program, and `asker` has
+    its options. Raises `Failure`."""
     named = handlers(names, source.application)
     found = left(named, lines) if counts and question is not LOST else named
     coming = [it.line() for it in found]

@@ -1,7 +1,7 @@
-"""What is told beside an answer about a text in lines: which interrupts may come, where instructions
-stand that no order came to, and what a goal or an order is that says little."""
+"""What is told beside an answer about a text in lines: which interrupts may come, where
+instructions stand that no order came to, and what a goal or an order is that says little."""
 import re
-from typing import Iterator, List, Sequence, Set
+from typing import Iterator, List, Sequence
 
 from rdbg.application import Task
 from rdbg.digits import is_digits
@@ -51,19 +51,16 @@ def remarks(
     if told:
         yield told
     if answer.kind is Kind.NONE and not answer.title and ASLEEP.search(asked):
-        yield from [restless(it) for it in application.tasks if never_rests(it)][:1]
+        yield from [
+            f"note: {it.name} never waits without a deadline, so nothing is asleep before it fails:"
+            " ask for quiet as `waits TASK and ..`"
+            for it in application.tasks
+            if never_rests(it)
+        ][:1]
     ticks = answer.order.count(TICK)
     if LONG < len(answer.order) <= 4 * ticks and not has_pace:
         count = len(answer.order)
         yield f"note: {ticks} of its {count} lines are ticks; `{way} {PACE}` makes them rare"
-
-
-def restless(task: Task) -> str:
-    """Why a task keeps all from being asleep, and what can be asked in its place."""
-    return (
-        f"note: {task.name} never waits without a deadline, so nothing is asleep before it fails:"
-        " ask for quiet as `waits TASK and ..`"
-    )
 
 
 def never_rests(task: Task) -> bool:

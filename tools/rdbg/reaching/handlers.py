@@ -1,10 +1,10 @@
-"""Interrupts as the program that searches takes them: those of a text by name, others by their calls."""
+"""Interrupts as the search takes them: those of a text by name, others by their calls."""
 import dataclasses
 from typing import Container, Dict, List, Optional, Sequence, Tuple
 
 from rdbg.application import ANY, NO_INTERRUPT, Application, Interrupt
 from rdbg.failure import Failure
-from rdbg.near import nearest
+from rdbg.wording import nearest
 
 OPTION, WORD, BETWEEN = "--isr", "isr", "; "
 TIMES, EVER, AFTER = "times", "any", "after"
@@ -12,8 +12,8 @@ TIMES, EVER, AFTER = "times", "any", "after"
 
 @dataclasses.dataclass(frozen=True)
 class Handler:
-    """An interrupt that may come: its calls, as they are typed, and when it comes, by the names that
-    the program's options have, of one that is given by name."""
+    """An interrupt that may come: its calls, as they are typed, and when it comes, by the names
+    that the program's options have, of one that is given by name."""
 
     calls: str
     when: Tuple[Tuple[str, str], ...] = ()
@@ -43,8 +43,8 @@ class Handler:
 
 def handlers(texts: Sequence[str], application: Optional[Application]) -> List[Handler]:
     """Those that are named, or given by their calls, in their order; all that a text declares where
-    nothing is named; and then those that end waits. One that comes after another stands behind that.
-    Raises `Failure` where it doesn't."""
+    nothing is named; and then those that end waits. One that comes after another stands behind
+    that. Raises `Failure` where it doesn't."""
     found: List[Handler] = []
     numbers: Dict[str, int] = {}
     for text in chosen(texts, application):
@@ -66,7 +66,7 @@ def handlers(texts: Sequence[str], application: Optional[Application]) -> List[H
 
 
 def chosen(texts: Sequence[str], application: Optional[Application]) -> Sequence[str]:
-    """What is named by these texts: all that is declared where there is none, and nothing by `none`."""
+    """What these texts name: all that is declared where there is none, nothing by `none`."""
     if [*texts] == [NO_INTERRUPT]:
         return ()
     return texts or (application.declared() if application else ())
@@ -82,8 +82,7 @@ def told(texts: Sequence[str], application: Optional[Application]) -> str:
 
 
 def left(handlers: Sequence[Handler], lines: Sequence[str]) -> List[Handler]:
-    """Those that may still come behind these lines; where one comes after another, as if none had
-    come yet."""
+    """Those that may still come behind these lines; all, where one comes after another."""
     if any(key == AFTER for it in handlers for key, _ in it.when):
         return [*handlers]
     return [it for one in handlers for it in one.behind(lines)]

@@ -8,13 +8,13 @@ from rdbg.reaching.said import Answer, Kind
 LOST_AT = re.compile(r"lost at (\d+)", re.ASCII)
 # So many lines of an order are told at the most.
 MOST_LINES = 40
-NOWHERE = "no order leads there from boot: it could never come"
+NOWHERE = "no order leads there from boot"
 
 
 class Loss(NamedTuple):
-    """From `place` on no order leads to the goal, and from the place before this one does; `back` is
-    the line that goes there from the end of the run. Where the place is the first that there is, it
-    came from nowhere, and there is neither."""
+    """From `place` on no order leads to the goal, and from the place before this one does; `back`
+    is the line that goes there from the end of the run. Where the place is the first that there is,
+    it came from nowhere, and there is neither."""
 
     place: int
     back: str
@@ -27,8 +27,7 @@ class Loss(NamedTuple):
 
 
 def loss_of(answer: Answer) -> Optional[Loss]:
-    """The loss that an answer tells, whose order begins where the run ends; none where it tells of
-    none."""
+    """The loss that an answer tells, if any; its order begins where the run ends."""
     found = LOST_AT.fullmatch(answer.title)
     if found is None:
         return None
@@ -37,8 +36,8 @@ def loss_of(answer: Answer) -> Optional[Loss]:
 
 
 def told(loss: Loss, move: str, way: str) -> Iterator[str]:
-    """What there is to say of a loss: the move that made it, in words, and the line by which one goes
-    before it; the order is said behind that."""
+    """What there is to say of a loss: the move that made it, in words, and the line by which one
+    goes before it; the order is said behind that."""
     if not loss.place:
         yield NOWHERE
         return
@@ -47,15 +46,14 @@ def told(loss: Loss, move: str, way: str) -> Iterator[str]:
 
 
 def in_one(question: Question, answer: Answer, row: Callable[[int], str]) -> str:
-    """What stands behind the first line of an answer, in one line, and of a loss by which move; `row`
-    says the move to a place in words."""
+    """What stands behind the first line of an answer, in one line, and of a loss by which move;
+    `row` says the move to a place in words."""
     loss = loss_of(answer)
     if loss is None:
         if answer.kind is Kind.REACHED and not answer.order:
             return question.here
         return joined(answer.order) or answer.why
-    move = row(loss.place) if loss.place else ""
-    head = "; ".join(told(loss, move, loss.back))
+    head = "; ".join(told(loss, row(loss.place) if loss.place else "", loss.back))
     return f"{head} {joined(loss.order) or question.here}" if loss.place else head
 
 

@@ -18,8 +18,8 @@ TYPED = "^C"
 
 
 class Progress(NamedTuple):
-    """What was gone through until now: all orders of at most `within` moves, of which there may be a
-    bound of `surprises`, and others, the longest of `deepest` moves. `size` is in bytes."""
+    """What was gone through until now: all orders of at most `within` moves, of which there may be
+    a bound of `surprises`, and others, the longest of `deepest` moves. `size` is in bytes."""
 
     within: int
     surprises: Optional[int]
@@ -40,8 +40,7 @@ def read(line: str) -> Optional[Progress]:
 
 
 class Gauge:
-    """Shows it at a terminal, once a second, in one line, which is gone at the end. Elsewhere
-    nothing is shown."""
+    """Shows it once a second in a line of a terminal, gone at the end; elsewhere nothing."""
 
     def __init__(self, stream: IO[str]) -> None:
         self._stream = stream
@@ -67,9 +66,8 @@ class Gauge:
         speed = (progress.moves - before) / (now - self._at)
         self._seen, self._at = progress.moves, now
         self._draw(
-            f"within {progress.within:,} moves, deepest {progress.deepest:,}:"
-            f" {progress.states:,} states, {speed:,.0f} moves a second,"
-            f" {progress.size / MEBIBYTE:,.0f} MiB"
+            f"within {progress.within:,} moves, deepest {progress.deepest:,}: {progress.states:,}"
+            f" states, {speed:,.0f} moves a second, {progress.size / MEBIBYTE:,.0f} MiB"
         )
 
     def clear(self) -> None:

@@ -4,7 +4,7 @@ import selectors
 import subprocess
 import sys
 import time
-from typing import IO, Callable, NamedTuple, Optional, Sequence
+from typing import IO, NamedTuple, Optional, Sequence
 
 from rdbg import children
 from rdbg.ending import ENDING, STARTED
@@ -73,34 +73,27 @@ class Listener:
     def listen(self, end: Optional[float] = None) -> bool:
         """Listens until the program has said all, or until a time. Whether it has said all."""
         while self._selector.get_map():
-            for key, _ in self._selector.select(self._rest(end)):
+            until_end = None if end is None else max(0.0, end - time.monotonic())
+            rests = [it for it in (until_end, self._gauge.rest()) if it is not None]
+            for key, _ in self._selector.select(min(rests, default=None)):
                 # (a signal that came in between would lose what was read)
                 with ENDING.held():
-                    self._hear(key.fd, key.data)
+                    content = os.read(key.fd, READ)
+                    key.data(content)
+                    if not content:
+                        self._selector.unregister(key.fd)
             self._gauge.show(self.heard.last)
             if end is not None and time.monotonic() >= end:
                 return False
         return True
 
-    def _hear(self, number: int, hear: Callable[[bytes], None]) -> None:
-        content = os.read(number, READ)
-        hear(content)
-        if not content:
-            self._selector.unregister(number)
-
-    def _rest(self, end: Optional[float]) -> Optional[float]:
-        """For how many seconds nothing has to be done."""
-        until_end = None if end is None else max(0.0, end - time.monotonic())
-        rests = [it for it in (until_end, self._gauge.rest()) if it is not None]
-        return min(rests, default=None)
-
 
 def run(
     words: Sequence[str], seconds: Optional[float], lines: Optional[IO[bytes]] = None
 ) -> Outcome:
-    """What comes of a program that searches, on these words, and on the lines of a file, where it is
-    given one. It is ended where so many seconds have passed, or Ctrl-C came. Raises `Failure` where
-    it can't be started."""
+    """What comes of a program that searches, on these words, and on the lines of a file, where it
+    is given one. It is ended where so many seconds have passed, or Ctrl-C came. Raises `Failure`
+    where it can't be started."""
     end = None if seconds is None else time.monotonic() + seconds
     gauge = Gauge(sys.stderr)
     with trying(f"start {words[0]}"):

@@ -44,8 +44,7 @@ MISSED = re.compile(r"no order came to (\S+)((?: \d+)+)(?: \(.*\))?", re.ASCII)
 
 @dataclasses.dataclass(frozen=True)
 class Bound:
-    """Of which orders something is said: of so many moves at the most, of so many surprises; none:
-    of any number."""
+    """Of which orders something is said: of how many moves and surprises; none: any number."""
 
     moves: Optional[int] = None
     surprises: Optional[int] = None
@@ -70,8 +69,8 @@ def fewer(one: Optional[int], other: Optional[int]) -> Optional[int]:
 class Answer:
     """An answer: the order where there is one, else of which orders it is said that the goal comes
     behind none; why it isn't said of all that were asked for; what was gone through, and to which
-    instructions of which tasks no order came; which part of how many it is of a search; and the first
-    line of it, where that says of a goal whether it was lost."""
+    instructions of which tasks no order came; which part of how many it is of a search; and the
+    first line of it, where that says of a goal whether it was lost."""
 
     kind: Kind
     bound: Bound = Bound()
@@ -84,8 +83,9 @@ class Answer:
 
     @property
     def has_order(self) -> bool:
-        """Whether an order is told, which may have no moves."""
-        return self.kind is Kind.REACHED or self.title != ""
+        """Whether an order is told, which may have no moves. (Where a goal could come from no place
+        of a run, none is.)"""
+        return self.kind is Kind.REACHED or (self.title != "" and self.order != ())
 
     def head(self) -> str:
         """The first line of it."""
@@ -150,19 +150,25 @@ def check(output: str, status: int, known: str) -> None:
     raise Failure(f"the program {why}" + (f"; until then: {known}" if known else ""), UNTOLD)
 
 
-def stopped(last: Optional[Progress], surprises: Optional[int], why: str) -> Answer:
+def stopped(
+    last: Optional[Progress], surprises: Optional[int], why: str, is_reach: bool = True
+) -> Answer:
     """What is known where a search ended in the midst of it, by how far it had said to be, and how
-    many surprises an order was to have at the most."""
+    many surprises an order was to have at the most. Where another question than `reach` was asked,
+    how far it was says nothing of the answer."""
     if last is None:
         return Answer(Kind.UNTOLD, why=why)
     most = surprises if last.surprises is None else last.surprises
+    bound = Bound(last.within, most) if is_reach else Bound()
     counts = last.states, last.moves, last.deepest
-    return Answer(Kind.UNTOLD, Bound(last.within, most), why=why, counts=counts)
+    return Answer(Kind.UNTOLD, bound, why=why, counts=counts)
 
 
-def known(last: Optional[Progress], surprises: Optional[int]) -> str:
-    """Of which orders that is known, in words; empty where it hadn't said yet how far it was."""
-    return "" if last is None else stopped(last, surprises, "").bound.text()
+def known(last: Optional[Progress], surprises: Optional[int], is_reach: bool = True) -> str:
+    """Of which orders that is known, in words; empty where it hadn't said yet how far it was, and
+    where another question than `reach` was asked."""
+    is_said = last is not None and is_reach
+    return stopped(last, surprises, "").bound.text() if is_said else ""
 
 
 def both(one: Answer, other: Answer) -> Answer:

@@ -79,8 +79,7 @@ class Words(NamedTuple):
         """The words of the program, with another file and goal."""
         first, second, *others = self.plain()
         new = {first: file, second: goal}
-        words = enumerate(self.program)
-        return [new.get(at, word) for at, word in words if at not in others]
+        return [new.get(at, word) for at, word in enumerate(self.program) if at not in others]
 
     def put_file(self, file: str) -> List[str]:
         """The words of the program, with another file."""
@@ -137,8 +136,8 @@ def own(word: str) -> Tuple[str, Optional[str]]:
 
 
 def read(words: Sequence[str]) -> Words:
-    """What words ask for. Raises `Failure` where one of what starts the program is wrong; all others
-    are the program's to judge."""
+    """What words ask for. Raises `Failure` where one of what starts the program is wrong; all
+    others are the program's to judge."""
     program = [PROGRESS]
     found: Dict[str, str] = {}
     consts: List[str] = []

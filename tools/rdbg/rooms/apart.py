@@ -25,7 +25,8 @@ FLAGS = struct.Struct("16sH14x")
 LOOPBACK = b"lo"
 # Python ignores these, and a program shouldn't.
 IGNORED = (signal.SIGPIPE, signal.SIGXFSZ)
-# The room is told by this that the sockets are there; behind it stands only why nothing was started.
+# The room is told by this that the sockets are there; behind it stands only why nothing was
+# started.
 MADE = b"+"
 MOST_TEXT = 1_000
 

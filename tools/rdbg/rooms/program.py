@@ -1,5 +1,5 @@
-"""The program of a room: what it is asked and what it has answered, where its target is, and who has
-the wheel."""
+"""The program of a room: what it is asked and what it has answered, where its target is, and who
+has the wheel."""
 import threading
 import time
 from typing import Callable, Dict, List, Optional, Sequence
@@ -15,14 +15,15 @@ from rdbg.rooms.seats import Seat
 from rdbg.rooms.sight import Sight
 from rdbg.driving.target import UNCOUNTED, Limits, read, read_line
 from rdbg.files.source import Source
+from rdbg.wording import counted
 
 # So many entries have room for some 30,000 moves of a small application, with the looks that tell
 # them; then a new program goes on, and the memory of the old one is free.
 HISTORY = 250_000
 # With so little of the history left, the room looks no more by itself: one part of so many.
 SCARCE = 10
-# Then a new program goes on. It is tried to be had for so many seconds, while nobody is answered, and
-# where it can't be had once more after so many.
+# Then a new program goes on. It is tried to be had for so many seconds, while nobody is answered,
+# and where it can't be had once more after so many.
 TRIES, AGAIN = 0.3, 1.0
 FULL = "no HistoryFull"
 
@@ -146,7 +147,7 @@ class Program:
             if not isinstance(value, replies.Moved):
                 return [f"the target is at {self.place}: what tells moves was answered {moved}"]
             looks.append(self.sight.taken(value.at, seen))
-        more = [f".. {made - count} moves before these"] if made > count else []
+        more = [f".. {counted(made - count, 'move')} before these"] if made > count else []
         return more + self.sight.rows(looks)
 
     def is_scarce(self) -> bool:
@@ -253,8 +254,8 @@ class Program:
 
 
 def watch_again(host: Host, seat: Seat) -> List[str]:
-    """Has a new program keep the watches of a session, under the same numbers. Answers those that it
-    refuses, which are none any more."""
+    """Has a new program keep the watches of a session, under the same numbers. Answers those that
+    it refuses, which are none any more."""
     dropped = []
     for number, condition in sorted(seat.watches.items()):
         reply, _ = host.tell_all(seat.number, [f"watch {condition}", "unwatch 0"])

@@ -1,4 +1,5 @@
-"""A room's file read anew: the same moves are made on it, up to the first that does something else."""
+"""A room's file read anew: the same moves are made on it, up to the first that does something
+else."""
 import threading
 from typing import TYPE_CHECKING, List, NamedTuple
 

@@ -493,10 +493,9 @@ class Room:
         seat, member = self._seats.of_number(holder), self._members.get(holder)
         silence = self._silence(seat)
         if member is not None and silence < self.idle:
-            raise Refusal(
-                f"{seat.name} has the wheel and isn't idle: {counted(silence, 'second')} without a line,"
-                f" {counted(self.idle, 'second')} would do"
-            )
+            waited, enough = (counted(it, "second") for it in (silence, self.idle))
+            why = f"{waited} without a line, {enough} would do"
+            raise Refusal(f"{seat.name} has the wheel and isn't idle: {why}")
         self._program.ask(seat, "wheel give")
         why = f"idle for {counted(silence, 'second')}" if member else "away"
         return (

@@ -54,7 +54,7 @@ class Sight:
         return "" if command.form.word in BY_HAND else move.text()
 
     def rows(self, looks: Sequence[Look]) -> List[str]:
-        """The moves between looks, a row each; ticks in a row that did nothing else stand in one."""
+        """The moves between looks, a row each; ticks in a row that did nothing else have one."""
         return trail.rows([self.move(*pair) for pair in zip(looks, looks[1:])])
 
     def next(self, look: Look) -> str:

@@ -145,7 +145,7 @@ class Handler(BaseHTTPRequestHandler):
             for kind, text in page.take(self.server.room, self.server.follower):
                 self._event(kind, text)
             if has_ended:
-                return self._event("end", as_json("the room has ended"))
+                return self._event("end", as_json(page.moves()))
             ready = select.select([self.connection, page.woken], [], [], STILL_HERE)[0]
             if self.connection in ready:
                 return  # (a page has nothing more to say here: it has gone)

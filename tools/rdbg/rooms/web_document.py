@@ -1,5 +1,5 @@
-"""The page of a room, as it is served to who isn't let in yet: style and scripts, and nothing of the
-room; and what stays of the application, which who is let in asks for."""
+"""The page of a room, as it is served to who isn't let in yet: style and scripts, and nothing of
+the room; and what stays of the application, which who is let in asks for."""
 import pathlib
 from typing import Dict
 

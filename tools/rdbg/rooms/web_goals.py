@@ -1,6 +1,6 @@
-"""Goals that are typed at a page: `reach GOAL`, whether some order of moves leads there from where the
-target stands, `lost GOAL` and `doomed GOAL`, asked of the program that searches, while the room goes
-on; and why words are none. Runs to them are in `web_ways`."""
+"""Goals that are typed at a page: `reach GOAL`, whether some order of moves leads there from where
+the target stands, `lost GOAL` and `doomed GOAL`, asked of the program that searches, while the room
+goes on; and why words are none. Runs to them are in `web_ways`."""
 import time
 from typing import Sequence
 

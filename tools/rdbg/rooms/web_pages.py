@@ -170,8 +170,8 @@ class Page:
             self._lines.release()
 
     def _said(self, line: str) -> str:
-        """What is said to a line of rdbg's, or to a word of `sh`; of what is refused with what would
-        be right."""
+        """What is said to a line of rdbg's, or to a word of `sh`; of what is refused with what
+        would be right."""
         assert self.member is not None
         self._prompt = self._prompt or Prompt(self._room, self.member)
         said = self._prompt.said(line)

@@ -63,8 +63,10 @@ class Prompt(Quiet):
         if words and words[0] in ELSEWHERE:
             return f"no: {ELSEWHERE[words[0]]}"
         if word is not None and "FILE" in word.behind:
-            return f"no: a page reads and writes no files of the room's machine: `{words[0]}` is for `sh`"
+            files = "a page reads and writes no files of the room's machine"
+            return f"no: {files}: `{words[0]}` is for `sh`"
         if "\n" in line or len(line.encode("utf-8", "replace")) > MOST_BYTES:
-            return f"{self._member.ask(line)}: a line has at most {MOST_BYTES} bytes, and no other behind it"
+            most = f"a line has at most {MOST_BYTES} bytes, and no other behind it"
+            return f"{self._member.ask(line)}: {most}"
         self.target.moved_by_others(self._room.place)
         return super().said(line)

@@ -1,6 +1,6 @@
-"""Runs and ways back to a goal that are typed at a page: `until! GOAL`, `rc GOAL`, `rc! GOAL`, and those
-of `until` and `back until` for which rdbg has no line. The place is found in a program of the page's
-own, and gone to by one line of rdbg's."""
+"""Runs and ways back to a goal that are typed at a page: `until! GOAL`, `rc GOAL`, `rc! GOAL`, and
+those of `until` and `back until` for which rdbg has no line. The place is found in a program of the
+page's own, and gone to by one line of rdbg's."""
 import dataclasses
 from typing import NamedTuple, Optional, Sequence, Tuple
 
@@ -23,8 +23,8 @@ SYNTAX = "no Syntax"
 
 
 class Typed(NamedTuple):
-    """What was typed: whether it goes forwards, whether to where a goal becomes so, and the words of
-    the goal."""
+    """What was typed: whether it goes forwards, whether to where a goal becomes so, and the words
+    of the goal."""
 
     is_forwards: bool
     becoming: bool
@@ -32,8 +32,8 @@ class Typed(NamedTuple):
 
 
 def typed(line: str) -> Optional[Typed]:
-    """The run or the way back that a line asks for, which is no command of rdbg's; none where it asks
-    for something else."""
+    """The run or the way back that a line asks for, which is no command of rdbg's; none where it
+    asks for something else."""
     words = line.split()
     head, behind = words[:1], words[1:]
     if head == [record.BACK] and behind[:1] in (["until"], ["until!"]):

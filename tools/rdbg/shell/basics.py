@@ -4,9 +4,9 @@ from typing import TYPE_CHECKING, List, Sequence, Tuple
 
 from rdbg import commands, instructions
 from rdbg.checking import freertos
-from rdbg.shell import glossary
-from rdbg.shell.gdb import HINTS
 from rdbg.driving.target import Unable
+from rdbg.shell import glossary
+from rdbg.shell.glossary import HINTS
 
 if TYPE_CHECKING:
     from rdbg.shell.shell import Shell
@@ -50,8 +50,9 @@ def overview() -> str:
     own = [(", ".join([it.form, *it.short[:1]]), it.does) for it in WORDS]
     rdbg = " ".join(sorted(commands.WORDS))
     more = (
-        "`help rdbg` says more of them, `help COND` of conditions, `help GOAL` of goals, `help send`"
-        " of an\ninstruction, `help xQueueSend` of what FreeRTOS calls so, `help NoTask` of a refusal."
+        "`help rdbg` says more of them, `help COND` of conditions, `help GOAL` of goals,\n"
+        "`help send` of an instruction, `help xQueueSend` of what FreeRTOS calls so,\n"
+        "`help NoTask` of a refusal."
     )
     keys = "Enter repeats the last line, Tab completes, # begins a comment, Ctrl-C ends a run."
     return "\n".join([*forms("Words of sh's own:", own), f"Lines of rdbg: {rdbg}", more, keys])

@@ -1,6 +1,6 @@
 """What Tab puts behind the words of a line: the next words of a form, names of the right kind."""
 import glob
-from typing import TYPE_CHECKING, Iterable, List, Sequence
+from typing import TYPE_CHECKING, Dict, Iterable, List, Sequence
 
 from rdbg import commands, kinds
 from rdbg.goals import reading, sought
@@ -8,6 +8,15 @@ from rdbg.shell import basics, glossary, seek, views, words
 
 if TYPE_CHECKING:
     from rdbg.shell.shell import Shell
+
+
+# The words that some symbols stand for, whatever there is.
+PLAIN: Dict[str, Iterable[str]] = {
+    "OP": commands.OPERATORS,
+    "WORD": commands.PHASES,
+    "ACTION": commands.ACTIONS,
+    "R": "01234567",
+}
 
 
 def candidates(shell: "Shell", before: Sequence[str], begun: str) -> List[str]:
@@ -61,10 +70,12 @@ def condition(behind: Sequence[str]) -> List[str]:
 def of_symbol(shell: "Shell", symbol: str, begun: str) -> List[str]:
     """The words that a symbol stands for."""
     target = shell.target
-    if symbol in ("K", "PART", "INFO", "HELP"):
-        return (
-            [*target.names.tasks, *more(shell, symbol)] if symbol != "HELP" else more(shell, symbol)
-        )
+    if symbol in PLAIN:
+        return list(PLAIN[symbol])
+    if symbol in ("K", "PART", "INFO"):
+        return [*target.names.tasks, *more(shell, symbol)]
+    if symbol == "HELP":
+        return more(shell, symbol)
     if symbol == "OBJECT":
         return [name for _, name in target.names.objects]
     if symbol in kinds.OF_SYMBOL:
@@ -72,14 +83,6 @@ def of_symbol(shell: "Shell", symbol: str, begun: str) -> List[str]:
     if symbol == "C":
         cores = target.application.cores if target.application else 0
         return [*(str(core) for core in range(cores)), *target.names.tasks]
-    if symbol == "OP":
-        return list(commands.OPERATORS)
-    if symbol == "WORD":
-        return list(commands.PHASES)
-    if symbol == "ACTION":
-        return list(commands.ACTIONS)
-    if symbol == "R":
-        return [str(number) for number in range(8)]
     if symbol == "wN":
         return [f"w{number}" for number in target.watches]
     if symbol == "FILE":
@@ -115,5 +118,5 @@ class Completer:
             before = readline.get_line_buffer()[: readline.get_begidx()].split()
             self._found = candidates(self.shell, before, begun)
             if len(self._found) == 1:
-                self._found = [self._found[0] + " "]
+                self._found[0] += " "
         return self._found[state] if state < len(self._found) else None

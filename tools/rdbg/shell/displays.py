@@ -3,6 +3,7 @@ from typing import TYPE_CHECKING, List, Sequence
 
 from rdbg import commands
 from rdbg.driving.target import Unable
+from rdbg.failure import turned
 from rdbg.goals import computed
 from rdbg.goals.reading import NoGoal
 from rdbg.replies import Refused
@@ -20,14 +21,12 @@ def texts(shell: "Shell", words: Sequence[str]) -> List[str]:
     is_plain = all(part in known for part in parts) or views.SETTING.fullmatch(text) is not None
     if is_plain or not computed.is_meant(text, scope):
         return views.values(shell, words)
-    try:
+    with turned(Unable, NoGoal, computed.Undefined):
         found = computed.expression(text, scope)
         target = shell.target
         look = shell.look() if target.is_own else target.look(found.names(target.names))
         value = found.said(look)
-        return [f"{text}: {value}" if value in computed.TRUTHS else f"{text} = {value}"]
-    except (NoGoal, computed.Undefined) as wrong:
-        raise Unable(str(wrong)) from None
+    return [f"{text}: {value}" if value in computed.TRUTHS else f"{text} = {value}"]
 
 
 def put(shell: "Shell", words: Sequence[str]) -> None:

@@ -1,4 +1,5 @@
-"""Words that stand in replies, and not at the beginning of a line: what each of them means."""
+"""Words that stand in replies, and not at the beginning of a line: what each of them means. And
+what those of gdb are here."""
 import re
 from typing import Dict, List
 
@@ -8,9 +9,9 @@ from rdbg.shell.views import REGISTERS
 PHASES: Dict[str, str] = {
     "run": "the task goes on with its next instruction, on a core or ready for one",
     "wait": "the task waits in a call: wait:PLACE:DEADLINE, as wait:recv:jobs:10, until tick 10 at"
-    " the most, or max without a deadline",
-    "again": "the task was woken and hasn't run yet: its next step tries the call again, and another"
-    " task may have been there first; again:DEADLINE",
+    " the most, or max with no limit of time",
+    "again": "the task was woken and hasn't run yet: its next step tries the call again, and"
+    " another task may have been there first; again:DEADLINE",
     "given": "the task was woken with the bits of an event group, which its next step returns",
     "ended": "the task has done `end`, and never runs again",
     "failed": "a call went wrong in a way that no answer tells, as SetFull or BadBits, where the"
@@ -21,8 +22,8 @@ GOALS: Dict[str, str] = {
     " left. A task that never waits, as one that plays an interrupt and ends in a jump, keeps it"
     " off: then `until sleeps TASK`",
     "finished": "all tasks have ended",
-    "stuck": "no core is busy, and no task has a deadline: `asleep`, `finished`, or no task waits and"
-    " one has failed",
+    "stuck": "no core is busy, and no task has a deadline: `asleep`, `finished`, or no task waits"
+    " and one has failed",
     "failed": "some task's phase is failed; `failed TASK`: this one's is",
     "ended": "`ended TASK`: its phase is ended",
     "at": "`at TASK N`: it has instruction N to do, or waits in it; N may be a label",
@@ -30,8 +31,9 @@ GOALS: Dict[str, str] = {
     " there",
     "runs": "`runs TASK`: it is on a core",
     "wakes": "`wakes TASK`: it waited before the move, and doesn't after it",
-    "sleeps": "`sleeps TASK`: it waits without a deadline",
-    "changes": "`changes QUEUE`, or another object: what it holds isn't what it was before the move",
+    "sleeps": "`sleeps TASK`: it waits with no limit of time",
+    "changes": "`changes QUEUE`, or another object: what it holds isn't what it was before the"
+    " move",
 }
 REFUSALS: Dict[str, str] = {
     "NoTask": "the core is idle: `where` says who is on which",
@@ -86,7 +88,7 @@ TERMS: Dict[str, str] = {
     "echo": "`set echo on` shows each line that goes to rdbg, behind >",
 }
 CONSTANTS: Dict[str, str] = {
-    "portMAX_DELAY": "max, as a block time: without a deadline",
+    "portMAX_DELAY": "max, as a block time: with no limit of time",
     "pdTRUE": "1",
     "pdPASS": "1",
     "pdFALSE": "0",
@@ -135,3 +137,46 @@ def of_freertos(word: str) -> str:
             f"nothing stands for {name}; docs/CALLS.md has each call that an instruction stands for"
         )
     return ""
+
+
+# What gdb calls otherwise, or has and rdbg hasn't: a sentence for each word.
+HINTS: Dict[str, str] = {
+    "run": "the target stands at boot already: `step 0`, `until COND 1000`; back to it: `goto 0`",
+    "start": "the target stands at boot already: `step 0`, `until COND 1000`",
+    "kill": "`goto 0` goes back to boot, `quit` ends",
+    "file": "the file is given at the start: `rdbg sh FILE`; `reload` reads it again",
+    "attach": "`rdbg sh --port P` attaches to `rdbg serve`",
+    "detach": "`wheel give` gives the wheel back, `quit` ends",
+    "bt": "a task has no frames here: `where` says what each core does next, `moves` how it came",
+    "frame": "a task has no frames: `where`, `info worker`",
+    "finish": "there are no functions: `until! phase worker run` goes to where its call returned",
+    "advance": "`until pc worker = 3 1000` goes to instruction 3 of a task",
+    "thread": "tasks go by name: `step worker`, `info worker`, `list worker`",
+    "set": "`set echo on`, `set moves on`; edits change what the target has: `poke reg K R N`",
+    "call": "calls are the scripts' own; `poke pc K N` sets where a task goes on",
+    "jump": "`poke pc worker 3` lets a task in phase run go on at instruction 3",
+    "x": "there is no memory: `show queue Q`, `show stream B`, `info objects`",
+    "rwatch": "a read isn't seen: `until changes Q` ends where something was taken or put",
+    "awatch": "`until changes Q` ends where something was taken or put",
+    "catch": "`until failed`, `until asleep` and `until wakes TASK` end at such an event",
+    "commands": "a watch does nothing by itself: `continue` ends where one becomes so",
+    "hbreak": "all breakpoints are alike: `break`, `tbreak`",
+    "condition": "a condition is the watch itself: `break COND`, as in `break count jobs > 0`",
+    "ignore": "`continue` ends at each time: give it again",
+    "record": "all moves are kept, and can be taken back at any time",
+    "checkpoint": "each number of moves is a place: remember it, and `goto N`",
+    "restart": "`goto N` goes to any place, `goto 0` to boot",
+    "signal": "an interrupt is `isr send Q HEX` or `isr notify K I N ACTION`, in profile 2",
+    "stop": "Ctrl-C ends a run",
+    "shell": "the shell is outside: Ctrl-Z, or another terminal",
+    "ptype": "`info objects` says what there is",
+    "disassemble": "`list TASK` shows a script",
+}
+HINTS.update(dict.fromkeys(("up", "down"), "a task has no frames: `where`, `info TASK`"))
+# Words of gdb that mean the same as one of these.
+ALIKE: Dict[str, str] = {
+    **{"r": "run", "k": "kill", "backtrace": "bt", "f": "frame", "fin": "finish"},
+    **{"adv": "advance", "t": "thread", "j": "jump", "disas": "disassemble", "set!": "set"},
+    **{"handle": "signal", "whatis": "ptype", "interrupt": "stop"},
+}
+HINTS.update({word: HINTS[other] for word, other in ALIKE.items()})

@@ -2,9 +2,9 @@
 from typing import TYPE_CHECKING, Callable, Dict
 
 from rdbg import commands, kinds, record
-from rdbg.near import nearest
 from rdbg.replies import Refused
 from rdbg.shell.syntax import syntax
+from rdbg.wording import nearest
 
 if TYPE_CHECKING:
     from rdbg.shell.shell import Shell
@@ -16,8 +16,7 @@ def no_such(shell: "Shell", line: str) -> str:
     if command is None:
         return "a name, a core, a register or an entry isn't there"
     is_asked = command.condition is not None
-    pairs = zip(command.symbols, command.words)
-    texts = (missing(shell, symbol, it, is_asked) for symbol, it in pairs)
+    texts = (missing(shell, *pair, is_asked) for pair in zip(command.symbols, command.words))
     return "; ".join(text for text in texts if text) or "what it names isn't there"
 
 
@@ -37,9 +36,8 @@ def missing(shell: "Shell", symbol: str, it: str, is_asked: bool) -> str:
 
 def amount(number: int, noun: str) -> str:
     """`is one core`, `are 2 cores`."""
-    if number == 1:
-        return f"is one {noun}"
-    return f"are {number} {noun[:-1] + 'ies' if noun.endswith('y') else noun + 's'}"
+    several = noun[:-1] + "ies" if noun.endswith("y") else noun + "s"
+    return f"is one {noun}" if number == 1 else f"are {number} {several}"
 
 
 def missing_name(shell: "Shell", kind: str, name: str, is_asked: bool) -> str:
@@ -105,12 +103,7 @@ def too_far(shell: "Shell", kept: int) -> str:
     return f"only {kept} moves can be taken back: `goto {base}` goes as far as they lead"
 
 
-def bad_edit(shell: "Shell", line: str) -> str:
-    """What an edit of this sort can't do."""
-    words = commands.words_of(line)
-    return BAD_EDITS.get(words[1] if len(words) > 1 else "", "")
-
-
+# What edits of each sort can't do.
 BAD_EDITS = {
     "pc": "only a task in phase run has another pc, and one that its script has: `info tasks`",
     "group": "bits are at most 16777215",
@@ -124,7 +117,7 @@ REFUSALS: Dict[str, Hint] = {
     "NoTask": no_task,
     "MovesFull": moves_full,
     "NothingUndone": nothing_undone,
-    "BadEdit": bad_edit,
+    "BadEdit": lambda shell, line: BAD_EDITS.get("".join(commands.words_of(line)[1:2]), ""),
 }
 SENTENCES: Dict[str, str] = {
     "TickLimit": "the tick can't grow any more; `back` takes ticks back",

@@ -1,15 +1,15 @@
-"""What must be looked at to tell what one line did: looks take places of a history, and where others
-are attached it is theirs too."""
+"""What must be looked at to tell what one line did: looks take places of a history, and where
+others are attached it is theirs too."""
 import dataclasses
 from typing import Optional
 
 from rdbg import kinds
 from rdbg.by_hand import INTERRUPT
 from rdbg.commands import Command
+from rdbg.driving.target import Target
 from rdbg.effects import LOCAL
 from rdbg.instructions import form_of
 from rdbg.looks import Look, Names
-from rdbg.driving.target import Target
 
 
 def names_for(target: Target, command: Command, last: Optional[Look]) -> Names:
@@ -19,25 +19,16 @@ def names_for(target: Target, command: Command, last: Optional[Look]) -> Names:
     if word == "tick":
         return Names(target.names.tasks)
     if word == "poke":
-        symbol, name = command.symbols[2], command.words[2]
-        return (
-            Names((name,))
-            if symbol == kinds.TASK.symbol
-            else Names((), ((kinds.OF_SYMBOL[symbol].word, name),))
-        )
+        kind, name = kinds.OF_SYMBOL[command.symbols[2]], command.words[2]
+        return Names((name,)) if kind is kinds.TASK else Names((), ((kind.word, name),))
     if word == INTERRUPT:
-        return of_interrupt(target, command)
+        if command.symbols[2] != kinds.QUEUE.symbol:
+            return Names(target.names.tasks)  # (whom it wakes may displace another)
+        # (an item that it sends has its handle in a set, if the queue is a member)
+        sets = [key for key in target.names.objects if key[0] == kinds.QUEUE_SET.word]
+        return Names(target.names.tasks, ((kinds.QUEUE.word, command.words[2]), *sets))
     found = of_step(target, int(command.words[1]), last) if word == "step" and last else None
     return target.names if found is None else found
-
-
-def of_interrupt(target: Target, command: Command) -> Names:
-    """What an interrupt can change: whom it wakes may displace another, and an item that it sends
-    has its handle in a set, if the queue is a member."""
-    if command.symbols[2] != kinds.QUEUE.symbol:
-        return Names(target.names.tasks)
-    sets = [key for key in target.names.objects if key[0] == kinds.QUEUE_SET.word]
-    return Names(target.names.tasks, ((kinds.QUEUE.word, command.words[2]), *sets))
 
 
 def of_step(target: Target, core: int, last: Look) -> Optional[Names]:
@@ -45,10 +36,9 @@ def of_step(target: Target, core: int, last: Look) -> Optional[Names]:
     task = last.cores.running[core] if core < len(last.cores.running) else None
     if task not in last.tasks or task is None:
         return None
-    text = target.instruction(task, last.tasks[task].pc)
-    if text is None:
+    words = (target.instruction(task, last.tasks[task].pc) or "").split()
+    if not words:
         return None
-    words = text.split()
     form = form_of(words[0])
     if form is None or words[0] in LOCAL:
         return Names((task,))
@@ -79,8 +69,3 @@ def together(older: Optional[Look], newer: Look) -> Look:
         return newer
     tasks = {**older.tasks, **newer.tasks}
     return dataclasses.replace(newer, tasks=tasks, objects={**older.objects, **newer.objects})
-
-
-def names_of(look: Look) -> Names:
-    """What a look has looked at."""
-    return Names(tuple(look.tasks), tuple(look.objects))

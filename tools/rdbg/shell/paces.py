@@ -1,4 +1,4 @@
-"""`pace`, `go` and `interrupts`: runs in which each busy core makes enough moves between two ticks."""
+"""`pace`, `go` and `interrupts`: runs in which cores make enough moves between two ticks."""
 from typing import TYPE_CHECKING, Dict, List, Optional, Sequence
 
 from rdbg import commands
@@ -6,9 +6,8 @@ from rdbg.application import NO_INTERRUPT, Interrupt
 from rdbg.driving.interrupt import Interrupted
 from rdbg.driving.pacing import IS, NONE, TickPace, pace
 from rdbg.driving.target import Unable
-from rdbg.driving.walk import Walk
 from rdbg.goals.paced import PacedWalk
-from rdbg.near import nearest
+from rdbg.wording import nearest
 
 if TYPE_CHECKING:
     from rdbg.shell.shell import Shell
@@ -39,14 +38,11 @@ def said(shell: "Shell") -> str:
 
 
 def take(shell: "Shell", found: Optional[TickPace], coming: Optional[Sequence[Interrupt]]) -> None:
-    """Goes on at a pace, or at none, with interrupts that come by themselves, where it was said which."""
+    """Goes on at a pace, or at none, with these interrupts, where it was said which."""
     if isinstance(shell.walk, PacedWalk):
         shell.walk.end()
     shell.pace, shell.coming = found, None if coming is None else tuple(coming)
-    if found is None:
-        shell.walk = Walk(shell.target, shell.interrupt)
-    else:
-        shell.walk = PacedWalk(shell.target, shell.interrupt, found, shell.coming or ())
+    shell.walk = shell.walking(shell.target)
 
 
 def interrupts(shell: "Shell", words: Sequence[str]) -> None:
@@ -65,8 +61,8 @@ def let_come(shell: "Shell", found: Optional[TickPace], coming: Sequence[Interru
 
 
 def chosen(words: Sequence[str], there: Dict[str, Interrupt]) -> List[Interrupt]:
-    """The interrupts of these names, by `none` none. Raises `Unable` where one isn't there, or where
-    one comes after another that isn't among them."""
+    """The interrupts of these names, by `none` none. Raises `Unable` where one isn't there, or
+    where one comes after another that isn't among them."""
     if [*words] == [NO_INTERRUPT]:
         return []
     for name in words:

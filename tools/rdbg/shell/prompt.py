@@ -7,10 +7,10 @@ import sys
 from types import ModuleType
 from typing import TYPE_CHECKING, Optional
 
-from rdbg import own_file
+from rdbg import links, own_file
 from rdbg.client import Incoming
-from rdbg.failure import Failure
 from rdbg.driving.interrupt import Woken
+from rdbg.failure import Failure
 from rdbg.shell import sourcing
 
 if TYPE_CHECKING:
@@ -21,9 +21,9 @@ MOST_LINES = 2_000
 WIPE = "\r\x1b[K"
 # Lines with these words aren't repeated by Enter.
 ONCE = (
-    "watch", "unwatch", "break", "b", "tbreak", "tb", "display", "undisplay", "source", "delete", "d", "save", "save!", "reload", "reach", "lost", "doomed", "play", "again", "set", "help", "h", "?",
-    "wheel", "poke", "isr", "goto", "g", "#",
-)  # fmt: skip
+    "watch unwatch break b tbreak tb display undisplay source delete d save save! reload reach lost"
+    " doomed play again set help h ? wheel poke isr goto g #"
+).split()
 
 
 def load_readline() -> Optional[ModuleType]:
@@ -72,7 +72,8 @@ class Lines:
         if self.file is None or self.readline is None:
             return
         try:
-            self.file.parent.mkdir(mode=0o700, parents=True, exist_ok=True)
+            folder = os.path.dirname(links.behind(str(self.file)))
+            pathlib.Path(folder).mkdir(mode=0o700, parents=True, exist_ok=True)
             os.close(own_file.opened(str(self.file), os.O_WRONLY | os.O_CREAT | os.O_APPEND))
             self.readline.read_history_file(str(self.file))
         except (Failure, OSError, ValueError):
@@ -117,7 +118,7 @@ class Lines:
         """The line that is typed, of which so much is there already. Raises `Woken` where something
         comes before it is whole."""
         if self.readline is not None:
-            # (no function of Python's own: a signal that came in it would be lost, and what was typed)
+            # (a function of Python's own would lose a signal that comes in it, and what was typed)
             self.readline.set_startup_hook(functools.partial(self.readline.insert_text, begun))
         interrupt = self.shell.interrupt
         with self.shell.notices.listening(interrupt.wake), interrupt.at_prompt() as typed:

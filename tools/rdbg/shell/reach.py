@@ -1,12 +1,12 @@
-"""`reach`, `lost`, `doomed` and `again`: what can still come from here, and at which move it was lost,
-asked of the program that searches."""
+"""`reach`, `lost`, `doomed` and `again`: what can still come from here, and at which move it was
+lost, asked of the program that searches."""
 import dataclasses
 from typing import TYPE_CHECKING, Callable, List, NamedTuple, Optional, Sequence
 
 from rdbg.driving import trail
 from rdbg.driving.target import Unable
 from rdbg.effects import Move
-from rdbg.failure import Failure
+from rdbg.failure import Failure, turned
 from rdbg.goals import words as goal_words
 from rdbg.reaching import beside, losing
 from rdbg.reaching.asking import LOST, Question
@@ -50,8 +50,7 @@ def asks(question: Question) -> Callable[["Shell", Sequence[str]], None]:
     def ask(shell: "Shell", words: Sequence[str]) -> None:
         goal = " ".join(words) or shell.goal
         if not goal:
-            text = question.lacks_goal("worker")
-            raise Unable(f"{text}; help {question.word} says more")
+            raise Unable(f"{question.lacks_goal('worker')}; help {question.word} says more")
         with shell.wheel():
             lines = replay.lines_of(shell)
         said = asked(shell, question, goal, lines)
@@ -68,7 +67,9 @@ def again(shell: "Shell", words: Sequence[str]) -> None:
     """`again`: the file is read anew, and asked for the same goal."""
     before = shell.reached
     if words or before is None:
-        raise Unable("`again` asks what `reach GOAL` asked last, of the file as it is now")
+        raise Unable(
+            "`again` asks what `reach`, `lost` or `doomed` asked last, of the file as it is now"
+        )
     replay.reload(shell, [])
     lines = replay.lines_of(shell)
     is_there = len(lines) >= before.place
@@ -76,9 +77,9 @@ def again(shell: "Shell", words: Sequence[str]) -> None:
     head = said.answer.head()
     where = f"from {before.place} on" if is_there and before.place else "from boot on"
     shell.say(f"{before.goal}, {where}: it was {before.said}, and is {head}")
-    say(shell, before.question, said, before.place if is_there else 0)
     place = before.place if is_there else 0
-    shell.reached = Reached(before.question, before.goal, place, head)
+    say(shell, before.question, said, place)
+    shell.reached = dataclasses.replace(before, place=place, said=head)
 
 
 def asked(shell: "Shell", question: Question, goal: str, lines: List[str]) -> Said:
@@ -89,12 +90,10 @@ def asked(shell: "Shell", question: Question, goal: str, lines: List[str]) -> Sa
         raise Unable(f"`{question.word}` needs the application's file: `rdbg sh FILE`")
     names = shell.may_come()
     pace = [f"pace {shell.pace.text}"] if shell.pace is not None else []
-    try:
+    with turned(Unable, Failure):
         _, words = goal_words.for_search(goal.split(), shell.scope())
         with shell.interrupt.at_prompt():
             answer = ask_behind(source, lines, question, words, names, pace)
-    except Failure as failure:
-        raise Unable(str(failure)) from None
     more = [*beside.remarks(answer, source, names, words, bool(pace), "pace")]
     if question is LOST and any(line.split(" ")[0] == WORD for line in lines):
         more.append("note: from each place on interrupts may come as if none had come yet")
@@ -102,8 +101,8 @@ def asked(shell: "Shell", question: Question, goal: str, lines: List[str]) -> Sa
 
 
 def say(shell: "Shell", question: Question, said: Said, place: int) -> None:
-    """Says an answer, and the order in it, which begins at a place; of a goal that was lost, by which
-    move, and the order begins before that."""
+    """Says an answer, and the order in it, which begins at a place; of a goal that was lost, by
+    which move, and the order begins before that."""
     answer = said.answer
     shell.say(answer.head())
     loss = losing.loss_of(answer)
@@ -146,19 +145,13 @@ def play(shell: "Shell", words: Sequence[str]) -> None:
         raise Unable(f"the order begins at {order.place}: `goto {order.place}`, then `play`")
     with shell.wheel():
         start = shell.target.places().done
-        reply = made(shell, order.lines)
+        reply = ""
+        for line in order.lines:
+            shell.interrupt.check()
+            reply = shell.target.tell(line)
+            if reply.startswith("no "):
+                break
         shell.answer(reply)
         if reply.startswith("no "):
             shell.say(f"the moves up to {shell.target.place} are made")
         shell.after(start, None)
-
-
-def made(shell: "Shell", lines: Sequence[str]) -> str:
-    """The reply to the last of these lines, or to the first that is refused."""
-    reply = ""
-    for line in lines:
-        shell.interrupt.check()
-        reply = shell.target.tell(line)
-        if reply.startswith("no "):
-            break
-    return reply

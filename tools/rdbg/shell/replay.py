@@ -1,21 +1,81 @@
 """The moves that were made as a list, as a file of commands, and on an edited file."""
+import contextlib
+import os
 import re
-from typing import TYPE_CHECKING, List, Optional, Sequence, Tuple
+import stat
+from typing import TYPE_CHECKING, Iterator, List, Optional, Sequence, Set, Tuple
 
-from rdbg import commands, record, replies
-from rdbg.effects import Move
-from rdbg.looks import Names
-from rdbg.failure import Failure
-from rdbg.replies import Refused
+from rdbg import commands, own_file, record, replies
 from rdbg.driving import trail
 from rdbg.driving.interrupt import Interrupted
-from rdbg.shell.notices import MOST_MOVES
 from rdbg.driving.opening import begin
 from rdbg.driving.target import Limits, Target, Unable, read
+from rdbg.effects import Move
+from rdbg.failure import Failure, trying, turned
 from rdbg.files.source import Source, load
+from rdbg.looks import Names
+from rdbg.replies import Refused
+from rdbg.shell.notices import MOST_MOVES
+from rdbg.wording import counted
 
 if TYPE_CHECKING:
     from rdbg.shell.shell import Shell
+
+# How the name of a file ends that is written over.
+ENDING = ".commands"
+
+
+def identity(there: os.stat_result) -> Tuple[int, int]:
+    """By what a file is known again."""
+    return there.st_dev, there.st_ino
+
+
+class Saved:
+    """The files that a prompt has saved, which it may save anew."""
+
+    def __init__(self) -> None:
+        self._own: Set[Tuple[int, int]] = set()
+
+    def check(self, path: str, is_anew: bool) -> None:
+        """Raises `Unable` where a file is there that stays as it is. `is_anew` is that it was asked
+        for to be written over."""
+        if os.path.exists(path):
+            self._check(path, os.stat(path), is_anew)
+
+    def _check(self, path: str, there: os.stat_result, is_anew: bool) -> None:
+        if not path.endswith(ENDING):
+            raise Unable(f"{path} is there, and doesn't end in {ENDING}: it stays as it is")
+        if not is_anew and identity(there) not in self._own:
+            why = f"{path} is there, and wasn't saved by this prompt: it stays as it is"
+            raise Unable(f"{why}; `save! {path}` writes it anew")
+
+    def write(self, path: str, text: str, is_anew: bool) -> None:
+        """Writes a file. Raises `Unable` where it can't, or may not, be written."""
+        try:
+            with turned(Unable, Failure), trying(f"write {path}"):
+                number = self._open(path, is_anew)
+                with os.fdopen(number, "w", encoding="ascii") as file:
+                    there = os.fstat(number)
+                    self._own.add(identity(there))
+                    if stat.S_ISREG(there.st_mode):
+                        file.truncate()
+                    file.write(text)
+        except ValueError:
+            raise Unable(f"cannot write {path!r}: no file has such a name") from None
+
+    def _open(self, path: str, is_anew: bool) -> int:
+        """Opens a file that is made, or may be written over."""
+        try:
+            return own_file.opened(path, os.O_WRONLY | os.O_CREAT | os.O_EXCL)
+        except FileExistsError:
+            number = own_file.opened(path, os.O_WRONLY)
+        try:
+            self._check(path, os.fstat(number), is_anew)
+        except Unable:
+            os.close(number)
+            raise
+        return number
+
 
 DEFAULT_MOVES = 20
 CHUNK = 512
@@ -39,14 +99,13 @@ def moves(shell: "Shell", words: Sequence[str]) -> None:
     if words == ["all"]:
         count = max(1, done)
     first = max(base + 1, done - count + 1)
+    found: List[Move] = []
     with shell.wheel():
-        found, _ = (
-            trail.moves(shell.walk, first, shell.target.places().done, None, shell.progress)
-            if done > base
-            else ([], None)
-        )
+        if done > base:
+            last = shell.target.places().done
+            found, _ = trail.moves(shell.walk, first, last, None, shell.progress)
     if first > 1:
-        shell.say(f".. {first - 1} moves before these")
+        shell.say(f".. {counted(first - 1, 'move')} before these")
     for row in trail.rows(found):
         shell.say(row)
     shell.say(record.at(done, shell.target.places().undone))
@@ -68,8 +127,8 @@ def lines_of(shell: "Shell") -> List[str]:
 
 
 def save(shell: "Shell", words: Sequence[str], is_anew: bool = False) -> None:
-    """`save FILE`: the moves as lines that rdbg replays, and whether it does; `save! FILE`, onto a
-    file that is there."""
+    """`save FILE`: the moves as lines that rdbg replays; `save! FILE`, onto a file that is
+    there."""
     if shell.is_starting:
         raise Unable("a file that a prompt begins with saves nothing")
     if len(words) != 1:
@@ -114,20 +173,16 @@ def reload(shell: "Shell", words: Sequence[str]) -> None:
         return
     if shell.source is None or shell.target.limits is None:
         raise Unable("`reload` is for a file that is debugged here: `rdbg sh FILE`")
-    try:
+    with staying():
         source = load(shell.source.path, shell.source.given)
-    except Failure as failure:
-        raise Unable(f"{failure}; the target stays as it is") from None
     if source.faults or source.application is None:
         faults = "\n".join(f"{source.path}:{fault}" for fault in source.faults)
         raise Unable(f"{faults}\nthe target stays as it is")
     try:
         replayed(shell, source, shell.target.limits)
     except Interrupted:
-        path = shell.source.path
-        shell.stopped(
-            f"at {shell.target.place}: the target is that of {path} as it was read before"
-        )
+        before = f"the target is that of {shell.source.path} as it was read before"
+        shell.stopped(f"at {shell.target.place}: {before}")
 
 
 def replayed(shell: "Shell", source: Source, limits: Limits) -> None:
@@ -142,7 +197,8 @@ def replayed(shell: "Shell", source: Source, limits: Limits) -> None:
         names = Names()
     old = trail.moves(shell.walk, 1, done, names, shell.progress)[0] if done else []
     same = count_same(shell, source, limits, old, names)
-    target = begun(source, limits)
+    with staying():
+        target = begin(source, limits)
     try:
         watches(shell, target)
         for answer in in_chunks(shell, target, [move.line for move in old[:same]], "made again"):
@@ -162,10 +218,12 @@ def replayed(shell: "Shell", source: Source, limits: Limits) -> None:
     shell.say(f"  is   {now}")
 
 
-def begun(source: Source, limits: Limits) -> Target:
-    """A new program. Raises `Unable` where it can't be begun."""
+@contextlib.contextmanager
+def staying() -> Iterator[None]:
+    """As long as a file is read, or a program begun, anew. Where it can't be, `Unable` says that
+    the target stays as it is."""
     try:
-        return begin(source, limits)
+        yield
     except Failure as failure:
         raise Unable(f"{failure}; the target stays as it is") from None
 
@@ -175,7 +233,8 @@ def count_same(
 ) -> int:
     """How many of these moves are the same on a source, from the first on: in a program of their
     own, so that the looks fill no history that is used later."""
-    target = begun(source, limits)
+    with staying():
+        target = begin(source, limits)
     with target.session:
         looked = Names(target.names.tasks) if names.tasks else names
         before, same = target.look(looked), 0
@@ -228,7 +287,7 @@ def watches(shell: "Shell", target: Target) -> None:
     """Makes the same watches, under the same numbers, where their names are still there."""
     old = shell.target.watches
     made: List[int] = []
-    for number in range(max(old) + 1 if old else 0):
+    for number in range(max(old, default=-1) + 1):
         text = old.get(number, "")
         try:
             target.ask(f"watch {text or 'tick = 0'}", replies.WatchDone)

@@ -5,8 +5,8 @@ from typing import TYPE_CHECKING, List, Optional, Sequence, Tuple
 from rdbg import commands, record
 from rdbg.driving.interrupt import Interrupted
 from rdbg.driving.target import Unable
-from rdbg.goals import claims, conditions, reading, sought
-from rdbg.goals import words as goal_words
+from rdbg.failure import turned
+from rdbg.goals import claims, conditions, reading, sought, words as goal_words
 from rdbg.goals.claims import Goal, Holds, SomeFailed, Stuck
 from rdbg.goals.reading import NoGoal
 from rdbg.goals.scope import Scope
@@ -26,13 +26,6 @@ WIDTH = 96
 FIRST = (*reading.OF_TASKS, *reading.ALONE, *reading.OF_MOVES, reading.NOT, reading.OPEN)
 
 
-def count_of(words: Sequence[str]) -> Optional[int]:
-    """The COUNT that these words are, none where they are something else."""
-    if not words:
-        return DEFAULT_COUNT
-    return int(words[0]) if len(words) == 1 and commands.is_count(words[0]) else None
-
-
 def is_goal(words: Sequence[str], scope: Scope) -> bool:
     """Whether these words are a goal that rdbg has no line for, or are meant to be one: the words
     of a condition that rdbg refuses are its own."""
@@ -48,10 +41,8 @@ def is_goal(words: Sequence[str], scope: Scope) -> bool:
 def goal_of(shell: "Shell", words: Sequence[str], becoming: bool) -> Tuple[Way, Optional[int]]:
     """The way to the goal that these words are, and the COUNT behind them. Raises `Unable`, and
     `Refused` where the target hasn't what it names."""
-    try:
+    with turned(Unable, NoGoal):
         way, count = sought.way(words, shell.target, shell.scope(), becoming)
-    except NoGoal as wrong:
-        raise Unable(str(wrong)) from None
     if isinstance(way, To):
         check_goal(shell, way.goal)
     return way, count
@@ -150,12 +141,11 @@ def backwards(shell: "Shell", goal: Way) -> None:
 
 def drop_met(shell: "Shell", goal: Way) -> None:
     """Drops the watches that were to be met once, and are, behind a run to any of them."""
-    there = shell.target.watches
-    once = [it for it, text in shell.temporary.items() if there.get(it) == text]
+    there = shell.target.watches.items()
     if isinstance(goal, AnyOf):
-        shell.drop_temporary(
-            it for it in once if became(shell, goal_of(shell, [f"w{it}"], True)[0])
-        )
+        once = [number for number, text in shell.temporary.items() if (number, text) in there]
+        watches = {number: goal_of(shell, [f"w{number}"], True)[0] for number in once}
+        shell.drop_temporary(number for number, it in watches.items() if became(shell, it))
 
 
 def became(shell: "Shell", goal: Way) -> bool:
@@ -210,8 +200,7 @@ def tell_why(shell: "Shell", goal: Way) -> None:
     """Says where each task is, where something is met that is said of all of them."""
     met = goal.met if isinstance(goal, AnyOf) else goal
     if isinstance(met, To) and any(isinstance(it, claims.OfAll) for it in met.goal.claims()):
-        tasks = shell.look().tasks.values()
-        text = "; ".join(f"{it.name} {phase_text(it)}" for it in tasks)
+        text = "; ".join(f"{it.name} {phase_text(it)}" for it in shell.look().tasks.values())
         shell.say("\n".join(textwrap.wrap(text, WIDTH)))
 
 
@@ -220,14 +209,12 @@ def tell_who_goes_on(shell: "Shell", goal: str) -> None:
     found = []
     for name, it in shell.look().tasks.items():
         if it.core is not None:
-            never = (
-                ", and no instruction of its script ever waits" if never_waits(shell, name) else ""
-            )
-            found.append(f"{name} is busy on core {it.core}{never}")
+            found.append(f"{name} is busy on core {it.core}")
+            if never_waits(shell, name):
+                found[-1] += ", and no instruction of its script ever waits"
         elif it.phase.deadline is not None:
             found.append(f"{name} {phase_text(it)}")
-    text = f"not {goal}: {'; '.join(found)}"
-    shell.say("\n".join(textwrap.wrap(text, WIDTH)))
+    shell.say("\n".join(textwrap.wrap(f"not {goal}: {'; '.join(found)}", WIDTH)))
     if any(never_waits(shell, name) for name in shell.target.names.tasks):
         shell.say(
             f"so `{goal}` can't come; `until sleeps TASK` runs to where one task waits for ever"
@@ -248,8 +235,7 @@ def never_waits(shell: "Shell", name: str) -> bool:
 
 
 def learn_all(shell: "Shell") -> None:
-    """Learns the tasks of a target whose file isn't known: at the start each is on a core or
-    ready."""
+    """Learns the tasks, where no file is known: at the start each is on a core or ready."""
     if shell.target.application is not None or shell.knows_tasks:
         return
     here = shell.target.places().done
@@ -260,7 +246,7 @@ def learn_all(shell: "Shell") -> None:
 
 
 def until(shell: "Shell", words: Sequence[str]) -> None:
-    """`until` with a goal that rdbg has no line for, or with a condition whose COUNT is left out."""
+    """`until` with a goal that is none of rdbg's, or with a condition without its COUNT."""
     if not is_rdbgs(words):
         run_to(shell, words, False)
         return
@@ -278,8 +264,7 @@ def is_rdbgs(words: Sequence[str]) -> bool:
 
 
 def back(shell: "Shell", words: Sequence[str]) -> None:
-    """`rc`: rdbg's `back until`, or with a goal that it has no line for; without words to where a
-    watch became so."""
+    """`rc`: back to a goal, rdbg's own or not; without words to where a watch became so."""
     if not words:
         backwards(shell, events(shell))
     elif is_rdbgs(words) or not is_goal(words, shell.scope()):
@@ -310,8 +295,7 @@ def back_to(shell: "Shell", words: Sequence[str], becoming: bool) -> None:
 
 
 def events(shell: "Shell") -> Way:
-    """What a run without a goal ends at: a watch that becomes so, a task that fails, or that
-    nothing goes on."""
+    """What a run without a goal ends at: a watch, a task that fails, or that nothing goes on."""
     goals: List[Way] = []
     for number in sorted(shell.target.watches):
         goal, _ = goal_of(shell, [f"w{number}"], True)
@@ -331,7 +315,6 @@ def can_change(shell: "Shell", goal: Way) -> bool:
 
 def carry_on(shell: "Shell", words: Sequence[str]) -> None:
     """`continue`."""
-    count = count_of(words)
-    if count is None:
+    if words[1:] or not all(map(commands.is_count, words)):
         raise Unable("continue [COUNT]: at most so many moves, 1 to 1000000")
-    forwards(shell, events(shell), count)
+    forwards(shell, events(shell), int(words[0]) if words else DEFAULT_COUNT)

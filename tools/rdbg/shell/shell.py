@@ -8,25 +8,25 @@ import time
 from typing import Dict, Iterable, Iterator, List, Optional, Sequence, Tuple
 
 from rdbg import commands, kinds, record
-from rdbg.application import NO_INTERRUPT
-from rdbg.application import Interrupt as Handler
+from rdbg.application import NO_INTERRUPT, Interrupt as Handler
 from rdbg.client import ROOM_ENDED
-from rdbg.effects import Move
-from rdbg.failure import Failure
-from rdbg.looks import Look, Names
-from rdbg.replies import Cores, Refused
-from rdbg.goals.scope import Scope
-from rdbg.shell import displays, hints, needs, views
 from rdbg.driving import trail
 from rdbg.driving.interrupt import Interrupt, Interrupted
-from rdbg.shell.notices import READ_ANEW, Notices, is_remark
-from rdbg.shell.reach import Order, Reached
-from rdbg.shell.saved import Saved
+from rdbg.driving.pacing import TickPace
 from rdbg.driving.target import SINGLE, Target, Unable, read
 from rdbg.driving.walk import Pieces, Walk
-from rdbg.driving.pacing import TickPace
-from rdbg.goals.paced import PacedWalk
+from rdbg.effects import Move
+from rdbg.failure import Failure
 from rdbg.files.source import Source, load
+from rdbg.goals.paced import PacedWalk
+from rdbg.goals.scope import Scope
+from rdbg.looks import Look, Names
+from rdbg.replies import Cores, Refused
+from rdbg.shell import displays, hints, needs, views
+from rdbg.shell.notices import READ_ANEW, Notices, is_remark
+from rdbg.shell.reach import Order, Reached
+from rdbg.shell.replay import Saved
+from rdbg.wording import counted
 
 # Of a run of more moves than these the last few are shown.
 MANY, FEW = 20, 5
@@ -45,13 +45,13 @@ class Shell:
         self.asked = ""
         self.shows_moves = self.shows_lines = False
         self.is_terminal = self.told_of_breaks = self.is_done = False
-        # What is displayed behind moves, by numbers; and the watches that are dropped where they are
-        # met, with their conditions.
+        # What is displayed behind moves, by numbers; and the watches that are dropped where they
+        # are met, with their conditions.
         self.displays: Dict[int, str] = {}
         self.temporary: Dict[int, str] = {}
         self._displayed: Optional[Tuple[Target, int]] = None
-        # Whether the last line was refused, or stopped; the files that are at work, and whether one is
-        # with which a prompt begins.
+        # Whether the last line was refused, or stopped; the files that are at work, and whether one
+        # is with which a prompt begins.
         self.is_refused = self.is_stopped = self.is_starting = False
         self.sourced: List[str] = []
         self.saved = Saved()
@@ -60,7 +60,8 @@ class Shell:
         self.pace: Optional[TickPace] = None
         self.coming: Optional[Tuple[Handler, ...]] = None
         # The goal of places that was asked for or gone to last; what was asked last of what can
-        # still come, and the order in the answer; and the move that lost a goal, if it tells of one.
+        # still come, and the order in the answer; and the move that lost a goal, if it tells of
+        # one.
         self.goal = ""
         self.reached: Optional[Reached] = None
         self.order: Optional[Order] = None
@@ -70,10 +71,8 @@ class Shell:
     def take(self, target: Target, source: Optional[Source]) -> None:
         """Goes on with this target and its file."""
         self.target, self.source = target, source
-        self.walk: Walk = Walk(target, self.interrupt)
-        self.pieces = Pieces(self.walk)
-        if self.pace is not None:
-            self.walk = PacedWalk(target, self.interrupt, self.pace, self.coming or ())
+        self.pieces = Pieces(Walk(target, self.interrupt))
+        self.walk = self.walking(target)
         self.knows_tasks = False
         self._named: Optional[Scope] = None
         self._seen: Optional[Look] = None
@@ -85,6 +84,12 @@ class Shell:
         target.echo = self._echo
         target.drift = None
         self.notices = Notices(target.session, self._notice, target.moved_by_others)
+
+    def walking(self, target: Target) -> Walk:
+        """What makes moves of a target, at the pace that there is."""
+        if self.pace is None:
+            return Walk(target, self.interrupt)
+        return PacedWalk(target, self.interrupt, self.pace, self.coming or ())
 
     def say(self, text: str) -> None:
         """Prints lines of sh's own."""
@@ -120,8 +125,8 @@ class Shell:
                 self._named = self._seen = self._last = None
 
     def may_come(self) -> Sequence[str]:
-        """The interrupts that searches let come, as words for them have it: all of the text where it
-        wasn't said which."""
+        """The interrupts that searches let come, as words for them have it: all of the text where
+        it wasn't said which."""
         if self.coming is None:
             return ()
         return [it.name for it in self.coming] or [NO_INTERRUPT]
@@ -259,8 +264,8 @@ class Shell:
             self.say(f"the target moved meanwhile: {drift[0]} -> {drift[1]}")
 
     def command(self, text: str) -> bool:
-        """Asks rdbg a line as it is, prints the reply, and says what the moves did. Answers whether
-        it was done."""
+        """Asks rdbg a line, prints the reply, and says what the moves did. Answers whether it was
+        done."""
         if len(text.encode("utf-8", "replace")) > commands.MOST_BYTES:
             self.hint("a line has at most 1024 bytes; rdbg would end the session: it wasn't sent")
             return False
@@ -337,19 +342,15 @@ class Shell:
                 self.target.places()  # (for the place that was said last)
             return None
         try:
-            return self._narrow(command)
+            last = self._last
+            names = needs.names_for(self.target, command, last)
+            look = self.target.look(names)
+            if not needs.is_enough(command, names, look, last):
+                look = self.target.look()
+            self._last = needs.together(last, look)
+            return look
         except Refused:
             return None
-
-    def _narrow(self, command: commands.Command) -> Look:
-        """A look at what a line can change, where others move the target too."""
-        last = self._last
-        names = needs.names_for(self.target, command, last)
-        look = self.target.look(names)
-        if not needs.is_enough(command, names, look, last):
-            look = self.target.look()
-        self._last = needs.together(last, look)
-        return look
 
     def after(self, place: int, before: Optional[Look]) -> None:
         """Says what the moves from a place to this one did, or where one is after going back."""
@@ -385,7 +386,7 @@ class Shell:
         """A look behind a move at what was looked at before it."""
         if self.target.is_own or self.target.application is None:
             return self.look()
-        after = self.target.look(needs.names_of(before))
+        after = self.target.look(Names(tuple(before.tasks), tuple(before.objects)))
         self._last = needs.together(self._last, after)
         self.notice()
         return after
@@ -401,7 +402,8 @@ class Shell:
             return
         first = place + 1 if here - place <= MANY else here - FEW + 1
         if first > place + 1:
-            self.say(f".. {first - place - 1} moves before these: `moves {here - place}` shows all")
+            earlier = counted(first - place - 1, "move")
+            self.say(f".. {earlier} before these: `moves {here - place}` shows all")
         with self.wheel():
             found, look = trail.moves(self.walk, first, here)
         self._keep(look)

@@ -1,11 +1,11 @@
-"""`source FILE`: lines of a file, as if they were typed; and the files that a prompt begins with."""
+"""`source FILE`: lines of a file as if typed; and the files that a prompt begins with."""
 import os
 import pathlib
 import stat
 from typing import TYPE_CHECKING, Sequence
 
 from rdbg.driving.target import Unable
-from rdbg.failure import Failure, trying
+from rdbg.failure import Failure, trying, turned
 
 if TYPE_CHECKING:
     from rdbg.shell.shell import Shell
@@ -19,11 +19,8 @@ def source(shell: "Shell", words: Sequence[str]) -> None:
     """`source FILE`."""
     if len(words) != 1:
         raise Unable("source which file? `source lines.rdbg`; its name has no spaces")
-    try:
-        with trying(f"read {words[0]}"):
-            content = pathlib.Path(os.path.expanduser(words[0])).read_bytes()
-    except (Failure, ValueError) as failure:
-        raise Unable(str(failure)) from None
+    with turned(Unable, Failure, ValueError), trying(f"read {words[0]}"):
+        content = pathlib.Path(os.path.expanduser(words[0])).read_bytes()
     do_all(shell, words[0], content)
 
 

@@ -4,14 +4,14 @@ import re
 from typing import TYPE_CHECKING, List, Optional, Sequence
 
 from rdbg import commands, record, replies
-from rdbg.looks import Names
-from rdbg.from_c.lines import below
-from rdbg.goals import conditions, reading
-from rdbg.goals import words as goal_words
-from rdbg.goals.reading import NoGoal
-from rdbg.shell import seek
 from rdbg.driving import trail
 from rdbg.driving.target import Unable
+from rdbg.failure import turned
+from rdbg.from_c.lines import below
+from rdbg.goals import conditions, reading, words as goal_words
+from rdbg.goals.reading import NoGoal
+from rdbg.looks import Names
+from rdbg.shell import seek
 from rdbg.shell.views import check_instruction, check_name, phase_text
 from rdbg.wording import counted
 
@@ -26,9 +26,9 @@ TICKS, ROWS = 512, 20
 def step(shell: "Shell", words: Sequence[str]) -> None:
     """`step TASK [COUNT]`: instructions of a task, on whichever core it is; or of a core."""
     name = words[0]
-    count = int(words[1]) if words[1:] and commands.is_count(words[1]) else 1
-    if words[2:] or (words[1:] and not commands.is_count(words[1])):
+    if words[2:] or not all(map(commands.is_count, words[1:])):
         raise Unable("`step TASK [COUNT]`, or `step CORE`")
+    count = int(words[1]) if words[1:] else 1
     is_core = commands.is_number(name)
     if name not in shell.target.names.tasks and re.fullmatch(r"core_?[0-9]", name):
         raise Unable(f"a core is its number: `step {name[-1]}`")
@@ -56,7 +56,12 @@ def tick(shell: "Shell", words: Sequence[str]) -> None:
         raise Unable("`tick`, or `tick COUNT` for so many")
     with shell.wheel():
         start = shell.target.places().done
-        reply = many_ticks(shell, int(words[0]))
+        reply, left = "", int(words[0])
+        while left and not reply.startswith("no "):
+            shell.interrupt.check()
+            answers = shell.target.tell_all(["tick"] * min(left, TICKS))
+            left -= len(answers)
+            reply = answers[-1]
         here = shell.target.place
         shell.answer(reply)
         shell.hint_on("tick", reply)
@@ -64,17 +69,6 @@ def tick(shell: "Shell", words: Sequence[str]) -> None:
             shell.say(f"the moves up to {here} are made")
         if shell.shows_moves and here > start:
             tell_ticks(shell, start + 1, here)
-
-
-def many_ticks(shell: "Shell", count: int) -> str:
-    """So many ticks, up to one that is refused. Answers the last reply."""
-    reply, left = "", count
-    while left and not reply.startswith("no "):
-        shell.interrupt.check()
-        answers = shell.target.tell_all(["tick"] * min(left, TICKS))
-        left -= len(answers)
-        reply = answers[-1]
-    return reply
 
 
 def tell_ticks(shell: "Shell", first: int, last: int) -> None:
@@ -105,11 +99,9 @@ def interrupt(shell: "Shell", words: Sequence[str]) -> None:
 
 def why_on_none(shell: "Shell", it: replies.Task) -> str:
     """Why a task is on no core, and who is."""
-    cores = shell.target.ask("show cores", replies.Cores)
-    pairs = enumerate(cores.running)
-    running = (
-        ", ".join(f"{name} on core {core}" for core, name in pairs if name) or "no core is busy"
-    )
+    pairs = enumerate(shell.target.ask("show cores", replies.Cores).running)
+    busy = [f"{name} on core {core}" for core, name in pairs if name]
+    running = ", ".join(busy) or "no core is busy"
     if it.phase.word in ("run", "again", "given"):
         return f"it is ready; {running}"
     if it.phase.word == "wait":
@@ -170,18 +162,16 @@ def break_once(shell: "Shell", words: Sequence[str]) -> None:
     """`tbreak`: the same, and the watch is dropped where `continue` or `rc` meets it."""
     before = set(shell.target.watches)
     break_at(shell, words)
-    new = {number: it for number, it in shell.target.watches.items() if number not in before}
-    shell.temporary.update(new)
+    there = shell.target.watches.items()
+    shell.temporary.update({number: text for number, text in there if number not in before})
 
 
 def check_goal(shell: "Shell", words: Sequence[str]) -> None:
-    """Raises `Unable` where words are no goal of places, nor of a move, with what would be right."""
+    """Raises `Unable` where words are no goal, with what would be right."""
     if words[0] in reading.OF_MOVES:
         return
-    try:
+    with turned(Unable, NoGoal):
         goal_words.read(words, shell.scope())
-    except NoGoal as wrong:
-        raise Unable(str(wrong)) from None
 
 
 def put_break(shell: "Shell", words: Sequence[str]) -> None:

@@ -6,9 +6,8 @@ from rdbg import commands, kinds, record
 from rdbg.goals import words as goal_words
 from rdbg.goals.meant import with_operator, with_subject
 from rdbg.goals.reading import NoGoal
-from rdbg.near import nearest
-from rdbg.shell.gdb import HINTS
-from rdbg.shell.glossary import GOALS
+from rdbg.shell.glossary import GOALS, HINTS
+from rdbg.wording import nearest
 
 if TYPE_CHECKING:
     from rdbg.shell.shell import Shell
@@ -78,12 +77,8 @@ def kind(shell: "Shell", words: Words) -> Optional[Tuple[Words, str]]:
     single = word[:-1] if word.endswith("s") and word[:-1] in kinds.OF_WORD else ""
     if single and len(words) > 2:
         return ["show", single, *words[2:]], f"the kind is {single}"
-    if len(words) == 2 and word in names.tasks:
-        return ["show", "task", word], "`show` takes a kind and a name"
-    for of_kind, name in names.objects:
-        if len(words) == 2 and word == name:
-            return ["show", of_kind, word], "`show` takes a kind and a name"
-    return None
+    there = names.kinds_of(word) if len(words) == 2 else []
+    return (["show", there[0], word], "`show` takes a kind and a name") if there else None
 
 
 def count(shell: "Shell", words: Words) -> Optional[Tuple[Words, str]]:
@@ -91,9 +86,7 @@ def count(shell: "Shell", words: Words) -> Optional[Tuple[Words, str]]:
     if words[0] not in COUNTS:
         return None
     longer = [*words, COUNTS[words[0]]]
-    if commands.read(" ".join(longer)) is None:
-        return None
-    return longer, "its COUNT is missing"
+    return (longer, "its COUNT is missing") if commands.read(" ".join(longer)) else None
 
 
 def amounts(shell: "Shell", words: Words) -> Optional[Tuple[Words, str]]:
@@ -105,9 +98,8 @@ def amounts(shell: "Shell", words: Words) -> Optional[Tuple[Words, str]]:
 
 def equals(shell: "Shell", words: Words) -> Optional[Tuple[Words, str]]:
     """A phase is named without an operator."""
-    if "phase" in words and "=" in words:
-        return [word for word in words if word != "="], "a phase is named without ="
-    return None
+    plain = [word for word in words if word != "=" or "phase" not in words]
+    return (plain, "a phase is named without =") if plain != words else None
 
 
 def word(shell: "Shell", words: Words) -> Optional[Tuple[Words, str]]:
@@ -119,17 +111,8 @@ def word(shell: "Shell", words: Words) -> Optional[Tuple[Words, str]]:
 
 
 REPAIRS: Tuple[Repair, ...] = (
-    small_letters,
-    marks,
-    spaces,
-    operators,
-    numbers,
-    word,
-    amounts,
-    equals,
-    kind,
-    count,
-)
+    small_letters, marks, spaces, operators, numbers, word, amounts, equals, kind, count,
+)  # fmt: skip
 
 
 def syntax(shell: "Shell", line: str) -> str:
@@ -147,8 +130,7 @@ JOINING = ("and", "or", "not", "&&", "||", "&", "|", "!")
 
 
 def joined(words: Sequence[str]) -> str:
-    """That a watch isn't made of several conditions, where these words are meant to be one; else
-    empty."""
+    """That a watch isn't made of several conditions, where these words are such; else empty."""
     found = next((word for word in words if word.lower() in JOINING), None)
     if found is None or not any(word in STARTS or commands.is_watch(word) for word in words):
         return ""
@@ -190,14 +172,11 @@ def mended(shell: "Shell", line: str) -> str:
             repaired, reason = found
             reasons.append(reason)
     text = " ".join(repaired)
-    if reasons and (commands.read(text) is not None or is_open(repaired)):
+    # (an `until` can leave its COUNT out)
+    texts = [text, f"{text} 1"] if repaired[:1] == ["until"] else [text]
+    if reasons and any(commands.read(it) is not None for it in texts):
         return f"{'; '.join(reasons)}: `{text}`"
     return ""
-
-
-def is_open(words: Sequence[str]) -> bool:
-    """Whether a line is an `until` whose COUNT is left out, which sh takes."""
-    return words[:1] == ["until"] and commands.read(" ".join([*words, "1"])) is not None
 
 
 def at_fault(shell: "Shell", words: Sequence[str]) -> str:
@@ -220,10 +199,8 @@ def at_fault(shell: "Shell", words: Sequence[str]) -> str:
     wanted = " or ".join(describe(symbol) for symbol in expected)
     if list(words) == ["until"]:
         wanted += ", or another goal: `help until`"
-    behind = f"behind `{' '.join(words[:most])}`"
-    if most == len(words):
-        return f"{behind} comes {wanted}"
-    return f"{behind} comes {wanted}, and not '{words[most]}'"
+    other = "" if most == len(words) else f", and not '{words[most]}'"
+    return f"behind `{' '.join(words[:most])}` comes {wanted}{other}"
 
 
 def describe(symbol: str) -> str:
@@ -233,11 +210,8 @@ def describe(symbol: str) -> str:
         return f"a condition ({symbol[len('COND: '):]} ..)"
     if known is None:
         return f"`{symbol}`"
-    return (
-        known.noun
-        if known.choices in (known.noun, "its name")
-        else f"{known.noun} ({known.choices})"
-    )
+    is_plain = known.choices in (known.noun, "its name")
+    return known.noun if is_plain else f"{known.noun} ({known.choices})"
 
 
 def unknown_word(first: str) -> str:
@@ -247,6 +221,5 @@ def unknown_word(first: str) -> str:
     if first in GOALS:
         return f"`until {first}` runs there, `rc {first}` goes back there; `help {first}`"
     near = nearest(first, [*commands.WORDS, *names()])
-    return (
-        f"'{first}' is no word" + (f"; near it is `{near}`" if near else "") + "; `help` lists them"
-    )
+    hint = f"; near it is `{near}`" if near else ""
+    return f"'{first}' is no word{hint}; `help` lists them"

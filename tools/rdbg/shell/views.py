@@ -4,14 +4,16 @@ from typing import TYPE_CHECKING, Callable, Dict, Iterator, List, Optional, Sequ
 
 from rdbg import commands, kinds, replies
 from rdbg.application import Instruction
-from rdbg.looks import Key, Object, hexadecimal, holding, time_of
-from rdbg.near import nearest
-from rdbg.operands import to_text
 from rdbg.driving.target import Unable
+from rdbg.looks import Key, Object, hexadecimal, holding, time_of
+from rdbg.operands import to_text
+from rdbg.wording import nearest
 
 if TYPE_CHECKING:
     from rdbg.shell.shell import Shell
 
+# So many characters of a column are shown at the least.
+LEAST = 8
 REGISTERS = tuple(f"r{number}" for number in range(8))
 # What sets a register in C, and in gdb's `print`.
 SETTING = re.compile(r"\$?(?:(\w+)\.)?r([0-7])\s*(?:\w+\s*)?=\s*(\w+)")
@@ -37,16 +39,10 @@ def fitted(cells: Sequence[Sequence[str]], width: Optional[int], long: Sequence[
         if widths[widest] <= LEAST:
             break
         widths[widest] -= 1
-    short = [[shortened(it, most) for it, most in zip(row, widths)] for row in rows]
-    return table(short)
-
-
-def shortened(text: str, most: int) -> str:
-    """A text of so many characters at the most."""
-    return text if len(text) <= most else f"{text[: most - 2]}.."
-
-
-LEAST = 8
+    pairs = [list(zip(row, widths)) for row in rows]
+    return table(
+        [[it if len(it) <= most else f"{it[: most - 2]}.." for it, most in row] for row in pairs]
+    )
 
 
 def script_of(shell: "Shell", name: str) -> Sequence[Instruction]:
@@ -56,7 +52,7 @@ def script_of(shell: "Shell", name: str) -> Sequence[Instruction]:
 
 
 def check_instruction(shell: "Shell", name: str, number: int) -> None:
-    """Raises `Unable` where the script of a task is known, and has no instruction of this number."""
+    """Raises `Unable` where a script is known, and has no instruction of this number."""
     script = script_of(shell, name)
     if script and number >= len(script):
         has = to_text(0, len(script) - 1)
@@ -98,8 +94,7 @@ def seat(task: replies.Task) -> str:
 
 def registers(task: replies.Task) -> str:
     """The registers that aren't 0."""
-    pairs = zip(REGISTERS, task.registers)
-    return ",".join(f"{name}={value}" for name, value in pairs if value) or "-"
+    return ",".join(f"{it}={value}" for it, value in zip(REGISTERS, task.registers) if value) or "-"
 
 
 def notes(task: replies.Task) -> str:
@@ -252,10 +247,8 @@ def check_name(shell: "Shell", name: str, kind: str = "") -> str:
     there = shell.target.names.kinds_of(name)
     if kind in there or (there and not kind):
         return kind or there[0]
-    names = shell.target.names
-    tasks_there = names.tasks if kind in ("", "task") else ()
-    known = [*tasks_there, *(other for each, other in names.objects if kind in ("", each))]
-    near = nearest(name, known)
+    known = [kind] if kind else list(kinds.OF_WORD)
+    near = nearest(name, [it for each in known for it in shell.target.names.of_kind(each)])
     what = kind or "task or object"
     if there:
         raise Unable(f"there is no {what} '{name}': it is a {there[0]}")
@@ -267,9 +260,8 @@ def values(shell: "Shell", words: Sequence[str]) -> List[str]:
     what an object has."""
     given = SETTING.fullmatch(" ".join(words))
     if given:
-        raise Unable(
-            f"`print` shows alone; `poke reg {given[1] or 'worker'} {given[2]} {given[3]}`"
-        )
+        edit = f"poke reg {given[1] or 'worker'} {given[2]} {given[3]}"
+        raise Unable(f"`print` shows alone; `{edit}`")
     parts = [part for word in words for part in word.lstrip("$").split(".") if part]
     wrong = next((part for part in parts if re.fullmatch("r[0-9]+", part)), None)
     if wrong is not None and wrong not in REGISTERS:
@@ -325,10 +317,9 @@ def watches(shell: "Shell") -> None:
         shell.say("no watches; `watch COND` or `break TASK PC` makes one")
         return
     holds = dict(shell.target.ask("show watches", replies.Watches).holds)
-    rows = [["watch", "now", "condition"]]
-    for number, text in sorted(shell.target.watches.items()):
-        rows.append([f"w{number}", "holds" if holds.get(number) else "fails", text])
-    shell.say("\n".join(table(rows)))
+    found = sorted(shell.target.watches.items())
+    rows = [[f"w{at}", "holds" if holds.get(at) else "fails", text] for at, text in found]
+    shell.say("\n".join(table([["watch", "now", "condition"], *rows])))
 
 
 def history(shell: "Shell") -> None:
@@ -360,15 +351,10 @@ def info(shell: "Shell", words: Sequence[str]) -> None:
 
 
 TABLES: Dict[str, Callable[["Shell"], None]] = {
-    "tasks": tasks,
-    "threads": tasks,
-    "objects": objects,
-    "watches": watches,
+    **dict.fromkeys(("tasks", "threads"), tasks),
+    **dict.fromkeys(("objects", kinds.QUEUE.key), objects),
+    **dict.fromkeys(("watches", "break", "breakpoints", "watchpoints"), watches),
     "cores": lambda shell: where(shell, []),
-    kinds.QUEUE.key: objects,
-    "break": watches,
-    "breakpoints": watches,
-    "watchpoints": watches,
     "history": history,
 }
 INFO_WORDS = ("tasks", "objects", "watches", "history", "registers")

@@ -8,6 +8,7 @@ from rdbg.goals.scope import Scope
 from rdbg.looks import Names
 from rdbg.reaching import asking
 from rdbg.shell import basics, displays, paces, reach, replay, seek, sourcing, steps, views
+from rdbg.wording import rows
 
 if TYPE_CHECKING:
     from rdbg.shell.shell import Shell
@@ -34,171 +35,146 @@ class Word:
 
 
 GOALS = (
-    "GOAL is COND; bits G & MASK = N, note and reg so too; reg K R = reg K2 R2; at TASK N (or a\n"
-    "label); waits TASK [recv Q ..], sleeps TASK (without a deadline), runs, ended, failed TASK;\n"
-    "failed (some task), finished (all ended), asleep (some wait, and nothing goes on), stuck (either,\n"
-    "or all have ended or failed); these with and, or, not, ( ). Or of a move: wakes TASK, changes\n"
-    "QUEUE (or another object: what it holds). Without COUNT at most 10,000 moves.\n"
+    "GOAL is COND; bits G & MASK = N, note and reg so too; reg K R = reg K2 R2; at TASK N\n"
+    "(or a label); waits TASK [recv Q ..], sleeps TASK (with no limit of time), runs, ended,\n"
+    "failed TASK; failed (some task), finished (all ended), asleep (some wait, and nothing goes\n"
+    "on), stuck (either, or all have ended or failed); these with and, or, not, ( ). Or of a\n"
+    "move: wakes TASK, changes QUEUE (or another object: what it holds).\n"
+    "Without COUNT at most 10,000 moves.\n"
     "`(22 lines asked)`: so many lines of rdbg's it took to find the place.\n"
     "A run goes one order of many: one that doesn't meet a goal says nothing of the others."
 )
 
 SAVE = (
-    "`./rdbg run --app FILE < found.commands` comes to this place and state; a new program tries it\n"
-    "at once. A file that is there and wasn't saved by this prompt stays: `save! FILE` writes it\n"
-    "anew, but for one whose name doesn't end in .commands."
+    "`./rdbg run --app FILE < found.commands` comes to this place and state; a new program\n"
+    "tries it at once. A file that is there and wasn't saved by this prompt stays: `save! FILE`\n"
+    "writes it anew, but for one whose name doesn't end in .commands."
 )
 PACE = (
-    "`pace 5..20`: in go, until! and continue each busy core makes at least 5 moves between two ticks,\n"
-    "counted from where its task came to it, by lines step and tick; so a wait of 5 ticks is longer\n"
-    "than five instructions. `pace none` ends that. forward, s and until COND stay the program's own.\n"
-    "`interrupts ping` has it come in such runs at each tick where its line lets it, and alone in\n"
-    "searches, which let all of the text come; `interrupts none`: none in either."
+    "`pace 5..20`: in go, until! and continue each busy core makes at least 5 moves between two\n"
+    "ticks, counted from where its task came to it, by lines step and tick; so a wait of 5\n"
+    "ticks is longer than five instructions. `pace none` ends that. forward, s and until COND\n"
+    "stay the program's own.\n"
+    "`interrupts ping` has it come in such runs at each tick where its line lets it, and alone\n"
+    "in searches, which let all of the text come; `interrupts none`: none in either."
 )
 RELOAD = (
-    "A new program begins with the file as it is now, and makes the same moves up to the first that\n"
-    "does something else (another instruction, answer, or other tasks woken); `redo 1` makes that\n"
-    "one. Watches are kept. Where the file is wrong, or after Ctrl-C, the target stays as it is."
+    "A new program begins with the file as it is now, and makes the same moves up to the first\n"
+    "that does something else (another instruction, answer, or other tasks woken); `redo 1`\n"
+    "makes that one. Watches are kept. Where the file is wrong, or after Ctrl-C, the target\n"
+    "stays as it is."
 )
 
 QUESTION = (
-    "GOAL is one of places, as of `until`; without one it is the goal before, of until, rc or such a\n"
-    "question.\n"
+    "GOAL is one of places, as of `until`; without one it is the goal before, of until, rc or\n"
+    "such a question.\n"
     "{}\n"
     "The target stays as it is. Ctrl-C ends the search."
 )
 AGAIN = (
-    "For a mend: the file is read anew, the moves are made again as by `reload`, and the goal that\n"
-    "`reach` was asked for last is asked for again, from the same place, or from boot where the moves\n"
-    "up to it aren't the same any more."
+    "For a mend: the file is read anew, the moves are made again as by `reload`, and what\n"
+    "`reach`, `lost` or `doomed` asked last is asked again, from the same place, or from boot\n"
+    "where the moves up to it aren't the same any more."
 )
 
 EXPRESSIONS = (
-    "EXPR is a part of a task (r0 to r7, pc, data, phase, notes), by itself of the tasks on the cores;\n"
-    "a name; a goal, which holds or fails; or is computed: amounts as in conditions (count jobs), or\n"
-    "short (jobs.count, worker.r0), and numbers, with + - * / % & | ^ << >> ( ) and = != < <= > >=.\n"
+    "EXPR is a part of a task (r0 to r7, pc, data, phase, notes), by itself of the tasks on the\n"
+    "cores; a name; a goal, which holds or fails; or is computed: amounts as in conditions\n"
+    "(count jobs), or short (jobs.count, worker.r0), and numbers, with + - * / % & | ^ << >>\n"
+    "( ) and = != < <= > >=.\n"
     "Numbers are whole, of any size, below 0 too."
 )
 SOURCE = (
     "It ends at the first line that is refused. Before the first line that is typed, the file\n"
-    ".rdbginit of your home and that of the application's folder are done so, where they are yours;\n"
-    "they write no file. `--nx` leaves them out."
+    ".rdbginit of your home and that of the application's folder are done so, where they are\n"
+    "yours; they write no file. `--nx` leaves them out."
 )
 
 SAVE_ANEW = functools.partial(replay.save, is_anew=True)
+
+
+def word(run: Do, row: str, more: str = "") -> Word:
+    """A word, by its row: form, what it does, what is short for it, what can stand behind."""
+    form, does, *cells = rows(row)[0]
+    short, behind = (tuple(cell.split()) for cell in (*cells, "", "")[:2])
+    return Word(form, does, run, short, behind, more)
+
+
 WORDS: Tuple[Word, ...] = (
-    Word("where", "each core's task, its instruction and line", views.where, ("w",)),
-    Word(
-        "info tasks|objects|NAME",
-        "tables of what there is, or all of one thing",
+    word(views.where, "where | each core's task, its instruction and line | w"),
+    word(
         views.info,
-        ("i",),
-        ("INFO",),
+        "info tasks|objects|NAME | tables of what there is, or all of one thing | i | INFO",
         "Also: info cores, watches, history, registers TASK.",
     ),
-    Word("list [TASK]", "a script, its place marked", views.listing, ("l",), ("K",)),
-    Word(
-        "print EXPR",
-        "r0 worker, worker.pc, jobs, count jobs + 1, or a goal",
+    word(views.listing, "list [TASK] | a script, its place marked | l | K"),
+    word(
         displays.put,
-        ("p", "output", "inspect"),
-        ("PART", "K"),
+        "print EXPR | r0 worker, worker.pc, jobs, count jobs + 1, or a goal"
+        " | p output inspect | PART K",
         EXPRESSIONS,
     ),
-    Word(
-        "display [EXPR]",
-        "prints it now, and behind each line that moves the target",
+    word(
         displays.display,
-        (),
-        ("PART", "K"),
+        "display [EXPR] | prints it now, and behind each line that moves the target | | PART K",
         EXPRESSIONS,
     ),
-    Word("undisplay [N ..]", "displays it no more; without N all", displays.undisplay),
-    Word(
-        "step TASK [COUNT]", "an instruction of a task, on whichever core", steps.step, (), ("K",)
-    ),
-    Word("tick COUNT", "so many ticks", steps.tick),
-    Word(
-        "s [COUNT]",
-        "moves that a run would choose: forward COUNT",
+    word(displays.undisplay, "undisplay [N ..] | displays it no more; without N all"),
+    word(steps.step, "step TASK [COUNT] | an instruction of a task, on whichever core | | K"),
+    word(steps.tick, "tick COUNT | so many ticks"),
+    word(
         steps.forward,
-        ("n", "si", "stepi", "next", "ni", "nexti"),
+        "s [COUNT] | moves that a run would choose: forward COUNT | n si stepi next ni nexti",
     ),
-    Word(
-        "rs [COUNT]",
-        "takes moves back: back COUNT",
+    word(
         steps.back,
-        ("rn", "rsi", "rni", "reverse-step", "reverse-stepi", "reverse-next", "undo"),
+        "rs [COUNT] | takes moves back: back COUNT"
+        " | rn rsi rni reverse-step reverse-stepi reverse-next undo",
     ),
-    Word("isr NAME", "an interrupt of the text comes", steps.interrupt),
-    Word("pace M..N", "moves of each busy core between two ticks", paces.put, more=PACE),
-    Word("go COUNT [ticks]", "so many moves, or ticks, at the pace", paces.go, more=PACE),
-    Word(
-        "interrupts NAME ..",
-        "those of the text that come by themselves",
-        paces.interrupts,
-        more=PACE,
-    ),
-    Word("until GOAL [COUNT]", "runs to where GOAL is so", seek.until, (), ("GOAL",), GOALS),
-    Word(
-        "until! GOAL [COUNT]",
-        "runs to where it becomes so, and wasn't before",
+    word(steps.interrupt, "isr NAME | an interrupt of the text comes"),
+    word(paces.put, "pace M..N | moves of each busy core between two ticks", PACE),
+    word(paces.go, "go COUNT [ticks] | so many moves, or ticks, at the pace", PACE),
+    word(paces.interrupts, "interrupts NAME .. | those of the text that come by themselves", PACE),
+    word(seek.until, "until GOAL [COUNT] | runs to where GOAL is so | | GOAL", GOALS),
+    word(
         seek.run_to,
-        (),
-        ("GOAL!",),
+        "until! GOAL [COUNT] | runs to where it becomes so, and wasn't before | | GOAL!",
         GOALS,
     ),
-    Word(
-        "rc [GOAL]",
-        "back to where it is so, or a watch became so",
+    word(
         seek.back,
-        ("reverse-continue",),
-        ("GOAL!",),
+        "rc [GOAL] | back to where it is so, or a watch became so | reverse-continue | GOAL!",
         GOALS,
     ),
-    Word("rc! GOAL", "back to where it became so", seek.back_becomes, (), ("GOAL!",), GOALS),
-    Word(
-        "continue [COUNT]",
-        "runs to a watch, a task that fails, or where nothing goes on",
+    word(seek.back_becomes, "rc! GOAL | back to where it became so | | GOAL!", GOALS),
+    word(
         seek.carry_on,
-        ("c", "cont"),
+        "continue [COUNT] | runs to a watch, a task that fails, or where nothing goes on | c cont",
     ),
-    Word(
-        "break TASK PC",
-        "a watch; or break FILE:LINE, or break COND",
-        steps.break_at,
-        ("b",),
-        ("BREAK",),
-    ),
-    Word(
-        "tbreak TASK PC",
-        "the same for one time: continue or rc drops it there",
+    word(steps.break_at, "break TASK PC | a watch; or break FILE:LINE, or break COND | b | BREAK"),
+    word(
         steps.break_once,
-        ("tb",),
-        ("BREAK",),
+        "tbreak TASK PC | the same for one time: continue or rc drops it there | tb | BREAK",
     ),
-    Word("delete N", "drops a watch: unwatch N", steps.delete, ("d",)),
-    Word("moves [COUNT|all]", "who did what, and what came of it", replay.moves, (), ("all",)),
-    Word("goto PLACE", "to the place with so many moves done", steps.goto, ("g",)),
-    Word("save FILE", "the moves as lines that rdbg replays", replay.save, (), ("FILE",), SAVE),
-    Word("save! FILE", "the same, onto a file that is there", SAVE_ANEW, (), ("FILE",), SAVE),
-    Word("reload", "the same moves on the edited file", replay.reload, more=RELOAD),
-    Word("source FILE", "does each line of a file", sourcing.source, (), ("FILE",), SOURCE),
+    word(steps.delete, "delete N | drops a watch: unwatch N | d"),
+    word(replay.moves, "moves [COUNT|all] | who did what, and what came of it | | all"),
+    word(steps.goto, "goto PLACE | to the place with so many moves done | g"),
+    word(replay.save, "save FILE | the moves as lines that rdbg replays | | FILE", SAVE),
+    word(SAVE_ANEW, "save! FILE | the same, onto a file that is there | | FILE", SAVE),
+    word(replay.reload, "reload | the same moves on the edited file", RELOAD),
+    word(sourcing.source, "source FILE | does each line of a file | | FILE", SOURCE),
     *(
-        Word(f"{it.word} [GOAL]", it.asks, reach.asks(it), (), ("GOAL!",), QUESTION.format(it.more))
+        word(reach.asks(it), f"{it.word} [GOAL] | {it.asks} | | GOAL!", QUESTION.format(it.more))
         for it in asking.QUESTIONS.values()
     ),
-    Word("play", "the moves of the order that was answered last", reach.play),
-    Word("again", "reload, and what was asked by reach last", reach.again, more=AGAIN),
-    Word(
-        "set moves|echo on|off",
-        "say what moves did; show lines to rdbg",
+    word(reach.play, "play | the moves of the order that was answered last"),
+    word(reach.again, "again | reload, and what was asked last", AGAIN),
+    word(
         basics.put,
-        (),
-        ("moves|echo", "on|off"),
+        "set moves|echo on|off | say what moves did; show lines to rdbg | | moves|echo on|off",
     ),
-    Word("help [WORD]", "this, or more on a word", basics.help_on, ("h", "?"), ("HELP",)),
-    Word("quit", "ends, as Ctrl-D does", basics.leave, ("q", "exit")),
+    word(basics.help_on, "help [WORD] | this, or more on a word | h ? | HELP"),
+    word(basics.leave, "quit | ends, as Ctrl-D does | q exit"),
 )
 BACK = Word("back until GOAL", "as rc", seek.back_until)
 SHOW = Word("show NAME", "what rdbg shows of it", views.show)

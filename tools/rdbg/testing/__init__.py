@@ -1,2 +1,2 @@
-"""A folder of applications with their goals: what is asked of each, and what is expected, held against
-what the search through orders answers."""
+"""A folder of applications with their goals: what is asked of each, and what is expected, held
+against what the search through orders answers."""

@@ -1,6 +1,5 @@
-"""The cases of a folder, as its file `goals.json` lists them: of an application a goal, how it is asked
-for, and what is expected.
-"""
+"""The cases of a folder, as its file `goals.json` lists them: of an application a goal, how it is
+asked for, and what is expected."""
 import argparse
 import dataclasses
 import os
@@ -11,13 +10,11 @@ from typing import Any, Callable, Dict, List, NamedTuple, Optional, Tuple
 from rdbg import json_text
 from rdbg.digits import seconds
 from rdbg.driving.pacing import IS, pace
-from rdbg.failure import Failure, trying
-from rdbg.fault import Fault
+from rdbg.failure import Failure, trying, turned
 from rdbg.files.definitions import definition
-from rdbg.near import nearest
 from rdbg.reaching.asking import QUESTIONS, REACH
-from rdbg.tree import Node, Number, Object, Place, kind_of
-from rdbg.wording import quoted, shown
+from rdbg.tree import Fault, Node, Number, Object, Place, kind_of
+from rdbg.wording import nearest, quoted, shown
 
 # The file that lists the cases of a folder, and its one key.
 FILE, CASES = "goals.json", "cases"
@@ -58,17 +55,11 @@ class Case:
     within: float = WITHIN
 
     def options(self, folder: str) -> Tuple[str, ...]:
-        """The words of the program that searches, which say where it begins, at which pace, and how
-        much it may keep."""
+        """The words of the search that say where it begins, at which pace, and what it may keep."""
         begin = os.path.join(folder, self.begin) if self.begin else ""
-        states, memory = ("" if it is None else str(it) for it in (self.states, self.memory))
-        pairs = (
-            ("--from", begin),
-            ("--pace", self.pace),
-            ("--states", states),
-            ("--memory", memory),
-        )
-        return tuple(word for name, value in pairs if value for word in (name, value))
+        said = {"from": begin, "pace": self.pace, "states": self.states, "memory": self.memory}
+        given = ((f"--{name}", str(it)) for name, it in said.items() if it not in (None, ""))
+        return tuple(word for pair in given for word in pair)
 
     def is_met(self, head: str) -> bool:
         """Whether the first line of an answer is what is expected, or begins with it."""
@@ -89,35 +80,29 @@ def texts(node: Node) -> Tuple[str, ...]:
     return tuple(text(it) for it in node.value)
 
 
-def question(node: Node) -> str:
-    """A question of the program that searches."""
-    if not isinstance(node.value, str) or node.value not in QUESTIONS:
-        raise Wrong(f"one of {', '.join(QUESTIONS)}")
-    return node.value
+def a_text(fits: Callable[[str], object], what: str) -> Callable[[Node], str]:
+    """What reads a text that fits."""
+
+    def read(node: Node) -> str:
+        if not isinstance(node.value, str) or not fits(node.value):
+            raise Wrong(what)
+        return node.value
+
+    return read
 
 
-def expected(node: Node) -> str:
-    """What the first line of an answer is to be, or begin with."""
-    if not isinstance(node.value, str) or not EXPECTED.fullmatch(node.value):
-        raise Wrong(f"the first line of an answer, or its beginning: {', '.join(HEADS)}")
-    return node.value
-
-
-def a_pace(node: Node) -> str:
-    """A pace."""
-    if not isinstance(node.value, str) or pace(node.value) is None:
-        raise Wrong(f"a text: {IS}")
-    return node.value
+question = a_text(QUESTIONS.__contains__, f"one of {', '.join(QUESTIONS)}")
+FIRST_LINE = f"the first line of an answer, or its beginning: {', '.join(HEADS)}"
+expected = a_text(EXPECTED.fullmatch, FIRST_LINE)
+a_pace = a_text(pace, f"a text: {IS}")
 
 
 def consts(node: Node) -> Tuple[str, ...]:
     """A list of consts with their numbers."""
     found = texts(node)
-    try:
+    with turned(Wrong, argparse.ArgumentTypeError, of="a list of consts"):
         for it in found:
             definition(it)
-    except argparse.ArgumentTypeError as error:
-        raise Wrong(f"a list of consts: {error}") from None
     return found
 
 
@@ -144,8 +129,7 @@ class Between:
 
 
 class Key(NamedTuple):
-    """A key of a case: what it says, how its value is read, the field that it is, and whether each
-    case has it."""
+    """A key of a case: what it says, how it is read, its field, and whether each case has it."""
 
     name: str
     says: str
@@ -155,15 +139,14 @@ class Key(NamedTuple):
 
 
 BILLION = 1_000_000_000
+ISR = "the interrupts that may come, by name or by their calls, else all of a text"
 # Each is one row.
 KEYS = (
     Key("file", "the application, JSON or in lines, beside this file", text, is_needed=True),
     Key("goal", "the goal (docs/REACHING.md)", text, is_needed=True),
     Key("expect", "the first line of the answer, or its beginning", expected, is_needed=True),
     Key("question", "what is asked of the goal: reach by itself", question),
-    Key(
-        "isr", "the interrupts that may come, by name or by their calls, else all of a text", texts
-    ),
+    Key("isr", ISR, texts),
     Key("consts", "consts of a text in lines with their numbers, NAME=N", consts),
     Key("pace", "how many moves each busy core makes from one tick to the next", a_pace),
     Key("from", "the file of command lines behind which orders begin", text, "begin"),
@@ -189,8 +172,7 @@ class Cases:
 
     def file(self, root: Node) -> None:
         """The whole file: one object with the list of cases."""
-        found = self._members(root, "the file", (CASES,))
-        node = found.get(CASES)
+        node = self._members(root, "the file", (CASES,)).get(CASES)
         if node is None:
             if isinstance(root.value, Object) and not self.faults:
                 self.fault(root.place, f'the file lacks "{CASES}", its list of cases')
@@ -239,19 +221,9 @@ class Cases:
             self.cases.append(Case(node.place, **values))
 
 
-def read(content: bytes) -> Tuple[List[Case], List[Fault]]:
-    """The cases of a file's content, and what is wrong with it."""
-    root, faults = json_text.read(content)
-    if root is None:
-        return [], faults
-    found = Cases()
-    found.file(root)
-    return found.cases, found.faults
-
-
 def file_of(path: str) -> str:
-    """The file that lists the cases of a folder, or the file that this is. Raises `Failure` where
-    there is none."""
+    """The file that lists the cases, given as itself or by its folder. Raises `Failure` where the
+    folder has none."""
     if not os.path.isdir(path):
         return path
     found = os.path.join(path, FILE)
@@ -264,4 +236,9 @@ def load(path: str) -> Tuple[List[Case], List[Fault]]:
     """The cases of a file, and what is wrong with it. Raises `Failure` where it can't be read."""
     with trying(f"read {path}"):
         content = pathlib.Path(path).read_bytes()
-    return read(content)
+    root, faults = json_text.read(content)
+    if root is None:
+        return [], faults
+    found = Cases()
+    found.file(root)
+    return found.cases, found.faults

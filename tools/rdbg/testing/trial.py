@@ -5,15 +5,14 @@ import functools
 import io
 import os
 import time
-from typing import Callable, Iterator, List, NamedTuple, Tuple
+from typing import Callable, Iterator, NamedTuple, Tuple
 
 from rdbg.driving.target import Unable
 from rdbg.failure import Failure
 from rdbg.files.definitions import definition
 from rdbg.files.source import Source, load
 from rdbg.hunting import report
-from rdbg.hunting.goals import DIFFERS, Goal
-from rdbg.hunting.goals import read as read_goal
+from rdbg.hunting.goals import DIFFERS, Goal, read as read_goal
 from rdbg.hunting.interrupts import Handler, handlers
 from rdbg.hunting.stage import Stage
 from rdbg.reaching.asking import LOST, QUESTIONS, Asker
@@ -52,7 +51,7 @@ class Ready(NamedTuple):
 
 
 def prepared(case: Case, folder: str) -> Ready:
-    """What a case asks. Raises `Failure` where its application, its goal or an interrupt is none."""
+    """What a case asks. Raises `Failure` where its file, its goal or an interrupt is none."""
     path = os.path.join(folder, case.file)
     source = load(path, dict(map(definition, case.consts)))
     if source.application is None:
@@ -89,20 +88,10 @@ def order_of(case: Case, ready: Ready, answer: Answer) -> Iterator[str]:
     if case.begin or case.question == LOST.word:
         yield from answer.order
         return
-    stage = Stage(ready.source, ready.interrupts)
-    try:
+    with contextlib.closing(Stage(ready.source, ready.interrupts)) as stage:
         find = stage.find(answer.order)
         yield from report.found(ready.goal, stage, [find], False)
         yield from ("lines:", *report.lines_of(ready.goal, stage, [find]))
-    finally:
-        stage.close()
-
-
-def told_of(case: Case, ready: Ready, answer: Answer) -> List[str]:
-    """What there is to tell of an answer: the order, else why not all was gone through; and how much
-    was."""
-    told = [*order_of(case, ready, answer)] if answer.has_order else [*report.ended(answer)]
-    return [*told, report.gone_through(answer.counts)]
 
 
 def tried(folder: str, case: Case) -> Result:
@@ -114,7 +103,8 @@ def tried(folder: str, case: Case) -> Result:
             ready = prepared(case, folder)
             answer = asked(case, folder, ready)
             took = time.monotonic() - began
-            told = told_of(case, ready, answer)
+            told = [*order_of(case, ready, answer)] if answer.has_order else [*report.ended(answer)]
+            told = [*told, report.gone_through(answer.counts)]
     except (Failure, Refused, Unable) as failure:
         why = str(failure) or " ".join(said.getvalue().split())
         return Result(Verdict.REFUSED, why, time.monotonic() - began)

@@ -1,40 +1,122 @@
-"""What `rdbg trace` does, once its words are read: a run is looked at, and written as rows, as events
-or as a page."""
+"""What `rdbg trace` does, once its words are read: a run is looked at or asked for, and written as
+rows, as events or as a page."""
 import argparse
 import dataclasses
 import functools
 import os
 import sys
 import time
-from typing import Callable, Dict, Iterable, Iterator, List, Optional, Sequence, Tuple
+from typing import Callable, Dict, Iterable, Iterator, List, NamedTuple, Optional, Sequence, Tuple
 
 from rdbg import commands, record
-from rdbg.digits import is_digits
 from rdbg.application import Application
-from rdbg.wording import shown
+from rdbg.digits import is_digits
+from rdbg.driving.opening import attach, builtin
+from rdbg.driving.parts import AT_A_PORT, Part, Told, Trim, move_to, part_at
+from rdbg.driving.target import Limits, Unable
 from rdbg.effects import Move
-from rdbg.failure import Failure, trying
+from rdbg.failure import Failure, of_words, trying, turned
+from rdbg.files.source import Source, standard_input
 from rdbg.goals.claims import Goal
 from rdbg.goals.reading import NoGoal
-from rdbg.goals.words import read
 from rdbg.goals.scope import Scope
+from rdbg.goals.words import for_search, read
 from rdbg.looks import Names
-from rdbg.near import nearest
 from rdbg.page.recorder import Recorder
+from rdbg.reaching import losing
+from rdbg.reaching.asking import LOST, QUESTIONS, REACH, Question
+from rdbg.reaching.behind import ask_behind
+from rdbg.reaching.handlers import told as told_of
+from rdbg.reaching.said import Answer
 from rdbg.replies import Refused
-from rdbg.driving.opening import attach, builtin
-from rdbg.driving.target import Limits, Unable
-from rdbg.files.source import Source, standard_input
-from rdbg.tracing.asking import lost_in, of_page
 from rdbg.tracing.events import Events
 from rdbg.tracing.page import ways
-from rdbg.tracing.page.asked import Asked
+from rdbg.tracing.page.asked import Asked, asked
 from rdbg.tracing.page.document import page
 from rdbg.tracing.page.report import Opening, Report, Text
-from rdbg.driving.parts import AT_A_PORT, Part, Trim, part_at
 from rdbg.tracing.run import Line, Plan, Run, parts, plan
 from rdbg.tracing.table import Row, Table, rows
 from rdbg.whole_file import written
+from rdbg.wording import nearest, shown
+
+
+class Answered(NamedTuple):
+    """A question, its goal as it is typed, the answer, and the lines behind which it was asked."""
+
+    question: Question
+    goal: str
+    answer: Answer
+    lines: List[str]
+
+
+@dataclasses.dataclass(frozen=True)
+class Lost:
+    """What is answered of a goal that a run may have lost, in words; and the place of the move that
+    lost it, where one did."""
+
+    goal: str
+    said: str
+    place: Optional[int]
+
+    def mark(self, row: Row) -> Row:
+        """A row, or that of the move which lost it with this among its effects."""
+        if self.place is None or row.cells[0] != str(self.place) or record.TRIM in row.about:
+            return row
+        *cells, effects = row.cells
+        texts = [*([effects] if effects else []), f"loses '{self.goal}'"]
+        return dataclasses.replace(row, cells=(*cells, ", ".join(texts)))
+
+
+def question_of(text: str) -> Question:
+    """Which question these words are; `reach` where they are a goal alone."""
+    return QUESTIONS.get(text.partition(" ")[0], REACH)
+
+
+def option_of(text: str) -> str:
+    """By which option they are asked, in short."""
+    return f"--{LOST.word}" if question_of(text) is LOST else "--ask"
+
+
+def ask(text: str, source: Optional[Source], told: Sequence[Told]) -> Answered:
+    """The question that these words are, of a run or at its end, with the answer. Raises `Failure`
+    where it can't be asked."""
+    if source is None:
+        raise Failure(f"{option_of(text)} goes with a file: rdbg trace FILE", 2)
+    question, words = question_of(text), text.split()
+    goal = words[words[:1] == [question.word] :]
+    with turned(of_words, NoGoal, of=option_of(text)):
+        _, words_asked = for_search(goal, Scope.of(source))
+    # (`back` leads no further behind a trim, but what is there is the same)
+    lines = [it.text for it in told if it.text.split(" ")[0] != record.TRIM]
+    answer = ask_behind(source, lines, question, words_asked)
+    return Answered(question, " ".join(goal), answer, lines)
+
+
+def of_page(text: Optional[str], source: Optional[Source], told: Sequence[Told]) -> Optional[Asked]:
+    """The answer as a page has it; none where nothing is asked."""
+    if text is None:
+        return None
+    question, goal, answer, lines = ask(text, source, told)
+    is_whole = question is LOST and answer.order
+    order = (*lines, *answer.order) if is_whole else answer.order
+    place = told[-1].place if told else 0
+    beside = told_of((), source.application if source else None)
+    return asked(question, goal, answer, place, order, beside)
+
+
+def lost_in(text: Optional[str], source: Optional[Source], told: Sequence[Told]) -> Optional[Lost]:
+    """The answer to `lost GOAL` as rows have it; none where nothing is asked."""
+    if text is None:
+        return None
+    _, goal, answer, lines = ask(text, source, told)
+    assert source is not None
+    texts = losing.in_one(LOST, answer, lambda place: move_to(source, lines, place).row())
+    loss = losing.loss_of(answer)
+    said = f"{answer.head()}: {texts}" if texts else answer.head()
+    beside = told_of((), source.application)
+    said += f" ({beside})" if beside else ""
+    return Lost(goal, said, loss.place if loss is not None and loss.place else None)
+
 
 STANDARD_INPUT = "-"
 MOST_REFUSED = 10
@@ -130,7 +212,7 @@ def print_rows(found: Iterable[Row], table: Table, names: Optional[Sequence[str]
     """Prints a table, or the rows of it that concern these names."""
     print(table.head())
     for row in found:
-        if names is None or row.concerns(names):
+        if names is None or not row.about.isdisjoint(names):
             print(table.row(row.cells))
 
 
@@ -144,10 +226,9 @@ def moves_in(found: Iterable[Part], goal: Optional[Goal]) -> Iterator[Move]:
 
 def goal_of(option: str, words: Optional[str], scope: Scope) -> Optional[Goal]:
     """The goal that an option is given, if it is. Raises `Failure` where words are none."""
-    try:
-        return None if words is None else read(words.split(), scope)
-    except NoGoal as wrong:
-        raise Failure(f"{option}: {wrong}", 2) from None
+    with turned(of_words, NoGoal, of=option):
+        goal = None if words is None else read(words.split(), scope)
+    return goal
 
 
 def report_of(given: argparse.Namespace, scope: Scope) -> Report:
@@ -224,8 +305,7 @@ def trace_run(given: argparse.Namespace, source: Optional[Source]) -> None:
         write_page(seen, found.trims, given.page, recorder, lambda _: way, report, other)
         return
     lost = lost_in(given.ask, source, whole.told)
-    told = [it.text for it in lines]
-    table = Table.of(application, whole.done, whole.end.cores.tick, told)
+    table = Table.of(application, whole.done, whole.end.cores.tick, [it.text for it in lines])
     shown_rows = rows(moves_in(seen, goal), found.trims)
     print_rows(shown_rows if lost is None else map(lost.mark, shown_rows), table, names)
     if lost is not None:

@@ -8,9 +8,9 @@ import json
 from typing import Callable, Dict, List, Optional, Sequence, Tuple
 
 from rdbg import replies
+from rdbg.driving.parts import Part, Trim
 from rdbg.effects import Effect, Move
 from rdbg.looks import Key, Look, Object
-from rdbg.driving.parts import Part, Trim
 
 MOVE = 1_000  # microseconds
 CORES, TASKS, OBJECTS = 1, 2, 3
@@ -22,11 +22,8 @@ Event = Dict[str, object]
 
 def phase_of(task: replies.Task) -> str:
     """What a task does, as its slice is called."""
-    if task.core is not None:
-        return f"core {task.core}"
-    if task.phase.word == "wait":
-        return f"waits {task.phase.place}"
-    return {"ended": "ended", "failed": f"failed {task.phase.cause}"}.get(task.phase.word, "ready")
+    failed = f"failed {task.phase.cause}"
+    return failed if task.core is None and task.phase.word == "failed" else task.doing
 
 
 def level_of(it: Object) -> Dict[str, int]:

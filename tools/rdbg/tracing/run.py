@@ -1,21 +1,20 @@
 """A run that is traced: its commands are told to programs of their own, and its moves looked at.
 
 A look takes a place of the history, of which there are a million at most, so a long run is looked
-at in pieces, by programs side by side.
-"""
+at in pieces, by programs side by side."""
 import dataclasses
 import functools
 from typing import Callable, Iterator, List, Optional, Sequence, Tuple
 
 from rdbg import record
-from rdbg.failure import Failure
-from rdbg.looks import Look
 from rdbg.driving import trail
 from rdbg.driving.opening import begin
-from rdbg.driving.target import RESERVE, Limits, Target
 from rdbg.driving.parts import Part, Told, Trim, look_through
+from rdbg.driving.target import RESERVE, Limits, Target
 from rdbg.driving.walk import LEAST_PIECE
+from rdbg.failure import Failure
 from rdbg.files.source import Source
+from rdbg.looks import Look
 from rdbg.workers import side_by_side
 
 # So many moves are looked at by one program at the most: so few, that others have as many, and that
@@ -91,16 +90,11 @@ class Plan:
         return sum(it.last - it.first + 1 for it in self.pieces)
 
 
-def room_for_moves(run: Run, target: Target, told: int) -> int:
-    """How many moves the history has room to look at, once so many lines were told."""
-    left = run.limits.history - told - RESERVE - run.ways - trail.lines_for(0, target.names)
-    return min(MOST_MOVES, left // (trail.lines_for(1, target.names) + 1))
-
-
 def pieces_of(run: Run, target: Target, told: int, first: int, last: int) -> Iterator[Piece]:
     """The pieces in which moves are looked at. Raises `Failure` where a history has too little
     room behind the lines."""
-    count = room_for_moves(run, target, told)
+    left = run.limits.history - told - RESERVE - run.ways - trail.lines_for(0, target.names)
+    count = min(MOST_MOVES, left // (trail.lines_for(1, target.names) + 1))
     if first <= last and count < 1:
         raise Failure(f"the history has no room to look at moves behind {told} lines")
     for at in range(first, last + 1, max(1, count)):
@@ -135,8 +129,8 @@ def plan(run: Run) -> Plan:
 
 
 class Looker:
-    """Looks at pieces of a run, one after the other. Its program, which has been told the lines up to
-    one piece, is kept for the next as long as its history has room."""
+    """Looks at pieces of a run, one after the other. Its program, which has been told the lines up
+    to one piece, is kept for the next as long as its history has room."""
 
     def __init__(self, run: Run) -> None:
         self._run = run

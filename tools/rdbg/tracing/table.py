@@ -5,11 +5,12 @@ from typing import FrozenSet, Iterable, Iterator, Sequence, Tuple
 from rdbg import record
 from rdbg.application import Application
 from rdbg.digits import is_digits
-from rdbg.effects import Move
 from rdbg.driving.parts import Trim
+from rdbg.effects import Move
 
 HEADS = ("place", "tick", "core", "who", "pc", "does")
 WIDEST = 40
+GIVEN_UP = "records of earlier moves given up"
 
 
 @dataclasses.dataclass(frozen=True)
@@ -19,10 +20,6 @@ class Row:
 
     cells: Tuple[str, ...]
     about: FrozenSet[str]
-
-    def concerns(self, names: Sequence[str]) -> bool:
-        """Whether it is of one of these, or speaks of it."""
-        return not self.about.isdisjoint(names)
 
 
 @dataclasses.dataclass(frozen=True)
@@ -40,19 +37,15 @@ class Table:
         # (an interrupt stands as its line, and has effects behind it, as an edit hasn't)
         texts += [line for line in lines if line.split()[0] == "isr"]
         widest = max(len(text) + len(" -> 1") for text in texts)
-        return cls.wide_enough(
-            [
-                ("9" * len(str(done)), "9" * len(str(tick)), str(application.cores - 1))
-                + (task.name, str(len(task.code) - 1), "x" * min(widest, WIDEST))
-                for task in application.tasks
-            ]
-        )
+        first = ("9" * len(str(done)), "9" * len(str(tick)), str(application.cores - 1))
+        does = "x" * min(widest, WIDEST)
+        tasks = application.tasks
+        return cls.wide_enough((*first, it.name, str(len(it.code) - 1), does) for it in tasks)
 
     @classmethod
     def wide_enough(cls, rows: Iterable[Sequence[str]]) -> "Table":
         """A table for rows that are known."""
-        columns = list(zip(HEADS, *rows))
-        return cls(tuple(max(len(text) for text in column) for column in columns))
+        return cls(tuple(max(map(len, column)) for column in zip(HEADS, *rows)))
 
     def row(self, cells: Sequence[str]) -> str:
         """The cells in a line: numbers at the right of their columns, words at the left."""
@@ -71,12 +64,10 @@ class Table:
 def about(move: Move) -> FrozenSet[str]:
     """Whom a move is of, and of what its instruction or line and its effects speak."""
     words = (move.instruction or move.line).split()[1:]
-    named = [word for word in words if not is_digits(word)]
-    spoken = [it.name for it in move.effects] + [
-        it.how for it in move.effects if it.kind == "turns"
-    ]
-    core = [] if move.core is None else [str(move.core)]
-    return frozenset([move.who, *core, *named, *spoken])
+    found = {move.who, *(it.name for it in move.effects)}
+    found.update(word for word in words if not is_digits(word))
+    found.update(it.how for it in move.effects if it.kind == "turns")
+    return frozenset(found if move.core is None else {*found, str(move.core)})
 
 
 def row_of(move: Move) -> Row:
@@ -89,15 +80,7 @@ def row_of(move: Move) -> Row:
 
 def row_of_trim(trim: Trim) -> Row:
     """The row of a trim."""
-    cells = (
-        str(trim.place),
-        "",
-        "",
-        record.TRIM,
-        "",
-        trim.line,
-        "records of earlier moves given up",
-    )
+    cells = (str(trim.place), "", "", record.TRIM, "", trim.line, GIVEN_UP)
     return Row(cells, frozenset([record.TRIM]))
 
 

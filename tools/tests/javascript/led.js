@@ -4,8 +4,8 @@ const assert = require("assert");
 const test = require("node:test");
 const { SENT, namesOf, valuesOf } = require("./page.js");
 
-const { Painter, Run, ledTo, touchAt, waitAt } = namesOf("run", [
-  "Painter", "Run", "ledTo", "touchAt", "waitAt",
+const { Painter, Run, isEnding, ledTo, touchAt, waitAt } = namesOf("run", [
+  "Painter", "Run", "isEnding", "ledTo", "touchAt", "waitAt",
 ]);
 
 const LAST = "waits at recv:jobs with no limit of time (portMAX_DELAY)";
@@ -83,6 +83,45 @@ test("each kind of what a task waits for", () => {
     const wait = waitAt(run, 1);
     assert.deepEqual([1, 2].map((place) => touchAt(run, wait, place)), signs, word);
   }
+});
+
+test("which instructions end a wait", () => {
+  const isIt = (word, list, texts, more = {}) => {
+    const object = { kind: "queue", name: "it", tracks: { [list]: { 0: null }, ...more } };
+    const run = waiting(`wait:${word}:it:max`, { 0: "" }, [object]);
+    return texts.filter((text) => isEnding(run, waitAt(run, 1), 1, text));
+  };
+  const queue = ["send it 0", "front(it, max)", "over it", "give it", "peek it 0", "qreset it"];
+  queue.push("recv it 5", "take it max", "send other 0");
+  assert.deepEqual(isIt("recv", "recv", queue, { set: { 0: null } }), queue.slice(0, 5));
+  assert.deepEqual(isIt("recv", "recv", queue, { set: { 0: "all" } }), ["peek it 0"]);
+  assert.deepEqual(isIt("send", "send", queue), ["give it", "qreset it", "recv it 5"]);
+  const buffer = ["sread it 8 0", "query t 0 1 bits", "sreset it", "notify t 1 0 inc"];
+  assert.deepEqual(isIt("swrite", "writer", buffer), buffer.slice(0, 2));
+  const notes = ["query(t, 1, 5, bits)", "notify t RX 0 inc", "notify t 0 0 inc", "notify u 1 0 inc"];
+  const run = waiting("wait:note:1:max", { 0: "0:idle,0:idle" });
+  assert.deepEqual(notes.filter((it) => isEnding(run, waitAt(run, 1), 1, it)), notes.slice(0, 2));
+});
+
+test("who has a mutex gives it", () => {
+  const still = { core: { 0: null }, pc: { 0: 1 }, notes: { 0: "0:idle" } };
+  const code = [["take lock max"], ["give lock"]];
+  const tasks = [
+    { name: "t", priority: 2, code, tracks: { ...still, phase: { 0: "run", 2: "wait:send:lock:max" } } },
+    { name: "u", priority: 1, code, tracks: { ...still, phase: { 0: "run" } } },
+  ];
+  const lists = { recv: { 0: [] }, send: { 0: [], 2: ["t"] }, set: { 0: null } };
+  const lock = { kind: "queue", name: "lock", most: 1, tracks: { items: { 0: [], 1: ["00"] }, ...lists } };
+  const moves = [
+    [0, 0, 1, 0, "take lock max -> 1", [], "u 0 take lock max"],
+    [0, 0, 0, 0, "take lock max", [], "t 0 take lock max"],
+  ];
+  const run = { last: 2, cores: { tick: { 0: 0 } }, tasks, objects: [lock], moves };
+  const led = ledTo(new Run(valuesOf(run)), 2);
+  const wait = "t waits at send:lock with no limit of time (portMAX_DELAY)";
+  const said = led.moves.map(({ text, flag }) => [text, flag]);
+  assert.deepEqual(said, [["u took lock (take lock max -> 1)", "took"], [wait, "waits"]]);
+  assert.match(led.ends, /: u \(ready\), whose next instruction is give lock\.$/);
 });
 
 test("tasks of one colour differ in every room by letter, name or bands", () => {

@@ -102,7 +102,7 @@ test("moves, as rows and in sentences", () => {
 });
 
 test("a wait with no limit of time, as an effect", () => {
-  const effects = [["left core 0 (waits without end)"], ["a took core 0"]];
+  const effects = [["left core 0 (waits with no limit of time)"], ["a took core 0"]];
   const said = "left core 0 (waits with no limit of time: portMAX_DELAY), a took core 0";
   assert.equal(effectWords({ effects }), said);
 });

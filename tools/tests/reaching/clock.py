@@ -3,8 +3,7 @@
 The clock has for each core how many moves its task has made since the last tick, or since the task
 came there, up to the most that matters; for each interrupt how often it came, up to its limit, and
 how many ticks ago, up to its distance; and, where surprises are counted, how many there were, and
-which core is ahead of the policy.
-"""
+which core is ahead of the policy."""
 import dataclasses
 from typing import List, NamedTuple, Optional, Tuple
 

@@ -10,8 +10,8 @@ Place = Tuple[int, Clock]
 
 
 class Enumeration:
-    """The places that orders of a schedule lead to, each with how few moves lead there: of orders of
-    at most so many moves, and of fewer where there are more than so many places."""
+    """The places that orders of a schedule lead to, each with how few moves lead there: of orders
+    of at most so many moves, and of fewer where there are more than so many places."""
 
     def __init__(
         self, machine: Places, rules: Rules, most_moves: int, most_places: int, begin: int = 0

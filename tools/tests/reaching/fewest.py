@@ -1,16 +1,18 @@
 """With how few surprises, and then with how few moves, a goal comes."""
 import dataclasses
-from typing import Dict, List, Optional, Tuple
+from typing import Callable, Dict, List, Optional, Sequence, Tuple
 
 from tests.reaching.clock import Clock, Rules, Schedule
 from tests.reaching.goals import Goal
 from tests.reaching.machine import Places
+from tests.reaching.states import State
 
 # How many surprises, and how many moves.
 Cost = Tuple[int, int]
 # Where surprises aren't counted, so many may come.
 ANY_NUMBER = 1_000_000
 Place = Tuple[int, Clock]
+Wanted = Callable[[Place], bool]
 # Places by how many moves lead there.
 Level = Dict[int, List[Place]]
 
@@ -21,11 +23,15 @@ def counting(schedule: Schedule) -> Rules:
     return Rules(dataclasses.replace(schedule, surprises=limit))
 
 
+def _judging(goal: Goal, states: Sequence[State]) -> Wanted:
+    return lambda place: goal.holds(states[place[0]])
+
+
 class Levels:
     """Goes through places by rising numbers of surprises, and among these of moves, of which there
-    are so many at the most, or any number. At a level are the places that orders of so many surprises
-    lead to, and that none of fewer surprises leads to with as few moves; with any number of moves,
-    those that none of fewer surprises leads to."""
+    are so many at the most, or any number. At a level are the places that orders of so many
+    surprises lead to, and that none of fewer surprises leads to with as few moves; with any number
+    of moves, those that none of fewer surprises leads to."""
 
     def __init__(self, machine: Places, rules: Rules, most_moves: Optional[int]) -> None:
         self.machine, self.rules, self.most = machine, rules, most_moves
@@ -33,9 +39,15 @@ class Levels:
         # of this number of surprises, by how many moves
         self.level: Level = {0: [(0, self.rules.at_start(machine.states[0]))]}
 
-    def fewest(self, goals: List[Goal]) -> List[Cost]:
+    def fewest(self, goals: Sequence[Goal]) -> List[Cost]:
         """With how few each of these goals comes, each of which does."""
-        met: List[Optional[Cost]] = [None] * len(goals)
+        states = self.machine.states
+        return self.fewest_to([_judging(goal, states) for goal in goals])
+
+    def fewest_to(self, wanted: Sequence[Wanted]) -> List[Cost]:
+        """With how few an order comes to a place that is wanted, of each sort, to which one
+        does."""
+        met: List[Optional[Cost]] = [None] * len(wanted)
         surprises = 0
         while None in met and self.level:
             level, self.level = self.level, {}
@@ -45,7 +57,7 @@ class Levels:
                     if self._was_there(place, moves):
                         continue
                     self.best[place] = moves
-                    self._judge(place, (surprises, moves), goals, met)
+                    self._judge(place, (surprises, moves), wanted, met)
                     if moves != self.most:
                         self._go_on(place, moves + 1, level)
             surprises += 1
@@ -58,10 +70,10 @@ class Levels:
         return before is not None and (self.most is None or before <= moves)
 
     def _judge(
-        self, place: Place, cost: Cost, goals: List[Goal], met: List[Optional[Cost]]
+        self, place: Place, cost: Cost, wanted: Sequence[Wanted], met: List[Optional[Cost]]
     ) -> None:
-        for at, goal in enumerate(goals):
-            if met[at] is None and goal.holds(self.machine.states[place[0]]):
+        for at, is_wanted in enumerate(wanted):
+            if met[at] is None and is_wanted(place):
                 met[at] = cost
 
     def _go_on(self, place: Place, moves: int, level: Level) -> None:

@@ -1,14 +1,13 @@
 """What rdreach says, held against the enumeration.
 
 Where it has `--exact` it is asked three times. With that it has to keep as many states as there are
-places. Without it, it has to say the same with no more states. And of orders of any length it is asked
-where an enumeration that takes places for one by the laws of the turn, of the clock and of registers
-that nobody reads comes to an end: it has to keep as many states, and to say `never` where the goal
-holds at none of these places.
-"""
+places. Without it, it has to say the same with no more states. And of orders of any length it is
+asked where an enumeration that takes places for one by the laws of the turn, of the clock and of
+what nobody reads comes to an end: it has to keep as many states, and to say `never` where the goal
+holds at none of these places."""
 import json
 import pathlib
-from typing import Dict, FrozenSet, Iterator, List, NamedTuple, Optional, Sequence, Tuple
+from typing import Dict, Iterator, List, NamedTuple, Optional, Sequence, Tuple
 
 from tests.reaching.clock import LAST_TICK, Rules, Schedule
 from tests.reaching.enumeration import Enumeration, Place
@@ -18,7 +17,7 @@ from tests.reaching.machine import Alike, Answered, Machine, lines_taken
 from tests.reaching.questions import EXACT, FROM, SURPRISES, Question, words_of
 from tests.reaching.saying import FOUND, Asked, Said, Tally, said
 from tests.reaching.states import State, by_clock, by_laws
-from tests.reaching.unread import Register, unread, without
+from tests.reaching.unread import Unread, unread, without
 
 # No enumeration goes through so many moves, and no search that ends as it does makes so many ticks.
 MANY = 1_000_000
@@ -49,13 +48,13 @@ class Judge:
         self.tally = Tally()
         self._replayed: Dict[Sequence[str], State] = {}
         self._application = json.loads(machine.file.read_text())
-        # the places by the laws, by which registers nobody reads
-        self._counted: Dict[FrozenSet[Register], Optional[Enumeration]] = {}
+        # the places by the laws, by what nobody reads
+        self._counted: Dict[Unread, Optional[Enumeration]] = {}
 
     def faults(self, goals: Sequence[Goal], most: Most) -> Iterator[str]:
         """What is wrong with what it says of each goal, of orders of the most moves, and of fewer
-        where they lead to more than the most places; and of orders of any length, where these lead to
-        no more than so many by the laws."""
+        where they lead to more than the most places; and of orders of any length, where these lead
+        to no more than so many by the laws."""
         there = Enumeration(self.machine, Rules(self.schedule), most.moves, most.places)
         self.tally.places += len(there.places)
         asked = (NEVER, NOWHERE, *goals)
@@ -79,8 +78,8 @@ class Judge:
         self.tally.closed += len(every)
         self.tally.closed_places += sum(len(classes.places) for classes in every)
 
-    def _unread(self, goal: Goal) -> FrozenSet[Register]:
-        """The registers that nobody reads where this goal is looked for."""
+    def _unread(self, goal: Goal) -> Unread:
+        """What nobody reads where this goal is looked for."""
         return unread(self._application, goal.words)
 
     def _classes(self, goal: Goal, places: int) -> Optional[Enumeration]:
@@ -89,14 +88,14 @@ class Judge:
         """
         if not self.exact:
             return None
-        registers = self._unread(goal)
-        if registers not in self._counted:
+        hidden = self._unread(goal)
+        if hidden not in self._counted:
             is_what = by_laws if self.schedule.surprises is None else by_clock
-            alike = Alike(self.machine, lambda state: without(registers, is_what(state)))
+            alike = Alike(self.machine, lambda state: without(hidden, is_what(state)))
             classes = Enumeration(alike, Rules(self.schedule), DEEP, places)
             is_all = classes.is_all and not self._come_to_last(classes)
-            self._counted[registers] = classes if is_all else None
-        return self._counted[registers]
+            self._counted[hidden] = classes if is_all else None
+        return self._counted[hidden]
 
     def _ask(self, goal: Goal, *options: str) -> Tuple[str, Said]:
         """What it is asked, in short, and what it says."""
@@ -136,8 +135,8 @@ class Judge:
 
     def _fewest(self, goal: Goal) -> Cost:
         """With how few surprises and moves a goal comes, which does, by orders of any length."""
-        registers = self._unread(goal)
-        alike = Alike(self.machine, lambda state: without(registers, by_clock(state)))
+        hidden = self._unread(goal)
+        alike = Alike(self.machine, lambda state: without(hidden, by_clock(state)))
         return Levels(alike, self.rules, None).fewest([goal])[0]
 
     def _come_to_last(self, there: Enumeration) -> bool:
@@ -173,8 +172,8 @@ class Judge:
         fewest: Optional[Cost],
         classes: Optional[Enumeration],
     ) -> Iterator[str]:
-        """Where those are taken for one which go on alike, but for the tick, where the goal hangs on
-        it. A search that doesn't see the tick ends where that comes to the last there is."""
+        """Where those are taken for one which go on alike, but for the tick, where the goal hangs
+        on it. A search that doesn't see the tick ends where that comes to the last there is."""
         may_be_full = self._come_to_last(there)
         if goal.on_tick or self.machine.states[0].tick == LAST_TICK:
             yield from self._faults(heard, there, goal, fewest)
@@ -192,7 +191,8 @@ class Judge:
                 yield f"there are {len(there.places)} states at the most"
 
     def _is_none(self, heard: Said, there: Enumeration, may_be_never: bool) -> bool:
-        """Whether it says that there is none of the orders that were gone through, or none at all."""
+        """Whether it says that there is none of the orders that were gone through, or none at
+        all."""
         is_never = may_be_never and heard.answer == self._never()
         is_due = is_never or heard.answer == self._not_within(there.moves)
         return is_due and heard.status == 0
@@ -200,8 +200,8 @@ class Judge:
     def _faults_of_find(
         self, heard: Said, goal: Goal, fewest: Cost, is_fewest: bool = True
     ) -> Iterator[str]:
-        """Where there is an order. That which it says has to have the fewest surprises and moves, if
-        no end of room came in between."""
+        """Where there is an order. That which it says has to have the fewest surprises and moves,
+        if no end of room came in between."""
         if (heard.answer, heard.status) != (FOUND, 1):
             yield f"there is one with {fewest[0]} surprises and {fewest[1]} moves"
             return

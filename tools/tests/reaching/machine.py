@@ -71,8 +71,8 @@ class Places(Protocol):
 
 
 class Machine:
-    """The places of a session that stands behind these lines at the start. Places are the same where
-    all that is shown of them is."""
+    """The places of a session that stands behind these lines at the start. Places are the same
+    where all that is shown of them is."""
 
     def __init__(self, program: str, file: pathlib.Path, start: Sequence[str] = ()) -> None:
         application = json.loads(file.read_text())
@@ -166,8 +166,8 @@ class Machine:
 
 
 class Alike:
-    """The places of others, of which those are one that are the same by what `is_what` says of them.
-    The first one that is seen stands for all."""
+    """The places of others, of which those are one that are the same by what `is_what` says of
+    them. The first one that is seen stands for all."""
 
     def __init__(self, places: Places, is_what: Callable[[State], Views]) -> None:
         self.states = places.states

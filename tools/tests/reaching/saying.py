@@ -10,8 +10,8 @@ COUNTED, MISSED = "states ", "no order came to "
 
 
 class Asked(NamedTuple):
-    """The programs that are asked, what rdreach has of the options of questions, and whether it tells
-    where goals are lost."""
+    """The programs that are asked, what rdreach has of the options of questions, and whether it
+    tells where goals are lost."""
 
     rdbg: str
     rdreach: str
@@ -20,8 +20,8 @@ class Asked(NamedTuple):
 
 
 class Said(NamedTuple):
-    """What rdreach said: its first line, the lines of the order, or of what ended it, how many states
-    it kept, how many moves it made, its status, and what stood on standard error."""
+    """What rdreach said: its first line, the lines of the order, or of what ended it, how many
+    states it kept, how many moves it made, its status, and what stood on standard error."""
 
     answer: str
     order: Tuple[str, ...]

@@ -1,16 +1,18 @@
-"""Which registers that scripts count in nobody reads, by these and by the words of a goal."""
+"""What nobody reads: registers that scripts count in, and data of tasks and items of queues that
+these go on into, by the scripts and by the words of a goal."""
 import re
-from typing import Any, Dict, FrozenSet, Iterator, List, Sequence, Tuple
+from typing import Any, Dict, FrozenSet, Iterator, NamedTuple, Sequence, Set, Tuple
 
 from tests.reaching.states import Views
 
-# A task by its name, and the number of one of its registers.
+# A register: its task by its name, and its number.
 Register = Tuple[str, int]
+# What holds values: a register, the data of a task, or the items of a queue.
+Cell = Tuple[str, ...]
 NAMED = re.compile(r"\breg (\S+) (\d+)")
 NUMBER = re.compile(r"r([0-7])")
 # Where the words of an instruction stand that it reads, if they are registers.
 READ = {
-    "pack": (1,),
     "jumpz": (1,),
     "send": (2,),
     "front": (2,),
@@ -34,15 +36,17 @@ READ = {
 }
 
 
-def read_by(code: Sequence[str], spoken: FrozenSet[int]) -> FrozenSet[int]:
-    """The registers that are read: those that an instruction of the script needs or the goal speaks
-    of, and those that go on into one of them."""
-    lines = [line.split() for line in code]
-    needed = {it for line in lines for it in _needed(line)} | spoken
-    moved = [(_number(line[1]), _number(line[2])) for line in lines if line[0] == "move"]
-    for _ in moved:
-        needed |= {from_ for into, from_ in moved if into in needed}
-    return frozenset(needed)
+# Calls that make an item of data, or data of an item, and those of buffers.
+OF_ITEMS = ("send", "front", "recv", "peek", "over")
+OF_BUFFERS = ("swrite", "sread", "mwrite", "mread")
+
+
+class Unread(NamedTuple):
+    """Registers, tasks by the names of those whose data nobody reads, and queues likewise."""
+
+    registers: FrozenSet[Register] = frozenset()
+    data: FrozenSet[str] = frozenset()
+    items: FrozenSet[str] = frozenset()
 
 
 def counted_in(code: Sequence[str]) -> FrozenSet[int]:
@@ -56,35 +60,91 @@ def counted_in(code: Sequence[str]) -> FrozenSet[int]:
     )
 
 
-def unread(application: Dict[str, Any], words: str) -> FrozenSet[Register]:
-    """The registers that their task's script counts in, and that neither it reads nor the goal of
-    these words."""
-    spoken = [(task, int(number)) for task, number in NAMED.findall(words)]
-    left = set()
-    for task in application["tasks"]:
-        name, code = task["name"], task["code"]
-        said = frozenset(number for of, number in spoken if of == name)
-        left |= {(name, number) for number in counted_in(code) - read_by(code, said)}
-    return frozenset(left)
+def unread(application: Dict[str, Any], words: str) -> Unread:
+    """What is counted in, and what that goes on into, that nobody reads: neither the scripts nor
+    the goal of these words."""
+    flows = {flow for task in application["tasks"] for flow in _flows(task)}
+    grown = _closed({cell for task in application["tasks"] for cell in _counted(task)}, flows)
+    needed: Set[Cell] = {("reg", task, number) for task, number in NAMED.findall(words)}
+    needed |= {cell for task in application["tasks"] for cell in _needed(task)}
+    back = {(into, of) for of, into in flows}
+    every = needed | {cell for flow in flows for cell in flow}
+    seen = _closed(needed | (every - grown), back)
+    left = grown - seen
+    return Unread(
+        frozenset((cell[1], int(cell[2])) for cell in left if cell[0] == "reg"),
+        frozenset(cell[1] for cell in left if cell[0] == "data"),
+        frozenset(cell[1] for cell in left if cell[0] == "items"),
+    )
 
 
-def without(registers: FrozenSet[Register], views: Views) -> Views:
-    """What is shown without these registers."""
-    return tuple(_task_without(registers, it) if it.startswith("task ") else it for it in views)
+def without(hidden: Unread, views: Views) -> Views:
+    """What is shown without this."""
+    return tuple(_without(hidden, view) for view in views)
 
 
-def _task_without(registers: FrozenSet[Register], view: str) -> str:
+def _without(hidden: Unread, view: str) -> str:
     words = view.split(" ")
-    at = words.index("regs") + 1
-    values: List[str] = words[at].split(",")
-    seen = ("-" if (words[1], it) in registers else value for it, value in enumerate(values))
-    return " ".join([*words[:at], ",".join(seen), *words[at + 1 :]])
+    if words[0] == "task":
+        at = words.index("regs") + 1
+        values = enumerate(words[at].split(","))
+        words[at] = ",".join("-" if (words[1], it) in hidden.registers else of for it, of in values)
+        if words[1] in hidden.data:
+            at = words.index("data") + 1
+            words[at] = str(len(words[at]))
+    elif words[0] == "queue" and words[1] in hidden.items:
+        words[words.index("items") + 1 : words.index("recv")] = ["-"]
+    return " ".join(words)
 
 
-def _needed(line: Sequence[str]) -> Iterator[int]:
-    for at in READ.get(line[0], ()):
-        if NUMBER.fullmatch(line[at]):
-            yield _number(line[at])
+def _closed(cells: Set[Cell], flows: Set[Tuple[Cell, Cell]]) -> Set[Cell]:
+    """These, and all that they go on into."""
+    found, left = set(cells), list(cells)
+    while left:
+        last = left.pop()
+        for of, into in flows:
+            if of == last and into not in found:
+                found.add(into)
+                left.append(into)
+    return found
+
+
+def _counted(task: Dict[str, Any]) -> Iterator[Cell]:
+    for number in counted_in(task["code"]):
+        yield ("reg", task["name"], str(number))
+
+
+def _flows(task: Dict[str, Any]) -> Iterator[Tuple[Cell, Cell]]:
+    """What goes on into what, by the instructions of a task: data into items, and items into data,
+    are one."""
+    name = task["name"]
+    data = ("data", name)
+    for line in map(str.split, task["code"]):
+        if line[0] == "move":
+            yield _register(name, line[2]), _register(name, line[1])
+        elif line[0] == "pack":
+            yield _register(name, line[1]), data
+        elif line[0] == "unpack":
+            yield data, _register(name, line[1])
+        elif line[0] in OF_ITEMS:
+            items = ("items", line[1])
+            yield data, items
+            yield items, data
+
+
+def _needed(task: Dict[str, Any]) -> Iterator[Cell]:
+    """What an instruction of a task needs: the registers that it tests or takes as operands, and
+    data that go into a buffer, or come from one."""
+    for line in map(str.split, task["code"]):
+        if line[0] in OF_BUFFERS:
+            yield ("data", task["name"])
+        for at in READ.get(line[0], ()):
+            if NUMBER.fullmatch(line[at]):
+                yield _register(task["name"], line[at])
+
+
+def _register(task: str, word: str) -> Cell:
+    return ("reg", task, str(_number(word)))
 
 
 def _number(word: str) -> int:

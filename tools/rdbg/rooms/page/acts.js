@@ -14,6 +14,8 @@ const INTERRUPTS = {
   "send to a queue": ["isr send", ["queue", "bytes in hex"]],
   "notify a task": ["isr notify", ["task", "entry", "number", "action"]],
 };
+// The buttons of so many cores are as wide as what stands on them, also in a small window.
+const FEW_CORES = 4;
 const ACTIONS = ["none", "bits", "inc", "set", "setif"];
 
 // What can be chosen for a word of a line; none where it is typed.
@@ -90,6 +92,7 @@ class TypedLine {
 // A button for each core: who is there, and what it does next.
 class StepButtons {
   constructor(element, count, tell) {
+    element.classList.toggle("many", count > FEW_CORES);
     this.buttons = Array.from({ length: count }, (_, core) => {
       const button = element.appendChild(made("button"));
       button.type = "button";
@@ -106,7 +109,7 @@ class StepButtons {
       const does = name ? `${name} ${orNobody(pc)} ${nextWords(run, task, pc)}` : "idle";
       const text = `step ${core}: ${does}`;
       const button = this.buttons[core];
-      if (button.textContent !== text) button.textContent = text;
+      if (button.textContent !== text) button.textContent = button.title = text;
       button.classList.toggle("idle", !name);
     });
   }

@@ -224,6 +224,7 @@ class RoomOnPage {
     this.line = new Line(way, (kind, it) => this.hear(kind, it));
     this.coming = new Coming(byId("come"), (name) => this.line.come(name));
     this.isHere = false;
+    this.moves = null;
     this.listen();
     if (!this.line.begin()) this.coming.ask("");
   }
@@ -236,6 +237,7 @@ class RoomOnPage {
     if (kind === "anew") location.reload();
     if (kind === "you") this.coming.end();
     if (kind === "refused") this.coming.ask(values);
+    if (kind === "end") this.moves = values;
     const texts = {
       you: "",
       end: "The room has ended.",
@@ -254,10 +256,12 @@ class RoomOnPage {
     this.setHere(!text);
   }
 
-  // Whether lines are answered: else nothing that says some can be used.
+  // Whether lines are answered: else nothing that says some can be used, and the moves can be saved
+  // where the room has told them at its end.
   setHere(isHere) {
     this.isHere = isHere;
     for (const it of document.querySelectorAll(".says")) it.disabled = !isHere;
+    byId("save").disabled = !isHere && this.moves === null;
     this.page?.say();
   }
 
@@ -302,7 +306,8 @@ class RoomOnPage {
 
   // Offers the moves so far as a file of commands.
   async save() {
-    const { reply, refused, ended } = await this.line.say("save", "");
+    const told = { reply: this.moves };
+    const { reply, refused, ended } = this.isHere ? await this.line.say("save", "") : told;
     if (reply === undefined) return this.talk.say("refused", `save -> ${refused ?? ended}`);
     saveText(`${this.file.replace(/\.[^.]*$/, "")}.commands`, reply);
   }

@@ -1,7 +1,6 @@
-"""The question that a page answers: how it was asked, what was answered, in words, and where that is
-seen in the run."""
+"""The question that a page answers: its words, what was answered, and where that is seen."""
 import dataclasses
-from typing import Dict, Optional, Sequence, Tuple
+from typing import Optional, Sequence, Tuple
 
 from rdbg.reaching.asking import DOOMED, LOST, Question
 from rdbg.reaching.losing import loss_of
@@ -20,40 +19,26 @@ class Asked:
     lost: Optional[int] = None
     order: Tuple[str, ...] = ()
 
-    def values(self) -> Dict[str, object]:
-        """What the page has of it."""
-        return dataclasses.asdict(self)
-
-
-def untold(answer: Answer) -> str:
-    """What is said where it can't be told."""
-    why = f": {answer.why}" if answer.why else ""
-    return f"That can't be told: {answer.head()}{why}."
-
 
 def of_loss(answer: Answer) -> str:
     """What is said of a goal that a run may have lost."""
     loss = loss_of(answer)
-    if answer.kind is Kind.UNTOLD:
-        return untold(answer)
     if loss is None:
         return "Still: from the last place of the run an order leads there."
     if not answer.order:
-        return f"From no place of the run an order, of whatever length, leads there: {loss.place} is its first."
+        nowhere = "From no place of the run an order, of whatever length, leads there"
+        return f"{nowhere}: {loss.place} is its first."
     return (
-        f"Lost at {loss.place}: from place {loss.place} on no order, of whatever length, leads there;"
-        f" from place {loss.before} one does."
+        f"Lost at {loss.place}: from place {loss.place} on no order, of whatever length, leads"
+        f" there; from place {loss.before} one does."
     )
 
 
 def of_doom(answer: Answer, shown: str) -> str:
     """What is said of whether a goal can be lost."""
-    if answer.kind is Kind.UNTOLD:
-        return untold(answer)
     if answer.kind is Kind.REACHED:
-        return (
-            f"Found: {shown} leads to a place from which no order, of whatever length, leads there."
-        )
+        whatever = "no order, of whatever length, leads there"
+        return f"Found: {shown} leads to a place from which {whatever}."
     more = f" ({answer.why})" if answer.why else ""
     return f"Never: from every place that an order leads to, one leads there{more}."
 
@@ -61,8 +46,6 @@ def of_doom(answer: Answer, shown: str) -> str:
 def of_reach(answer: Answer, place: int, shown: str) -> str:
     """What is said of whether an order leads to a goal from a place."""
     where = f"from place {place}" if place else "from boot"
-    if answer.kind is Kind.UNTOLD:
-        return untold(answer)
     if answer.kind is Kind.REACHED:
         return f"Found: {shown} leads there."
     if answer.head() == "never":
@@ -83,10 +66,12 @@ def asked(
     which leads to the place."""
     loss = loss_of(answer) if question is LOST else None
     lost = loss.place if loss else None
-    shown = (
-        f"an order from place {place}" if order else f"the order of this page, to place {place},"
-    )
-    if question is LOST:
+    own = f"the order of this page, to place {place},"
+    shown = f"an order from place {place}" if order else own
+    if answer.kind is Kind.UNTOLD:
+        why = f": {answer.why}" if answer.why else ""
+        said = f"That can't be told: {answer.head()}{why}."
+    elif question is LOST:
         said = of_loss(answer)
     elif question is DOOMED:
         said = of_doom(answer, shown)

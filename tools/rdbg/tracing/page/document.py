@@ -9,26 +9,10 @@ from rdbg.tracing.page.report import Report
 HERE = pathlib.Path(__file__).resolve().parent
 SCRIPTS = tuple(
     HERE / f"{name}.js"
-    for name in (
-        "ways",
-        "counts",
-        "summary",
-        "report",
-        "links",
-        "marks",
-        "led",
-        "beside",
-        "printed",
-        "run_page",
-    )
+    for name in "ways counts summary report links marks led beside printed run_page".split()
 )
 STYLES = (HERE / "report.css",)
 LINK = '<a id="link" href="#">link to this place</a>'
-
-
-def title_of(run: Mapping[str, object], way: Mapping[str, object]) -> str:
-    """What the page is called where nobody says it."""
-    return f"{way['file'] or 'rdbg'}: places {run['first']} to {run['last']}"
 
 
 def page(
@@ -40,7 +24,7 @@ def page(
 ) -> str:
     """The whole page of a run's values, of what leads to its places, and of what is said beside it;
     it opens at a place, or at the first. Another run stands below it where one is given."""
-    title = title_of(run, way)
+    title = f"{way['file'] or 'rdbg'}: places {run['first']} to {run['last']}"
     values = {"title": title, "way": way, "run": run, "report": report.values(at), "other": other}
     parts = {"run": json_of(values), "note": report.note_as_html()}
     body = body_of(HERE / "run.html", parts, LINK)

@@ -1,18 +1,20 @@
 // What led to a wait: the last moves that touched its object, and who could still end it, as far as
 // the page knows.
 
-// What ends a wait, by the word of its phase: words of instructions, and whether they put something in.
+// What ends a wait, by the word of its phase: the track of its object on which those stand who wait
+// so, and words of instructions. (Who waits for a mutex waits to send: `give` ends that, too.)
 const PUTS = ["send", "front", "over", "give"];
+const NOTIFIES = ["notify", "query"];
 const ENDINGS = {
-  recv: { words: PUTS, puts: true },
-  set: { words: PUTS, puts: true },
-  send: { words: ["recv", "take", "qreset"], puts: false },
-  sread: { words: ["swrite"], puts: true },
-  swrite: { words: ["sread", "sreset"], puts: false },
-  mread: { words: ["mwrite"], puts: true },
-  mwrite: { words: ["mread", "mreset"], puts: false },
-  group: { words: ["gset", "gsync"], puts: true },
-  note: { words: ["notify"], puts: true },
+  recv: { list: "recv", words: [...PUTS, "peek"] },
+  set: { list: "wait", words: PUTS },
+  send: { list: "send", words: ["recv", "qreset", "give"] },
+  sread: { list: "reader", words: ["swrite", ...NOTIFIES] },
+  swrite: { list: "writer", words: ["sread", ...NOTIFIES] },
+  mread: { list: "reader", words: ["mwrite", ...NOTIFIES] },
+  mwrite: { list: "writer", words: ["mread", ...NOTIFIES] },
+  group: { list: "wishes", words: ["gset", "gsync"] },
+  note: { list: null, words: NOTIFIES },
 };
 // How what touches an object is said: of one that puts something in, and of one that takes it.
 const TOUCHES = {
@@ -20,8 +22,10 @@ const TOUCHES = {
   note: ["notified", "took the notification of"],
 };
 const TOUCH = ["put something into", "took something from"];
+// The same of a semaphore or a mutex, whose queue may have an item while it is taken.
+const SEMAPHORE = { take: "took", give: "gave" };
 // What a task got before it waited.
-const GOT = /^(select|take|nwait|gwait|gsync) .*-> [1-9]/;
+const GOT = /^(select|take|nwait|gwait|gsync)\b.*-> [1-9]/;
 const MOST_TASKS = 6;
 
 // What a task waits for with no limit of time at a place; none where it doesn't.
@@ -30,15 +34,19 @@ function waitOf(run, at, place) {
   const [phase, word, name, until] = (run.value(tracks.phase, place) || "").split(":");
   if (phase !== "wait" || until !== "max" || !ENDINGS[word]) return null;
   const since = tracks.phase.places[lastUpTo(tracks.phase.places, place)];
-  const object = run.objects.find((it) => it.name === name && it.tracks[listOf(word)]);
+  const object = run.objects.find((it) => it.name === name && it.tracks[ENDINGS[word].list]);
   if (!object && word !== "note") return null;
   return { at, task, word, name, since, object };
 }
 
-// The track of an object on which those stand who wait in this phase.
-function listOf(word) {
-  const lists = { set: "wait", group: "wishes" };
-  return lists[word] ?? { r: "reader", w: "writer" }[word[1]] ?? word;
+// The words of an instruction, which may be written as in C.
+function wordsOf(text) {
+  return text.split(/[\s(),;]+/).filter(Boolean);
+}
+
+// The set that a queue is a member of at a place; none of what is in none.
+function setOf(run, { tracks }, place) {
+  return tracks.set ? run.value(tracks.set, place) : null;
 }
 
 // The wait that there is at a place: of the task that moved there, or the one that began last.
@@ -72,8 +80,8 @@ function lastTouch(run, wait, place, sign) {
   const { notes } = run.tasks[wait.at].tracks;
   const tracks = wait.object ? Object.values(contentTracks(wait.object)) : [notes];
   const places = tracks.flatMap((it) => it.places).filter((it) => it > run.first && it <= place);
-  const found = places.filter((it) => touchAt(run, wait, it) === sign);
-  return found.length ? Math.max(...found) : null;
+  places.sort((one, other) => other - one);
+  return places.find((it) => touchAt(run, wait, it) === sign) ?? null;
 }
 
 // Who made a move, in words.
@@ -93,7 +101,7 @@ function lastGot(run, { at, since }) {
 // What a task got: of a set the one that is in it first.
 function gotWords(run, place) {
   const { task, does } = run.move(place);
-  const [word, name] = does.split(" ");
+  const [word, name] = wordsOf(does);
   const set = run.objects.find((it) => word === "select" && it.kind === "set" && it.name === name);
   const [first] = (set && run.value(set.tracks.handles, place - 1)) || [];
   const what = first ? `selected ${first} from ${name}` : "got what it waited for";
@@ -108,9 +116,10 @@ function ledMoves(run, wait, place) {
     const at = lastTouch(run, wait, place, sign);
     if (at === null) return null;
     const move = run.move(at);
-    const does = (TOUCHES[word] ?? TOUCH)[Number(sign < 0)];
+    const own = wait.object?.kind === "queue" && SEMAPHORE[wordsOf(move.does || "")[0]];
+    const does = own || (TOUCHES[word] ?? TOUCH)[Number(sign < 0)];
     const text = `${moverWords(run, move)} ${does} ${whose} (${move.does || move.name})`;
-    return { place: at, text, flag: sign > 0 ? "put" : "took", task: move.task };
+    return { place: at, text, flag: own || (sign > 0 ? "put" : "took"), task: move.task };
   });
   const text = `${task} ${phaseWords(run.value(run.tasks[wait.at].tracks.phase, place))}`;
   const all = [...touches, lastGot(run, wait), { place: since, text, flag: "waits", task: wait.at }];
@@ -120,13 +129,21 @@ function ledMoves(run, wait, place) {
 
 // Whether an instruction ends a wait, by its text.
 function isEnding(run, { word, name, task, object }, place, text) {
-  const [first, of, entry] = text.split(" ");
+  const [first, of, entry] = wordsOf(text);
   if (!ENDINGS[word].words.includes(first)) return false;
-  if (word === "note") return of === task && (entry === name || !/^\d+$/.test(entry));
-  if (word !== "set") return of === object.name;
-  return run.objects.some((it) => {
-    return it.name === of && it.tracks.set && run.value(it.tracks.set, place) === name;
-  });
+  if (NOTIFIES.includes(first)) {
+    // (who waits at a buffer is told by entry 0; an entry may be a const's name)
+    const own = word === "note" ? name : "0";
+    return of === task && (entry === own || !/^\d+$/.test(entry));
+  }
+  const isIn = (it) => it.name === of && setOf(run, it, place) === name;
+  if (word === "set") return run.objects.some(isIn);
+  return of === name && !(PUTS.includes(first) && isMember(run, { word, object }, place));
+}
+
+// Whether a task waits to receive from a member of a set: what is put into it wakes who selects.
+function isMember(run, { word, object }, place) {
+  return word === "recv" && setOf(run, object, place) !== null;
 }
 
 // The tasks that could end a wait: with the instruction that does it, and whether it is their next.
@@ -142,16 +159,23 @@ function enders(run, wait, place) {
   });
 }
 
-function enderWords(found, hasCode) {
-  if (!hasCode) return "";
+// Who could end a wait, in words; none where no script is known.
+function enderWords(run, wait, place, found) {
+  if (!run.tasks.some(({ code }) => code.length)) return "";
+  const { name, object } = wait;
+  const set = isMember(run, wait, place) ? setOf(run, object, place) : null;
+  const nobody = `what is put into it wakes nobody who waits at ${name}. `;
+  const before = set === null ? "" : `As long as ${name} is in set ${set}, ${nobody}`;
   const next = found.filter(({ isNext }) => isNext);
   const later = found.filter(({ isNext }) => !isNext);
   const said = [
     next.map(({ name, seat, text }) => `${name} (${seat}), whose next instruction is ${text}`),
     later.map(({ name, seat, text }) => `${name} (${seat}), which has ${text} in its script`),
   ].flat();
-  if (!said.length) return "No other task that hasn't ended has an instruction that ends this wait.";
-  return `Who could end the wait, as far as this page knows: ${said.join("; ")}.`;
+  const who = said.length
+    ? `Who could end the wait, as far as this page knows: ${said.join("; ")}.`
+    : "No other task that hasn't ended has an instruction that ends this wait.";
+  return before + who;
 }
 
 // What led to the wait at a place; none where nobody waits there with no limit of time.
@@ -165,8 +189,7 @@ function ledTo(run, place) {
   const object = wait.object ? [`${wait.object.kind} ${wait.object.name}`] : [];
   const lanes = others.slice(0, MOST_TASKS).map((it) => `task ${run.tasks[it].name}`);
   const keys = ["marks", `task ${wait.task}`, ...object, ...lanes];
-  const hasCode = run.tasks.some(({ code }) => code.length);
-  return { moves, keys, ends: enderWords(found, hasCode) };
+  return { moves, keys, ends: enderWords(run, wait, place, found) };
 }
 
 // Says what led to the place at which the page opens, and marks its moves in the lanes.

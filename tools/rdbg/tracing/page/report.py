@@ -4,6 +4,7 @@ import pathlib
 import time
 from typing import Dict, Optional, Union
 
+from rdbg.client import version
 from rdbg.driving.parts import Part
 from rdbg.failure import Failure
 from rdbg.files.source import Source
@@ -12,7 +13,6 @@ from rdbg.looks import Look
 from rdbg.tracing.page.asked import Asked
 from rdbg.tracing.page.note import as_html
 from rdbg.tracing.page.ways import file_of
-from rdbg.version import version
 
 DAY = "%Y-%m-%d"
 
@@ -27,10 +27,10 @@ class Text:
 
 @dataclasses.dataclass(frozen=True)
 class Report:
-    """What is said beside a run: a title and a note in Markdown by whoever makes the page, the place
-    at which it opens, by number or as the first where a goal holds, the question that it answers,
-    the application, the lines, those of another run beside it, and the port at which it was done.
-    """
+    """What is said beside a run: a title and a note in Markdown by whoever makes the page, the
+    place at which it opens, by number or as the first where a goal holds, the question that it
+    answers, the application, the lines, those of another run beside it, and the port at which it
+    was done."""
 
     title: str = ""
     note: str = ""
@@ -55,7 +55,7 @@ class Report:
             "day": time.strftime(DAY),
             "made": version(self.port is not None),
             "at": at,
-            "asked": self.asked.values() if self.asked else None,
+            "asked": dataclasses.asdict(self.asked) if self.asked else None,
             "application": application,
             "consts": consts,
             "lines": named(self.lines, "run.commands") if self.lines else None,
@@ -90,8 +90,7 @@ class Opening:
             self._found = look.place
 
     def place(self, first: int, last: int) -> Optional[int]:
-        """The place, of a page of these places; none where nothing says one. Raises `Failure` where
-        the page hasn't it."""
+        """The place, among these, or none where none is said. Raises `Failure` for another one."""
         if isinstance(self._at, Goal):
             if self._found is None:
                 raise Failure(

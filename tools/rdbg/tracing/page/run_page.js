@@ -105,7 +105,7 @@ class RunPage extends Viewer {
     const { place, bookmarks, range, pinned } = readLink(location.hash);
     const isThere = (it) => it.place >= this.run.first && it.place <= this.run.last;
     this.bookmarks.place = this.range.place = place ?? otherwise;
-    if (pinned.length) this.timeline.arrangement.pinned = pinned;
+    if (pinned.length) this.timeline.arrangement.pinned = pinned.filter(Boolean);
     this.bookmarks.set(bookmarks.length ? bookmarks.filter(isThere) : this.bookmarks.list);
     if (range) this.range.set(...range);
     this.go(place ?? otherwise);
@@ -114,9 +114,10 @@ class RunPage extends Viewer {
   get link() {
     const { pinned } = this.timeline.arrangement;
     const { range } = this.range;
-    // (those that are pinned at first aren't named)
+    // (those that are pinned at first aren't named; where they were let go, and no other is pinned,
+    // an empty name says so)
     const isFirst = pinned.join() === this.led.keys.join();
-    const named = isFirst ? [] : pinned;
+    const named = isFirst ? [] : pinned.length ? pinned : [""];
     return linkOf({ place: this.place, bookmarks: this.bookmarks.list, range, pinned: named });
   }
 

@@ -1,8 +1,7 @@
 -- The goals of `last_object_change` that the check left open: the row of event groups.
 use Rattle.std.proofs.Common.{◌∙◌, ap, arith, rules, sym}
 use Rattle.rd_bytes.specs.Ends.{all_but}
-use Rattle.rd_group.specs.PackedGroupChanges.{last_group}
-use Rattle.rd_state.specs.Objects.{Group}
+use Rattle.rd_state.specs.PackedChanges.{group_change_of}
 use Rattle.rd_state.proofs.PackingLaws.{IsGroupKind-other}
 use Rattle.rd_state.proofs.packing.last_object_change.Goals as goal
 
@@ -14,9 +13,7 @@ last_group_change-group-requires c =
 pub returns-in_default-clause-change : goal.returns-in_default-clause-change
 returns-in_default-clause-change c =
     let is = IsGroupKind-other c.args.bytes.now (search rules) (search rules) (search rules) (search rules) in
-    let last = c.last_group_change-group in
-    ap (λ n. Group n last.result.change) last.ensures.group
-    ∙ ap (Group (last_group c.args.bytes.now)) last.ensures.change ∙ sym is.change
+    ap group_change_of (sym c.last_group_change-group.ensures.row) ∙ sym is.change
 
 pub returns-in_default-clause-rest : goal.returns-in_default-clause-rest
 returns-in_default-clause-rest c =

@@ -18,7 +18,7 @@ returns c =
     let leads = c.keeps.ensures.leads in
     let its : c.move_answer-answer.result ≡ move_answer old.target move = search rules in
     obeyed_if old new (Go move) c.go.result c.told_of_move.result (λ at. at) (λ at. ending_of c.move_answer-answer.result) (λ at. IsMade old move new) (IsWhyNot old move)
-    told.no_memory told.ok told.err made.at (is_made old move new c.go.result made.moves_full made.goes made.leads) made.refusals made.err leads
-    (λ at is. subst (λ answer. IsAnswered old (Go move) new (ending_of answer)) (sym its) (go_done old new move leads is))
+    told.no_memory told.ok told.err made.at (is_made old move new c.go.result made.moves_full made.moves made.step made.app made.limit made.leads) made.refusals made.err made.grows leads
+    (λ at is. subst (λ answer. IsAnswered old (Go move) new (ending_of answer)) (sym its) (go_done old new move leads made.grows is))
     (λ refusal other why. go_not_done old move refusal leads other why)
     (go_needs_memory old move leads)

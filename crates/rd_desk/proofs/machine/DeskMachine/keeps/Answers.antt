@@ -2,7 +2,7 @@
 use Rattle.std.proofs.Common.{◌≡◌, ap, arith, subst, sym}
 use Rattle.rd_state.specs.Boot.{boot_of}
 use Rattle.rd_state.specs.Snapshot.{Snapshot}
-use Rattle.rd_timeline.specs.Policy.{state_or}
+use Rattle.rd_timeline.specs.History.{state_or}
 use Rattle.rd_timeline.specs.Runs.{moves_of}
 use Rattle.rd_desk.specs.Debugger.{MachineView, target_of}
 use Rattle.rd_desk.specs.DeskView.{LeadsBack}

@@ -3,7 +3,7 @@ use Rattle.std.proofs.Common.{◌≡◌, ◌∙◌, ap, subst, sym}
 use Rattle.rd_reply.specs.Replies.{line_of, watches_text}
 use Rattle.rd_state.specs.Boot.{boot_of}
 use Rattle.rd_state.specs.Snapshot.{Snapshot}
-use Rattle.rd_timeline.specs.Policy.{state_or}
+use Rattle.rd_timeline.specs.History.{state_or}
 use Rattle.rd_desk.specs.declared.reply.DeskReply.TheVariants.{Shown}
 use Rattle.rd_desk.specs.Debugger.{MachineView, own_watches, target_of}
 use Rattle.rd_desk.specs.MachineInside.{debugger_of}

@@ -16,6 +16,7 @@ returns c =
     let records = c.keeps.ensures.kept.records in
     let kept : n ≤ length t.log = omega (arith, first, records, c.requires.first, c.at-at.ensures) in
     let there : length t.done - n ≡ c.args.place = omega (arith, c.requires.back, c.at-at.ensures, at) in
-    went_back t c.back.new.self places n records (from_ok c.back.result (c.back.ensures.ok.1 kept) c.back.ensures.goes)
+    let ok = c.back.ensures.ok.1 kept in
+    went_back t c.back.new.self places n (from_ok c.back.result ok c.back.ensures.app) (from_ok c.back.result ok c.back.ensures.moves)
     ∙ ap (λ k. record (seen t places) { at = k }) there
     ∙ ap (λ (run : RunView). record run { at = c.args.place }) c.self.view_is

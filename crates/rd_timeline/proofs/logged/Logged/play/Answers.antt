@@ -9,7 +9,7 @@ use Rattle.rd_state.specs.Edit.{added}
 use Rattle.rd_state.specs.Valid.{IsValid}
 use Rattle.rd_timeline.specs.LogView.{bytes_of}
 use Rattle.rd_timeline.specs.LoggedView.{LoggedView}
-use Rattle.rd_timeline.specs.declared.log.TheConstants.{MAX_KEPT_BYTES}
+use Rattle.rd_timeline.specs.declared.logged.TheConstants.{MAX_KEPT_BYTES}
 use Rattle.rd_timeline.proofs.LogLaws.{played_short}
 use Rattle.rd_timeline.proofs.logged.Logged.play.Goals as goal
 

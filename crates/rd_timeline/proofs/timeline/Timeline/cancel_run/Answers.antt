@@ -21,5 +21,9 @@ invariant_of-self c =
     let made : c.at.result - start.done ≡ length t.journal.done - start.done =
     omega (arith, c.at.ensures, ap (λ (course : Course). length course.done) c.self.view_is) in
     IsWhole-cancel t c.put_back.new.self c.more-self-inside.result start (c.at.result - start.done) made c.self.invariant can (put.target ∙ taken.target) (put.done ∙ taken.done)
-    (put.records ∙ taken.records) put.undone (omega (arith, put.grows, taken.kept_capacity)) (omega (arith, put.more_carried, taken.kept_carried_capacity)) (omega (arith, taken.same_memory, put.same_memory))
+    (put.records ∙ taken.records) put.undone (record {
+      moves = omega (arith, put.grows, taken.kept_capacity);
+      carried = omega (arith, put.more_carried, taken.kept_carried_capacity);
+      bytes = omega (arith, taken.same_memory, put.same_memory);
+    })
     (omega (arith, put.read, taken.read, c.self.invariant.others, c.more-self-inside.ensures, c.count-before.ensures, c.count.ensures))
