@@ -63,8 +63,8 @@ def version_of(top: pathlib.Path) -> str:
 
 
 def facts_of(top: pathlib.Path, commit: str) -> Facts:
-    """What is said of a commit, by the kit that there is. One that is there and doesn't say its name
-    ends the program: what is packed then would say that there was none."""
+    """What is said of a commit, by the kit that there is. One that is there and doesn't say its
+    name ends the program: what is packed then would say that there was none."""
     try:
         asked = subprocess.run(["rt", "version"], stdout=subprocess.PIPE, stderr=subprocess.DEVNULL)
         words = asked.stdout.decode().split()

@@ -18,8 +18,8 @@ NEW_NETWORK, GET_FLAGS, SET_FLAGS, UP = 0x40000000, 0x8913, 0x8914, 1
 NOBODY = 65534
 # (as long as a room may take on a machine that has much to do)
 PATIENCE = 600.0
-# Prints an empty line where it begins to look. Then it connects to each port of root's that it finds,
-# says two lines there, and prints its number.
+# Prints an empty line where it begins to look. Then it connects to each port of root's that it
+# finds, says two lines there, and prints its number.
 ATTACKER = """
 import contextlib, socket, threading
 def come(port):

@@ -13,8 +13,8 @@ from tests.strangers import IS_ROOT, before
 PORT, LINES = "7000", 120
 # The room tries no way to tell whose a connection is: that takes a port for a moment.
 KNOWN = "import rdbg.owners; rdbg.owners.way_to_tell = lambda: rdbg.owners.listed"
-# The system has no networks for programs, and of the first program sessions are taken once the other
-# user has come to it.
+# The system has no networks for programs, and of the first program sessions are taken once the
+# other user has come to it.
 TOGETHER = """
 import time
 from rdbg import owners

@@ -72,8 +72,16 @@ queue_read tag fields carried =
 
 -- the number of a change that may be none
 abbrev pub queue_optional : QueueChange → Option ℕ
+queue_optional (InsWait list index task) = None
+queue_optional (DelWait list index) = None
+queue_optional (PutBack item) = None
+queue_optional TakeBack = None
+queue_optional (PutFront item) = None
+queue_optional TakeFront = None
+queue_optional (SetItem index item) = None
+queue_optional Clear = None
+queue_optional (Fill bytes) = None
 queue_optional (SetMember queue_set) = queue_set
-queue_optional change = None
 
 abbrev pub queue_layout : Layout QueueChange
 queue_layout = record {
