@@ -162,10 +162,9 @@ function enders(run, wait, place) {
 // Who could end a wait, in words; none where no script is known.
 function enderWords(run, wait, place, found) {
   if (!run.tasks.some(({ code }) => code.length)) return "";
-  const { name, object } = wait;
-  const set = isMember(run, wait, place) ? setOf(run, object, place) : null;
-  const nobody = `what is put into it wakes nobody who waits at ${name}. `;
-  const before = set === null ? "" : `As long as ${name} is in set ${set}, ${nobody}`;
+  const set = isMember(run, wait, place) ? setOf(run, wait.object, place) : null;
+  const nobody = `what is put into it wakes nobody who waits at ${wait.name}. `;
+  const before = set === null ? "" : `As long as ${wait.name} is in set ${set}, ${nobody}`;
   const next = found.filter(({ isNext }) => isNext);
   const later = found.filter(({ isNext }) => !isNext);
   const said = [
