@@ -85,6 +85,9 @@ class Reads(unittest.TestCase):
         " notify K 0 0 inc",
         "ping: xSemaphoreGiveFromISR(done)": "xSemaphoreGiveFromISR is written give NAME",
         "ping: give dome": "give NAME: dome is no semaphore",
+        "ping: send done 00": "done is a semaphore: give done",
+        "ping: send lock 00": "lock has an item while it is taken, and no interrupt takes one out:"
+        " let a task of the highest priority play it, with wait for its time (docs/FROM_C.md)",
         "ping: give lock": "lock has an item while it is taken, and no interrupt takes one out: let"
         " a task of the highest priority play it, with wait for its time (docs/FROM_C.md)",
     }

@@ -137,6 +137,10 @@ class InterruptLine:
                 raise Refusal(tokens[0].place, message)
             found.append(read(reader).text)
         reader.end(form_of(word))
+        if word == SEND and found[1] in self._semaphores:
+            self._give([tokens[0], tokens[1]])
+            named = self._semaphores[found[1]]
+            raise Refusal(tokens[1].place, f"{named.name} is a {named.word.text}: give {named.name}")
         return found
 
     def _give(self, tokens: Sequence[Token]) -> List[str]:

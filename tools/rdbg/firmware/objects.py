@@ -14,7 +14,7 @@ SETTINGS: Dict[str, Key] = {key.name: key for key in FILE.keys if key.of is None
 OBJECTS: Dict[str, Shape] = {key.name[:-1]: key.of for key in FILE.keys if key.of is not None}
 # Several tasks with one script, and how many there may be.
 SEVERAL = re.compile(r"([^\[\]]+)\[([^\[\]]+)\]")
-MOST_TASKS = 32
+MOST_TASKS = next(key.most for key in FILE.keys if key.name == "tasks")
 # How a line says what a key holds.
 WRITTEN = {"name": "NAME", "number": "{} N", "members": "{} Q .."}
 
