@@ -41,6 +41,15 @@ class Keys(OnPage):
                 "document.querySelector('#readout').textContent.startsWith('4: tick')"
             )
 
+    def test_two_steps_at_once_are_of_two_cores(self) -> None:
+        with web_room() as room, session(room, "left"):
+            self.visit(room)
+            self.at(0)
+            self.browser.key("s")
+            self.browser.key("s")
+            self.at(2)
+            self.assertIn("2: core 1", self.browser.text("#readout"))
+
     def test_keys_alone_reach_everything(self) -> None:
         with web_room(str(EXAMPLES / "interrupt.json")) as room:
             self.visit(room)

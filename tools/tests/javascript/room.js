@@ -5,10 +5,11 @@ const test = require("node:test");
 const { SENT, namesOf, valuesOf } = require("./page.js");
 
 const {
-  DONE, LiveRun, Watches, breakWords, choicesOf, coreInTurn, idleWords, kindOf, nextWords, wheelWords,
+  DONE, LiveRun, StepsInTurn, Watches, breakWords, choicesOf, coreInTurn, idleWords, kindOf,
+  nextWords, wheelWords,
 } = namesOf("room", [
-  "DONE", "LiveRun", "Watches", "breakWords", "choicesOf", "coreInTurn", "idleWords", "kindOf",
-  "nextWords", "wheelWords",
+  "DONE", "LiveRun", "StepsInTurn", "Watches", "breakWords", "choicesOf", "coreInTurn",
+  "idleWords", "kindOf", "nextWords", "wheelWords",
 ]);
 
 // A run that was followed from a place on, where the target is at `done`.
@@ -41,6 +42,24 @@ test("the core in turn is the next that is busy", () => {
   const known = { trims: [], undone: 0, known: [0, 2], toCome: 0 };
   const at = (done) => new LiveRun({ blocks: [valuesOf({ last: 2, cores })], done, ...known });
   assert.deepEqual([0, 1, 2].map((it) => coreInTurn(at(it))), [1, 2, 1]);
+});
+
+test("a step of the core in turn waits for the move before, where that one was made", async () => {
+  let done = 0;
+  const said = [];
+  const isDone = [true, false, true];
+  const steps = new StepsInTurn(async () => {
+    said.push(done);
+    return isDone[said.length - 1];
+  });
+  const rest = () => new Promise((resolve) => setTimeout(resolve));
+  isDone.forEach(() => steps.ask());
+  await rest();
+  assert.deepEqual(said, [0]);
+  done = 1;
+  steps.hear();
+  await rest();
+  assert.deepEqual(said, [0, 1, 1]);
 });
 
 test("earlier moves come before the first", () => {

@@ -115,6 +115,23 @@ class StepButtons {
   }
 }
 
+// Steps of the core in turn. Which core that is hangs on the moves before: one that is asked for
+// early waits until the move of the one before is here, where that one made a move.
+class StepsInTurn {
+  constructor(step) {
+    this.step = step;
+    this.last = Promise.resolve();
+    this.hear = () => {};
+  }
+
+  ask() {
+    this.last = this.last.then(async () => {
+      const isHeard = new Promise((resolve) => (this.hear = resolve));
+      if (await this.step()) await isHeard;
+    });
+  }
+}
+
 // The first busy core from the one whose turn it is.
 function coreInTurn(run) {
   const { running, turn } = run.values(run.cores, run.done);

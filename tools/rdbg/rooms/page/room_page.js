@@ -18,6 +18,7 @@ class RoomPage extends Viewer {
     this.line = line;
     this.follows = true;
     this.steps = new StepButtons(byId("steps"), room.cores, (text) => room.tell(text));
+    this.inTurn = new StepsInTurn(() => room.tell(`step ${coreInTurn(run)}`));
     this.shareHeight();
     addEventListener("resize", () => this.shareHeight());
     this.timeline.zoomTo(this.timeline.width < 600 ? NARROW_SCALE : SCALE);
@@ -61,7 +62,7 @@ class RoomPage extends Viewer {
       ...super.keys(),
       ...Object.fromEntries(steps),
       ".": () => this.goNow(),
-      s: () => this.room.tell(`step ${coreInTurn(this.run)}`),
+      s: () => this.inTurn.ask(),
       k: press("tick"),
       b: press("do-back"),
       r: press("do-redo"),
@@ -137,6 +138,7 @@ class RoomPage extends Viewer {
     if (kind === "trims") timeline.renew(run.first - 1);
     if (run.hasDone) this.showAll(kind !== "now");
     else this.line.say("run", "");
+    this.inTurn.hear();
     this.fill();
   }
 
@@ -287,14 +289,21 @@ class RoomOnPage {
     this.talk.say(kindOf(text, this.name), text, when);
   }
 
-  // Says a line, and what is answered; of one that all are told, the notice tells it.
+  // Says a line, and what is answered; of one that all are told, the notice tells it. Answers
+  // whether rdbg did it.
   async tell(line) {
-    if (!this.isHere) return;
-    if (/^\s*save!?(\s|$)/.test(line)) return this.save();
+    if (!this.isHere) return false;
+    if (/^\s*save!?(\s|$)/.test(line)) {
+      await this.save();
+      return false;
+    }
     const changes = this.page?.run.changes;
     const { reply, refused, ended } = await this.line.say("line", line);
     const no = refused ?? ended ?? (/^no:? /.test(reply) ? reply : null);
-    if (no !== null) return this.talk.say("refused", `${line} -> ${no}`);
+    if (no !== null) {
+      this.talk.say("refused", `${line} -> ${no}`);
+      return false;
+    }
     if (reply && !DONE.test(reply)) this.talk.say("reply", `${line} -> ${reply}`);
     const [goal] = [MET.exec(reply), ...GOALS.map((it) => it.exec(line))]
       .filter(Boolean)
@@ -302,6 +311,7 @@ class RoomOnPage {
     if (goal) byId("goal").value = goal.trim();
     // (where moves have become others meanwhile, it was said of those before)
     if (/^\s*lost\b/.test(line) && changes === this.page?.run.changes) this.mark(reply);
+    return true;
   }
 
   // Offers the moves so far as a file of commands.
