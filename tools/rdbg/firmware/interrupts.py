@@ -140,7 +140,9 @@ class InterruptLine:
         if word == SEND and found[1] in self._semaphores:
             self._give([tokens[0], tokens[1]])
             named = self._semaphores[found[1]]
-            raise Refusal(tokens[1].place, f"{named.name} is a {named.word.text}: give {named.name}")
+            raise Refusal(
+                tokens[1].place, f"{named.name} is a {named.word.text}: give {named.name}"
+            )
         return found
 
     def _give(self, tokens: Sequence[Token]) -> List[str]:
