@@ -74,7 +74,7 @@ ENVIRONMENT = entries(
 RDBG_PROGRAM | the program that is started, in place of the one that was built
 RDBG_REACH | the same of the program that searches: reach, hunt and sh ask it
 RDBG_HISTORY | the file in which rdbg sh keeps the lines that were typed
-RDBG_TOKEN | the token of a room that asks for one; sh and dap say it there
+RDBG_TOKEN | the token of a room that asks for one; sh and dap with a name say it there
 """
 )
 PAGES = entries(

@@ -108,6 +108,15 @@ class Reload(Folder):
         self.assertIn("phase wait:recv:jobs:10", answers[1])
         self.assertEqual(answers[2], "watches 1:fails")
 
+    def test_bytes_change_nothing_of_it(self) -> None:
+        for found in ("42", "4b", "-"):
+            self.changes = ("data 41", f"data {found}")
+            with self.subTest(found):
+                answers = self.reload()
+                same = f"# all 9 moves are the same on {self.app}, at 9"
+                self.assertEqual(same, answers[0])
+            self.edit("data 41", "data 41")
+
     def test_the_first_difference(self) -> None:
         self.changes = ('"recv jobs 0", "jump 0"', '"recv jobs 0", "end"')
         answers = self.reload("show moves", "redo 1")

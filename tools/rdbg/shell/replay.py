@@ -81,6 +81,8 @@ DEFAULT_MOVES = 20
 CHUNK = 512
 # The words of an instruction that are values, and not names.
 VALUE = re.compile("[0-9]+|r[0-7]|max")
+# The instruction whose word is bytes.
+BYTES = "data"
 
 
 def moves(shell: "Shell", words: Sequence[str]) -> None:
@@ -270,9 +272,11 @@ def first_difference(
 
 def outcome(move: Move) -> Tuple[object, ...]:
     """What makes two moves the same: who did which instruction with which objects, what it was
-    answered, who was woken, and who left or took which core. Its numbers and registers may differ.
+    answered, who was woken, and who left or took which core. Its numbers, registers and bytes may
+    differ.
     """
-    words = [word for word in (move.instruction or "").split() if not VALUE.fullmatch(word)]
+    words = (move.instruction or "").split()
+    names = words[:1] + [it for it in words[1:] if words[0] != BYTES and not VALUE.fullmatch(it)]
     kinds = ("woke", "given", "time up", "left", "took", "turns")
     # (why a task left, but not until when it waits)
     effects = [
@@ -280,7 +284,7 @@ def outcome(move: Move) -> Tuple[object, ...]:
         for it in move.effects
         if it.kind in kinds
     ]
-    return (move.kind, move.core, move.task, tuple(words), move.answer, tuple(effects))
+    return (move.kind, move.core, move.task, tuple(names), move.answer, tuple(effects))
 
 
 def watches(shell: "Shell", target: Target) -> None:
