@@ -1,7 +1,7 @@
 //! What is asked of a goal.
 
 /// What is asked of a goal.
-#[derive(Clone, Copy, Debug, PartialEq, Eq)]
+#[derive(Clone, Copy)]
 pub enum Query {
     /// Whether some order leads to it.
     Reach,

@@ -1,11 +1,16 @@
 //! Interrupts that are made by themselves.
 
-ghost use Rattle.std.specs.Prelude.{◌≡◌, ◌≢◌, ◌↔◌, ◌⊎◌, IfErr, IfOk, IsErrOf, Ok, OnErr, OnOk};
-ghost use Rattle.std.specs.Prelude.{false, length};
+ghost use Rattle.std.specs.Prelude.{◌≡◌, ◌≢◌, ◌≤◌, ◌+◌, ◌↔◌, ◌⊎◌, IfErr, IfOk, IsErrOf, Ok};
+ghost use Rattle.std.specs.Prelude.{OnErr, OnOk, false, length};
 ghost use Rattle.rd_app.specs.Profiles.{has_interrupts};
 ghost use Rattle.rd_interrupts.specs.Interrupts.{isr_answer};
 ghost use Rattle.rd_moves.specs.Interrupts.{IsInterruptOf};
-ghost use Rattle.rd_timeline.specs.Course.{by_interrupt, HasGrown, IsAsItWas, IsFull, LacksRoom};
+ghost use Rattle.rd_timeline.specs.Course.{by_interrupt, CanGo, HasGrown, IsAsItWas, IsFull};
+ghost use Rattle.rd_timeline.specs.Course.{LacksRoom};
+ghost use Rattle.rd_timeline.specs.History.{state_after};
+ghost use Rattle.rd_timeline.specs.LogView.{bytes_of};
+ghost use Rattle.rd_timeline.specs.Recorded.{RecordsMoves};
+ghost use Rattle.rd_timeline.specs.declared.logged.TheConstants.{MAX_KEPT_BYTES};
 ghost use Rattle.rd_calls.specs.Step.{step};
 ghost use Rattle.rd_timeline.specs.Runs.{moved_on, moves_of};
 
@@ -32,10 +37,17 @@ impl Timeline {
             (step self.old.app self.old.target (by_interrupt interrupt) ≡ Ok self.new.target) }
         ensures app { OnOk result (self.new.app ≡ self.old.app) }
         ensures limit { OnOk result (self.new.limit ≡ self.old.limit) }
+        ensures recorded { OnOk result (RecordsMoves self.old self.new) }
+        ensures leads { OnOk result (state_after self.new.app self.new.done ≡ Ok self.new.target) }
+        ensures ahead { OnOk result
+            (bytes_of self.old.log + MAX_KEPT_BYTES ≤ self.new.room.bytes) }
+        ensures read { OnOk result (self.new.read ≡ self.old.read) }
         ensures moves_full { IsErrOf result Refusal.MovesFull ↔ IsFull self.old }
         ensures no_isr { IsErrOf result Refusal.NoIsr
             ↔ ((length self.old.done ≢ self.old.limit)
             × (has_interrupts self.old.app.profile ≡ false)) }
+        ensures no_memory { IsErrOf result Refusal.NoMemory
+            → CanGo self.old (by_interrupt interrupt) }
         ensures short { IsErrOf result Refusal.NoMemory
             → LacksRoom self.old (by_interrupt interrupt) }
         ensures refusals { IfErr result (λ refusal. (refusal ≡ Refusal.MovesFull)
