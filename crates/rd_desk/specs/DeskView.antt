@@ -29,7 +29,7 @@ pub record RoomedDesk : Type 0 where
   pub row_room : ℕ
   pub byte_room : ℕ
 
--- the places of the history that are taken, or kept for departures
+-- the places of the history that are taken, or reserved for departures
 abbrev pub used : DeskView → ℕ
 used d = length d.history + present_count d.debugger.sessions
 

@@ -43,8 +43,8 @@ pub record NeedsMemory (d : Debugger) (who : ℕ) (command : CommandView) : Type
   pub free : held_by d who command ≡ None
   pub needs : IsSomeAnd (bound_of d.app command) (λ bound. needs_memory d who bound ≡ true)
 
--- There is no room for the entry of a command with this line, beside those that are kept for
--- departures, or the line is longer than one that a receipt has in place.
+-- There is no room for the entry of a command with this line, beside those that are reserved
+-- for departures, or the line is longer than one that a receipt has in place.
 abbrev pub LacksRoom : RoomedDesk → List ℕ → Type 0
 LacksRoom d line =
     (d.row_room < present_count d.desk.debugger.sessions + 1)

@@ -1,4 +1,4 @@
--- Refusals for want of room in the history.
+-- Refusals for want of a place in the history.
 use Rattle.std.specs.Prelude.{◌≡◌, ◌+◌, ◌<◌, ◌≤◌, Bool, true, false, length, ⊤, Result, Ok, Err}
 use Rattle.rd_desk.specs.declared.desk.EnterError.{EnterError}
 use Rattle.rd_desk.specs.declared.desk.EnterError.TheVariants as enter
@@ -44,7 +44,7 @@ IfServeFull (serve.HistoryFull tally) P = P tally
 IfServeFull serve.NoMemory P = ⊤
 IfServeFull serve.Broken P = ⊤
 
--- Was there no room to enter, or for a command?
+-- Was there no free place to enter, or for a command?
 abbrev pub is_enter_full : {T : Type 0} → Result T EnterError → Bool
 is_enter_full (Ok done) = false
 is_enter_full (Err enter.Full) = false

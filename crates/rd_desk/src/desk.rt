@@ -254,7 +254,7 @@ impl Desk {
         self.machine.is_present(who)
     }
 
-    // How many places are free beyond those that are kept for departures.
+    // How many places are free beyond those that are reserved for departures.
     fn free(&self) -> usize
         ensures { result + used self.now.desk ≡ self.now.desk.most_entries }
     {
@@ -289,7 +289,7 @@ impl Desk {
     /// A session enters, and gets the next number, from 1 on. `Full` where 64 have entered, else
     /// `HistoryFull` where fewer than two places are free, else `NoMemory` where a growth was
     /// refused, which is only where the history had no room for its entry and its departure, beside
-    /// the departures of the others. The place for its departure is kept from now on. A refusal
+    /// the departures of the others. The place for its departure is reserved from now on. A refusal
     /// changes nothing.
     pub fn enter(&mut self) -> Result<Receipt, EnterError>
         ensures ok { IfOk result (λ receipt. Does self.old.desk

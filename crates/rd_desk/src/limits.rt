@@ -1,6 +1,6 @@
-//! What a desk has room for.
+//! How many moves and entries a desk may have.
 
-/// What a desk has room for.
+/// How many moves and entries a desk may have.
 #[derive(Clone, Copy)]
 pub struct Limits {
     /// How many moves may be done at a time.

@@ -460,7 +460,7 @@ impl DeskMachine {
 
     /// Does what a session asks for, and answers what is replied. Refusals come in this order: that
     /// another session has the wheel, that what is named isn't there, that there is no such watch,
-    /// that there is no room for a watch, that the session doesn't have the wheel that it would
+    /// that all watches are taken, that the session doesn't have the wheel that it would
     /// give, and then those of the timeline. They are replies, and change nothing. An `Err` says
     /// that there is no memory for the moves or the text that the command makes, and comes only
     /// where it makes some; then nothing has changed either. What is shown leaves the records of

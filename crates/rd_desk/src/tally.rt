@@ -1,4 +1,4 @@
-//! How full a history is that has no room.
+//! How full a history is that has no free place.
 
 ghost use Rattle.std.specs.Prelude.{◌≡◌, ◌+◌, ◌<◌};
 

@@ -131,7 +131,7 @@ where
     }
 }
 
-// What a hall with these settings has room for.
+// How many moves and entries a hall with these settings may have.
 fn limits_of(settings: Settings<'_>) -> Limits
     requires { IsWithinLimits settings }
     ensures { result ≡ record {

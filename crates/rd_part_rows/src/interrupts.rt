@@ -1,5 +1,5 @@
-//! Interrupts that are made by themselves: what they answer, why they are refused, whom they seat,
-//! and the way back over them.
+//! Interrupts that are made by themselves: what they answer, why they are refused, whom they put
+//! on a core, and the way back over them.
 
 use crate::asserts::assert_same;
 use crate::files::read;

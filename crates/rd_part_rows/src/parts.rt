@@ -26,7 +26,7 @@ fn step_core_0(rt: &impl Abort, timeline: &mut Timeline) -> Result<usize, Refusa
     timeline.go(&Move::Core { core: 0 })
 }
 
-// A timeline of the built-in application, with room for so many moves.
+// A timeline of the built-in application, with a limit of so many moves.
 fn timeline_with(alloc: Global, moves: usize) -> Result<Timeline, NoMemory> {
     Timeline::new(alloc, Program::builtin(alloc)?, moves)
 }

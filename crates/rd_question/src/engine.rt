@@ -98,7 +98,7 @@ impl<'a> Engine<'a> {
         path: &str,
     ) -> Result<(), ReachFault>
         ensures begins { OnOk result (BeginsElsewhere self.old self.new) }
-        ensures kept { OnErr result (self.new ≡ self.old) }
+        ensures err { OnErr result (self.new ≡ self.old) }
     {
         self.lines = lines_from(handle, &self.app, Some(path))?;
         Ok(())
@@ -110,7 +110,7 @@ impl<'a> Engine<'a> {
     pub(crate) fn add_command(&mut self, alloc: Global, command: &str) -> Result<(), ReachFault>
         ensures added { OnOk result (self.new
             ≡ record self.old { lines = self.old.lines ++ (command.now ++ 10 ∷ []) }) }
-        ensures kept { OnErr result (self.new ≡ self.old) }
+        ensures err { OnErr result (self.new ≡ self.old) }
     {
         let lines = format!(in alloc; "{}{command}\n", self.lines)?;
         let _start = origin(alloc, &self.app, lines.as_str())?;
@@ -121,7 +121,7 @@ impl<'a> Engine<'a> {
     // One interrupt more may come.
     fn add_isr(&mut self, alloc: Global, said: Said<'_>) -> Result<(), ReachFault>
         ensures added { OnOk result (HasOneMore self.old self.new) }
-        ensures kept { OnErr result (self.new ≡ self.old) }
+        ensures err { OnErr result (self.new ≡ self.old) }
     {
         let handler = handler_of(alloc, said, self.question.isrs.as_slice())?;
         self.question.isrs.push(handler)?;
@@ -143,7 +143,7 @@ impl<'a> Engine<'a> {
     ) -> Result<(), ReachFault>
         requires { IsWithinLimits setting }
         ensures made { OnOk result (IsSet setting.entry self.old self.new) }
-        ensures kept { OnErr result (self.new ≡ self.old) }
+        ensures err { OnErr result (self.new ≡ self.old) }
     {
         match setting {
             EngineSetting::Pace { pace } => {

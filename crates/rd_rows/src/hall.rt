@@ -22,7 +22,7 @@ use std::sync::Wait;
 use std::sync::ledger::Blank;
 use std::test::Fail;
 
-// What a hall of these tests has room for.
+// How many moves and entries a hall of these tests may have.
 fn limits() -> Limits
     ensures moves { result.moves ≡ 100 }
     ensures history { result.history ≡ 10000 }

@@ -41,7 +41,7 @@ impl Sitting {
     }
 }
 
-// What a hall of these runs has room for.
+// How many moves and entries a hall of these runs may have.
 fn limits() -> Limits
     ensures moves { result.moves ≡ 100 }
     ensures history { result.history ≡ 100 }

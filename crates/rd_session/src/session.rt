@@ -180,7 +180,7 @@ fn ask<R: Wait, L: Setup, G: Gate, W: ByteSink>(
 }
 
 // Answers a line that was begun, and isn't among those that were bound lately. (By itself, since
-// room for its words is cleared.)
+// else each call would zero the stack that its words take.)
 #[inline(never)]
 fn answer_anew<R: Wait, L: Setup, G: Gate, W: ByteSink>(
     host: &mut Host<'_, R, L>,
