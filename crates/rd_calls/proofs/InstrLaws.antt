@@ -11,7 +11,7 @@ use Rattle.rd_state.specs.declared.phase.Phase.TheVariants.{Run, Ended}
 use Rattle.rd_app.specs.Application.{Application, IsNotifyCall, IsWithin, code_of, instr_at, is_final, priorities_of}
 use Rattle.rd_state.specs.Snapshot.{Snapshot, task_at, core_at, with_task}
 use Rattle.rd_kernel.proofs.Offered.{IsFree, free_in_run}
-use Rattle.rd_state.specs.Valid.{EntriesFitCall, HoldersFitCall, IsValid, PhaseFitsCall, place_of_call, seats_to_run}
+use Rattle.rd_state.specs.Valid.{EntriesFitCall, HoldersFitCall, IsValid, PhaseFitsCall, place_of_call, times_to_run}
 use Rattle.rd_state.specs.Objects.{AreShaped}
 use Rattle.rd_group_calls.proofs.Offered.{IsConsistent-group_call, group_call-beside, group_call-tick}
 use Rattle.rd_group_calls.specs.GroupCalls.{group_outcome}
@@ -47,7 +47,7 @@ use Rattle.rd_calls.specs.Step.{handles_performed}
 
 -- It leaves what makes a state valid,
 pub IsConsistent-performed : (app : Application) (s : Snapshot) (core task : ℕ) (instr : Instr) → 0 < app.entries → IsValid app s → task < length s.tasks
-    → 1 ≤ seats_to_run (task_at s task).phase → core < length s.cores → core_at s core ≡ Some task
+    → 1 ≤ times_to_run (task_at s task).phase → core < length s.cores → core_at s core ≡ Some task
     → instr_at app task (task_at s task).pc ≡ instr → IsWithin app (length (code_of app task)) instr
     → (is_final instr ≡ false → (task_at s task).pc + 1 < length (code_of app task))
     → IsConsistent app (all_have_time_left s.tick) (performed (priorities_of app) s core task instr)

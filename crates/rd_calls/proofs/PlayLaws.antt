@@ -34,7 +34,7 @@ use Rattle.rd_stream.specs.Messages.{bytes_held}
 use Rattle.rd_stream.specs.StreamSnapshot.{StreamSnapshot}
 use Rattle.rd_state.specs.Change.{Change}
 use Rattle.rd_state.specs.Change.{weight_of}
-use Rattle.rd_state.specs.Edit.{Base, Edit, GivesUp, GoesOn, Reaches, added, begun_at, capacity_of, room_for}
+use Rattle.rd_state.specs.Edit.{Outset, Edit, GivesUp, GoesOn, Reaches, added, begun_at, capacity_of, room_for}
 use Rattle.rd_state.specs.PackedChanges.{all_packed}
 use Rattle.rd_state.specs.Sizes.{IsSized}
 use Rattle.rd_state.specs.Snapshot.{Snapshot, core_at, queue_at}
@@ -128,13 +128,13 @@ goes_on : (app : Application) (s s' : Snapshot) (move : PlainMove) (target : Sna
     → begun ≡ begun_at s before room calm → Leads app s move target cost → IsSized s' → Reaches begun made target cost → s' ≡ made.now → GoesOn made changes
     → IsPlayed app s move s' (added before changes)
 goes_on app s s' move target cost begun made before changes room calm is leads sized comes now goes =
-    let base : made.base ≡ (begun_at s before room calm).base = comes.base ∙ ap (λ (edit : Edit). edit.base) is in
+    let outset : made.outset ≡ (begun_at s before room calm).outset = comes.outset ∙ ap (λ (edit : Edit). edit.outset) is in
     let there : s' ≡ target = now ∙ comes.now in
-    let Q : Snapshot → Base → Type 0 = λ t b. (undone t (added b.recorded changes) ≡ b.state) × CanUndo t (added b.recorded changes)
+    let Q : Snapshot → Outset → Type 0 = λ t b. (undone t (added b.recorded changes) ≡ b.state) × CanUndo t (added b.recorded changes)
     × (weight_of (added b.recorded changes) ≡ made.weight) in
-    let here : Q s' (begun_at s before room calm).base =
-    subst (λ (t : Snapshot). Q t (begun_at s before room calm).base) (sym now)
-    (subst (λ (b : Base). Q made.now b) base (goes.leads_back, goes.can_undo, goes.weight)) in
+    let here : Q s' (begun_at s before room calm).outset =
+    subst (λ (t : Snapshot). Q t (begun_at s before room calm).outset) (sym now)
+    (subst (λ (b : Outset). Q made.now b) outset (goes.leads_back, goes.can_undo, goes.weight)) in
     record {
       step = leads.step ∙ ap (λ (t : Snapshot). Ok t) (sym there);
       leads_back = here.0;
@@ -264,12 +264,12 @@ room-from r app s move target cost room now begun made same leads =
     [ Ok x ↦ λ f g. omega (arith, same, f.room, g, leads.few) | Err y ↦ λ f g. tt ]
 
 -- and where it gave up, once its changes are taken back
-pub err_room-from : {T E : Type 0} (r : Result T E) (cost : ℕ) (begun made now : Edit) → begun.base.recorded ≡ begun.changes → capacity_of now ≡ capacity_of made
-    → OnErr r (GivesUp begun made cost) → OnErr r (now.changes ≡ made.base.recorded) → OnErr r (begun.room ≤ now.room)
+pub err_room-from : {T E : Type 0} (r : Result T E) (cost : ℕ) (begun made now : Edit) → begun.outset.recorded ≡ begun.changes → capacity_of now ≡ capacity_of made
+    → OnErr r (GivesUp begun made cost) → OnErr r (now.changes ≡ made.outset.recorded) → OnErr r (begun.room ≤ now.room)
 err_room-from r cost begun made now here capacity =
-    elim r as (λ q. OnErr q (GivesUp begun made cost) → OnErr q (now.changes ≡ made.base.recorded) → OnErr q (begun.room ≤ now.room)) [
+    elim r as (λ q. OnErr q (GivesUp begun made cost) → OnErr q (now.changes ≡ made.outset.recorded) → OnErr q (begun.room ≤ now.room)) [
       | Ok x ↦ λ f g. tt
       | Err y ↦ λ f g.
-          let same : now.changes ≡ begun.changes = g ∙ ap (λ (b : Base). b.recorded) f.base ∙ here in
+          let same : now.changes ≡ begun.changes = g ∙ ap (λ (b : Outset). b.recorded) f.outset ∙ here in
           omega (arith, ap (λ (changes : List Change). length (all_packed changes)) same, f.grows, capacity)
     ]

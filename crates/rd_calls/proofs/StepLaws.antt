@@ -8,14 +8,14 @@ use Rattle.rd_app.specs.declared.instr.Instr.TheVariants.{Local}
 use Rattle.rd_app.specs.declared.instr.LocalInstr.TheVariants.{End}
 use Rattle.rd_app.specs.Application.{Application, IsApplication, IsScript, IsWithin, is_final, priorities_of}
 use Rattle.rd_app.specs.TaskScript.{TaskScript}
-use Rattle.rd_state.specs.Settled.{seating_of, settled, IsSettled}
+use Rattle.rd_state.specs.Settled.{lineup_of, settled, IsSettled}
 use Rattle.rd_state.specs.Sizes.{IsSized}
 use Rattle.rd_state.specs.Snapshot.{Snapshot, task_at, core_at}
 use Rattle.rd_state.specs.Valid.{IsValid}
-use Rattle.rd_state.proofs.Offered.{scheduling_settles, stays_settled, SeatsKept, SeatsKept-settled, SeatsKept-rotated, SeatsKept-then}
+use Rattle.rd_state.proofs.Offered.{scheduling_settles, stays_settled, Rescheduled, Rescheduled-settled, Rescheduled-rotated, Rescheduled-then}
 use Rattle.rd_calls.specs.Step.{performed, next_instr, core_step, ticked, tick_step}
 use Rattle.rd_kernel.specs.Waking.{is_due, timed_out}
-use Rattle.rd_kernel.proofs.Offered.{IsValid-consistent, IsConsistent, IsConsistent-deadlines, IsConsistent-seats, IsConsistent-valid}
+use Rattle.rd_kernel.proofs.Offered.{IsValid-consistent, IsConsistent, IsConsistent-deadlines, IsConsistent-rescheduled, IsConsistent-valid}
 use Rattle.rd_kernel.proofs.Offered.{all_have_time_left, due_idle}
 use Rattle.rd_kernel.proofs.Offered.{is_task_on_core, room_in_ready, runs_on_core, TimedOut, TimedOut-so_far}
 use Rattle.rd_kernel.proofs.Offered.{all_looked_at, any_deadline}
@@ -56,8 +56,8 @@ IsValid-step app s s' core task limits valid there e same sized =
     let z = core_step app s core task in
     let at = IsConsistent-next_instr app s core task limits valid there e in
     let some : 0 < length p.cores = omega (arith, limits.some_cores, at.cores) in
-    let kept : SeatsKept priorities (seating_of p) (seating_of z) = SeatsKept-settled priorities (record p { turn = core + 1 }) some in
-    let consistent_z = IsConsistent-seats app (all_have_time_left s.tick) p z kept refl refl at in
+    let kept : Rescheduled priorities (lineup_of p) (lineup_of z) = Rescheduled-settled priorities (record p { turn = core + 1 }) some in
+    let consistent_z = IsConsistent-rescheduled app (all_have_time_left s.tick) p z kept refl refl at in
     let tick : s.tick ≡ z.tick = sym (performed-tick priorities s core task (next_instr app s task)) in
     subst (λ (t : Snapshot). IsSized t → IsValid app t) (sym same)
     (IsValid-consistent app z (subst (λ t. IsConsistent app (all_have_time_left t) z) tick consistent_z)) sized
@@ -80,7 +80,7 @@ pub TimedOut-of_valid : (app : Application) (s : Snapshot) (n : ℕ) → IsValid
 TimedOut-of_valid app s n valid few =
     let now : Snapshot = record s { tick = s.tick + 1 } in
     TimedOut-so_far app n now few
-    (IsConsistent-seats app any_deadline s now (record { cores = refl; seats = λ task. refl; order = λ h. h }) refl refl
+    (IsConsistent-rescheduled app any_deadline s now (record { cores = refl; lined_up = λ task. refl; order = λ h. h }) refl refl
     (IsConsistent-deadlines app (all_have_time_left s.tick) any_deadline s (λ t h was. tt) (IsConsistent-valid app s valid)))
 
 IsConsistent-ticked : (app : Application) (s : Snapshot) → IsValid app s → IsConsistent app (all_have_time_left (s.tick + 1)) (ticked (priorities_of app) s)
@@ -97,11 +97,11 @@ IsValid-tick app s s' limits valid same sized =
     let at = IsConsistent-ticked app s valid in
     let some : 0 < length s.cores = omega (arith, limits.some_cores, valid.in_limits.cores) in
     let some_p : 0 < length p.cores = omega (arith, limits.some_cores, at.cores) in
-    let by_settling : SeatsKept priorities (seating_of p) (seating_of (settled priorities p)) = SeatsKept-settled priorities p some_p in
+    let by_settling : Rescheduled priorities (lineup_of p) (lineup_of (settled priorities p)) = Rescheduled-settled priorities p some_p in
     let there : core < length (settled priorities p).cores = omega (arith, by_settling.cores, at.cores, valid.in_limits.cores, mod-lt (s.tick + 1) some) in
-    let by_turns : SeatsKept priorities (seating_of (settled priorities p)) (seating_of z) = SeatsKept-rotated priorities core (settled priorities p) there in
-    let kept = SeatsKept-then priorities (seating_of p) (seating_of (settled priorities p)) (seating_of z) by_settling by_turns in
-    let consistent_z = IsConsistent-seats app (all_have_time_left (s.tick + 1)) p z kept refl refl at in
+    let by_turns : Rescheduled priorities (lineup_of (settled priorities p)) (lineup_of z) = Rescheduled-rotated priorities core (settled priorities p) there in
+    let kept = Rescheduled-then priorities (lineup_of p) (lineup_of (settled priorities p)) (lineup_of z) by_settling by_turns in
+    let consistent_z = IsConsistent-rescheduled app (all_have_time_left (s.tick + 1)) p z kept refl refl at in
     let tick : s.tick + 1 ≡ z.tick = sym (TimedOut-of_valid app s (length s.tasks) valid (omega arith)).after.tick in
     subst (λ (t : Snapshot). IsSized t → IsValid app t) (sym same)
     (IsValid-consistent app z (subst (λ t. IsConsistent app (all_have_time_left t) z) tick consistent_z)) sized
@@ -114,7 +114,7 @@ IsSettled-tick app s s' limits valid same =
     let at = IsConsistent-ticked app s valid in
     let some : 0 < length s.cores = omega (arith, limits.some_cores, valid.in_limits.cores) in
     let some_p : 0 < length p.cores = omega (arith, limits.some_cores, at.cores) in
-    let kept : SeatsKept priorities (seating_of p) (seating_of (settled priorities p)) = SeatsKept-settled priorities p some_p in
+    let kept : Rescheduled priorities (lineup_of p) (lineup_of (settled priorities p)) = Rescheduled-settled priorities p some_p in
     let there : core < length (settled priorities p).cores = omega (arith, kept.cores, at.cores, valid.in_limits.cores, mod-lt (s.tick + 1) some) in
     subst (IsSettled priorities) (sym same)
     (stays_settled priorities core (settled priorities p) there (scheduling_settles priorities p some_p at.waiting_lists.ready).settled_now)

@@ -40,8 +40,8 @@ pub fn carry_out(carried: &Carried, app: &Program, editing: &mut Editing) -> Res
     requires valid { IsValid app.now editing.old.now }
     requires named { IsCarriedOf app.now carried.now }
     requires good { why_refused app.now editing.old.now carried.now ≡ None }
-    requires calm { editing.old.base.calm ≡ true
-        → IsSettled (priorities_of app.now) editing.old.base.state }
+    requires calm { editing.old.outset.calm ≡ true
+        → IsSettled (priorities_of app.now) editing.old.outset.state }
     ensures ok { OnOk result (Reaches editing.old editing.new
         (carried_out app.now editing.old.now carried.now)
         (carried_cost app.now editing.old.now carried.now)) }

@@ -81,8 +81,8 @@ pub fn move_core(
 ) -> Result<(), NoMemory>
     requires caller { IsCalling app.now editing.old.now task }
     requires core { core < length editing.old.now.cores }
-    requires calm { editing.old.base.calm ≡ true
-        → IsSettled (priorities_of app.now) editing.old.base.state }
+    requires calm { editing.old.outset.calm ≡ true
+        → IsSettled (priorities_of app.now) editing.old.outset.state }
     ensures ok { OnOk result
         (Reaches editing.old editing.new (core_step app.now editing.old.now core task)
         (instr_cost editing.old.now (next_instr app.now editing.old.now task)

@@ -76,10 +76,10 @@ fn finish(editing: &mut Editing, made: Result<(), NoMemory>) -> Result<(), NoMem
     ensures record { OnOk made (GoesOn editing.old editing.new.changes) }
     ensures room { OnOk made (editing.new.room ≡ editing.old.room) }
     ensures capacity { capacity_of editing.new ≡ capacity_of editing.old }
-    ensures err { OnErr made (editing.new.now ≡ editing.old.base.state) }
-    ensures err_record { OnErr made (editing.new.changes ≡ editing.old.base.recorded) }
+    ensures err { OnErr made (editing.new.now ≡ editing.old.outset.state) }
+    ensures err_record { OnErr made (editing.new.changes ≡ editing.old.outset.recorded) }
     ensures sized { IsSized editing.new.now }
-    ensures calm { editing.new.calm ≡ true → editing.old.base.calm ≡ true }
+    ensures calm { editing.new.calm ≡ true → editing.old.outset.calm ≡ true }
 {
     // (where nothing calls for settling now, nothing did where the move began)
     let _ = editing.is_calm();

@@ -36,8 +36,8 @@ fn begin_tick(app: &Program, editing: &mut Editing, tick: u32) -> Result<(), NoM
 pub fn move_tick(app: &Program, editing: &mut Editing) -> Result<(), NoMemory>
     requires valid { IsValid app.now editing.old.now }
     requires later { editing.old.now.tick < last_tick }
-    requires calm { editing.old.base.calm ≡ true
-        → IsSettled (priorities_of app.now) editing.old.base.state }
+    requires calm { editing.old.outset.calm ≡ true
+        → IsSettled (priorities_of app.now) editing.old.outset.state }
     ensures ok { OnOk result (Reaches editing.old editing.new (tick_step app.now editing.old.now)
         (5 + 3 * length editing.old.now.tasks + 3 * length editing.old.now.cores)) }
     ensures err { OnErr result (GivesUp editing.old editing.new

@@ -28,7 +28,7 @@ use Rattle.rd_state.specs.Objects.{ObjectsSnapshot, group_in, no_group, objects_
 use Rattle.rd_state.specs.Phases.{can_run, given_bits, is_first}
 use Rattle.rd_state.specs.Snapshot.{Snapshot, TaskSnapshot, group_at, task_at, with_bits_at, with_group}
 use Rattle.rd_state.specs.Sizes.{IsSized}
-use Rattle.rd_state.specs.Valid.{IsValid, entry_of_call, place_of_call, seats_to_run, times_in_list}
+use Rattle.rd_state.specs.Valid.{IsValid, entry_of_call, place_of_call, times_to_run, times_in_list}
 use Rattle.rd_state.specs.declared.phase.Phase.{Phase}
 use Rattle.rd_state.specs.Waiting.{holder_in, waiting_at, waiting_in, with_waiting_at}
 use Rattle.rd_state.proofs.Offered.{IsSizedList-waiting_at, group_count_shaped, times_in_list-cons}
@@ -39,7 +39,7 @@ use Rattle.rd_kernel.specs.Outcomes.{Called, DoesCall, IsCalling, call_returns, 
 use Rattle.rd_kernel.specs.Tasks.{KeepsPc}
 use Rattle.rd_kernel.specs.Telling.{waits_once}
 use Rattle.rd_kernel.specs.Waking.{deadline_of, may_wait, operand_value, woken_all}
-use Rattle.rd_kernel.proofs.Offered.{AfterWaking, IsConsistent-contents, IsConsistent-given, IsConsistent-valid, has_seat, room_for_all, room_in_list, runner_waits_nowhere}
+use Rattle.rd_kernel.proofs.Offered.{AfterWaking, IsConsistent-contents, IsConsistent-given, IsConsistent-valid, true_if_one, room_for_all, room_in_list, runner_waits_nowhere}
 use Rattle.rd_kernel.proofs.Offered.{AfterWaking-woken_all, ContentsChange, EachStays-woken_all, EntriesStay, EntriesStay-woken_all, IsConsistent, IsOn, IsOn-contents}
 use Rattle.rd_kernel.proofs.Offered.{IsOn-fails, IsOn-given, IsOn-outside, IsOn-returns, IsOn-waits_in_group, IsSleeper, NamesTasks-sized, PcsStay, RunsInstr}
 use Rattle.rd_kernel.proofs.Offered.{Sleeps, Sleeps-woken_all, all_have_time_left, both, read_kept, waits_is_task}
@@ -410,11 +410,11 @@ room_once_set app s p task group bits calls there sized is =
     task_there : task < length set_now.tasks
     task_there = omega (arith, calls.there, after.same_length)
 
-    runs : 1 ≤ seats_to_run (task_at set_now task).phase
+    runs : 1 ≤ times_to_run (task_at set_now task).phase
     runs =
         let phase = (task_at s task).phase in
-        let same = after.idle task (runner_waits_nowhere phase (has_seat (can_run phase) calls.runs)) in
-        subst (λ (x : TaskSnapshot). 1 ≤ seats_to_run x.phase) (sym same) calls.runs
+        let same = after.idle task (runner_waits_nowhere phase (true_if_one (can_run phase) calls.runs)) in
+        subst (λ (x : TaskSnapshot). 1 ≤ times_to_run x.phase) (sym same) calls.runs
 
     group_there : group < length set_now.objects.groups
     group_there = omega (arith, group_in_w, length-set w.objects.groups group (with_bits (group_at w group) (bits_left g now)))

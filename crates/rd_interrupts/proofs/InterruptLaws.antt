@@ -6,15 +6,15 @@ use Rattle.rd_queue.specs.declared.waiting_list.WaitingList.TheVariants.{Receivi
 use Rattle.rd_queue.specs.Queues.{fitted}
 use Rattle.rd_state.specs.declared.phase.Listed.TheVariants.{Queue, QueueSet}
 use Rattle.rd_state.specs.Phases.{waits_at}
-use Rattle.rd_state.specs.Settled.{IsSettled, seating_of, settled}
+use Rattle.rd_state.specs.Settled.{IsSettled, lineup_of, settled}
 use Rattle.rd_state.specs.Sizes.{IsSized}
 use Rattle.rd_state.specs.Snapshot.{Snapshot, queue_at, task_at}
 use Rattle.rd_state.specs.Valid.{IsValid}
-use Rattle.rd_state.proofs.Offered.{SeatsKept, SeatsKept-settled, queue_count_shaped, scheduling_settles, settled-still}
+use Rattle.rd_state.proofs.Offered.{Rescheduled, Rescheduled-settled, queue_count_shaped, scheduling_settles, settled-still}
 use Rattle.rd_kernel.specs.Tasks.{entry_at}
 use Rattle.rd_kernel.specs.Waking.{ReadyHasRoom}
 use Rattle.rd_state.specs.Waiting.{waiting_at}
-use Rattle.rd_kernel.proofs.Offered.{IsConsistent, IsConsistent-seats, IsConsistent-valid, IsValid-consistent, all_have_time_left, room_while_a_list_has_one}
+use Rattle.rd_kernel.proofs.Offered.{IsConsistent, IsConsistent-rescheduled, IsConsistent-valid, IsValid-consistent, all_have_time_left, room_while_a_list_has_one}
 use Rattle.rd_moves.specs.Interrupts.{IsInterruptOf, PlainInterrupt}
 use Rattle.rd_moves.specs.declared.interrupt.Interrupt.TheVariants.{Notify, Send}
 use Rattle.rd_notify_calls.proofs.Offered.{IsConsistent-notified, notified-has_received, notified-tick}
@@ -88,8 +88,8 @@ IsValid-interrupt app s s' interrupt limits valid named same sized =
     let z = after_interrupt priorities s interrupt in
     let at = IsConsistent-interrupted app s interrupt valid named in
     let some : 0 < length p.cores = omega (arith, limits.some_cores, at.cores) in
-    let kept : SeatsKept priorities (seating_of p) (seating_of z) = SeatsKept-settled priorities p some in
-    let consistent_z = IsConsistent-seats app (all_have_time_left s.tick) p z kept refl refl at in
+    let kept : Rescheduled priorities (lineup_of p) (lineup_of z) = Rescheduled-settled priorities p some in
+    let consistent_z = IsConsistent-rescheduled app (all_have_time_left s.tick) p z kept refl refl at in
     let tick : s.tick ≡ z.tick = sym (interrupted-tick priorities s interrupt) in
     subst (λ (t : Snapshot). IsSized t → IsValid app t) (sym same)
     (IsValid-consistent app z (subst (λ t. IsConsistent app (all_have_time_left t) z) tick consistent_z)) sized

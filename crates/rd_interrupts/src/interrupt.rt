@@ -113,8 +113,8 @@ pub fn interrupt(
 ) -> Result<(), NoMemory>
     requires valid { IsValid app.now editing.old.now }
     requires named { IsInterruptOf app.now interrupt.now }
-    requires calm { editing.old.base.calm ≡ true
-        → IsSettled (priorities_of app.now) editing.old.base.state }
+    requires calm { editing.old.outset.calm ≡ true
+        → IsSettled (priorities_of app.now) editing.old.outset.state }
     ensures ok { OnOk result (Reaches editing.old editing.new
         (after_interrupt (priorities_of app.now) editing.old.now interrupt.now)
         (interrupt_cost + 3 * length editing.old.now.cores)) }

@@ -13,7 +13,7 @@ use Rattle.rd_app.specs.Application.{Application, code_of, instr_at, priorities_
 use Rattle.rd_wait.specs.Joined.{joined}
 use Rattle.rd_state.specs.Sizes.{IsSized, IsTaskOrIdle}
 use Rattle.rd_state.specs.Snapshot.{Snapshot, TaskSnapshot, core_at, task_at, with_task}
-use Rattle.rd_state.specs.Valid.{EntriesFitCall, HoldersFitCall, IsValid, PhaseFitsCall, entry_of_call, is_ahead, is_in_list, is_on, place_of_call, seats_to_run}
+use Rattle.rd_state.specs.Valid.{EntriesFitCall, HoldersFitCall, IsValid, PhaseFitsCall, entry_of_call, is_ahead, is_in_list, is_on, place_of_call, times_to_run}
 use Rattle.rd_state.specs.Valid.{is_in_group, times_in_list, times_on_cores, times_waiting_in}
 use Rattle.rd_state.specs.Waiting.{HasList, entry_of, listed_at, waiting_at, with_waiting_at}
 use Rattle.rd_state.specs.declared.phase.Listed.TheVariants.{Group}
@@ -30,8 +30,8 @@ use Rattle.rd_app.specs.declared.instr.Instr.{Instr}
 use Rattle.rd_kernel.specs.Waking.{ReadyHasRoom, WhoWaitsLeavesRoom, deadline_of, is_due, may_wait, with_waiter, woken_first}
 use Rattle.rd_kernel.proofs.MovingLaws.{EntriesFitCall-free, HoldersFitCall-free, IsConsistent-moves, IsConsistent-task_replaced, IsFree, IsFree-objects}
 use Rattle.rd_kernel.proofs.MovingLaws.{ListGoes, ListGoes-appended, ListGoes-joined, ObjectsGo-list}
-use Rattle.rd_kernel.proofs.MovingLaws.{ObjectsGo-stay, SeatsGo-off_core, free_in_call, free_in_run, has_seat, runner_waits_nowhere}
-use Rattle.rd_kernel.proofs.MovingLaws.{seats_to_run-at_most_one, seats_to_run-one, times_waiting_in-at_most_one, waiter_is_idle, waits_idle}
+use Rattle.rd_kernel.proofs.MovingLaws.{ObjectsGo-stay, LineupGoes-off_core, free_in_call, free_in_run, true_if_one, runner_waits_nowhere}
+use Rattle.rd_kernel.proofs.MovingLaws.{times_to_run-at_most_one, times_to_run-one, times_waiting_in-at_most_one, waiter_is_idle, waits_idle}
 use Rattle.rd_kernel.proofs.MovingLaws.{waits_nowhere}
 use Rattle.rd_kernel.specs.declared.waking.Waking.TheVariants.{TriesAgain}
 use Rattle.rd_kernel.specs.Outcomes.{Called, IsCalling, blocked, call_fails, call_returns, concluded, passed, returned, stopped}
@@ -56,12 +56,12 @@ is_task_on_core app s core task valid there e =
     subst (IsTaskOrIdle (length s.tasks)) e (All-get_or (IsTaskOrIdle (length s.tasks)) s.cores core None there valid.in_limits.sized.scheduling.cores)
 
 pub runs_on_core : (app : Application) (s : Snapshot) (core task : ℕ) → IsValid app s → core < length s.cores → core_at s core ≡ Some task
-    → 1 ≤ seats_to_run (task_at s task).phase
+    → 1 ≤ times_to_run (task_at s task).phase
 runs_on_core app s core task valid there e =
-    omega (arith, valid.seated_once task (is_task_on_core app s core task valid there e), times_on_cores-some s core task there e)
+    omega (arith, valid.lined_up_once task (is_task_on_core app s core task valid there e), times_on_cores-some s core task there e)
 
 -- at an instruction that is no call with a block time a task doesn't try again
-pub runs_outside_calls : (phase : Phase) (instr : Instr) → 1 ≤ seats_to_run phase → place_of_call instr ≡ None → PhaseFitsCall phase instr → phase ≡ Run
+pub runs_outside_calls : (phase : Phase) (instr : Instr) → 1 ≤ times_to_run phase → place_of_call instr ≡ None → PhaseFitsCall phase instr → phase ≡ Run
 runs_outside_calls Run instr runs none at = refl
 runs_outside_calls (Again deadline) instr runs none at = absurd (false≢true (sym (ap is_some none) ∙ at))
 runs_outside_calls (Given bits) instr runs none at = absurd (false≢true (sym (ap is_in_group none) ∙ at))
@@ -103,7 +103,7 @@ IsConsistent-with_pc app D s task pc there runs within at =
 
 -- It is in Run, whichever of the phases that can run it was in.
 pub IsConsistent-with_run : (app : Application) (D : ℕ → Phase → Type 0) (s : Snapshot) (task : ℕ) → task < length s.tasks
-    → 1 ≤ seats_to_run (task_at s task).phase → IsFree s.objects task (task_at s task).entries → D task Run → IsConsistent app D s
+    → 1 ≤ times_to_run (task_at s task).phase → IsFree s.objects task (task_at s task).entries → D task Run → IsConsistent app D s
     → IsConsistent app D (with_phase s task Run)
 IsConsistent-with_run app D s task there runs free asked at =
     let was = at.each task there in
@@ -114,7 +114,7 @@ IsConsistent-with_run app D s task there runs free asked at =
       call = tt;
       deadline = asked;
       entries = EntriesFitCall-free s.objects task Run (instr_at app task (task_at s task).pc) (task_at s task).entries refl free;
-    }) (sym (seats_to_run-one (task_at s task).phase runs))
+    }) (sym (times_to_run-one (task_at s task).phase runs))
     (λ place. sym (waits_nowhere place (task_at s task).phase runs))
     (HoldersFitCall-free s.objects task Run (instr_at app task (task_at s task).pc) (task_at s task).entries refl free) at
 
@@ -141,13 +141,13 @@ IsConsistent-advanced app D s task registers bytes there runs within at =
 
 -- A call returns.
 pub IsConsistent-returned : (app : Application) (D : ℕ → Phase → Type 0) (s : Snapshot) (task value : ℕ) → task < length s.tasks
-    → 1 ≤ seats_to_run (task_at s task).phase → IsFree s.objects task (task_at s task).entries → (task_at s task).pc + 1 < length (code_of app task) → D task Run
+    → 1 ≤ times_to_run (task_at s task).phase → IsFree s.objects task (task_at s task).entries → (task_at s task).pc + 1 < length (code_of app task) → D task Run
     → IsConsistent app D s → IsConsistent app D (returned s task value)
 IsConsistent-returned app D s task value there runs free within asked at =
     let x = record (task_at s task) { registers = set (task_at s task).registers 0 value } in
     let one = with_task s task x in
     let there_one : task < length one.tasks = omega (arith, there, length-set s.tasks task x) in
-    let runs_still : 1 ≤ seats_to_run (task_at one task).phase = subst (λ (t : TaskSnapshot). 1 ≤ seats_to_run t.phase) (sym (task_now s task x there)) runs in
+    let runs_still : 1 ≤ times_to_run (task_at one task).phase = subst (λ (t : TaskSnapshot). 1 ≤ times_to_run t.phase) (sym (task_now s task x there)) runs in
     let y = record (task_at one task) { phase = Run } in
     let two = with_task one task y in
     let there_two : task < length two.tasks = omega (arith, there_one, length-set one.tasks task y) in
@@ -159,8 +159,8 @@ IsConsistent-returned app D s task value there runs free within asked at =
 
 -- It is in a phase in which it can't run and waits nowhere.
 pub IsConsistent-stopped : (app : Application) (D : ℕ → Phase → Type 0) (s : Snapshot) (core task : ℕ) (phase : Phase) → task < length s.tasks
-    → 1 ≤ seats_to_run (task_at s task).phase → core < length s.cores → core_at s core ≡ Some task
-    → seats_to_run phase ≡ 0 → waits_at phase ≡ None → IsFree s.objects task (task_at s task).entries
+    → 1 ≤ times_to_run (task_at s task).phase → core < length s.cores → core_at s core ≡ Some task
+    → times_to_run phase ≡ 0 → waits_at phase ≡ None → IsFree s.objects task (task_at s task).entries
     → PhaseFitsCall phase (instr_at app task (task_at s task).pc) → D task phase
     → IsConsistent app D s → IsConsistent app D (stopped s core task phase)
 IsConsistent-stopped app D s core task phase there runs has_core e idle nowhere free call asked at =
@@ -174,13 +174,13 @@ IsConsistent-stopped app D s core task phase there runs has_core e idle nowhere 
       entries = EntriesFitCall-free s.objects task phase (instr_at app task (task_at s task).pc) (task_at s task).entries (ap (option_and_then entry_of) nowhere) free;
     })
     (HoldersFitCall-free s.objects task phase (instr_at app task (task_at s task).pc) (task_at s task).entries (ap (option_and_then entry_of) nowhere) free)
-    (SeatsGo-off_core app D s core task phase there runs has_core e idle at)
+    (LineupGoes-off_core app D s core task phase there runs has_core e idle at)
     (ObjectsGo-stay app D s task phase there
     (λ place. ap (λ o. one_if (is_in_list place (option_and_then listed_at o))) nowhere ∙ sym (waits_nowhere place (task_at s task).phase runs)) at) at
 
 -- It waits in a list, which has it then.
 IsConsistent-waiting_in : (app : Application) (D : ℕ → Phase → Type 0) (s : Snapshot) (core task : ℕ) (place : Listed) (deadline : Option ℕ)
-    (waiting : List ℕ) (wishes : List Wish) → task < length s.tasks → 1 ≤ seats_to_run (task_at s task).phase → core < length s.cores → core_at s core ≡ Some task
+    (waiting : List ℕ) (wishes : List Wish) → task < length s.tasks → 1 ≤ times_to_run (task_at s task).phase → core < length s.cores → core_at s core ≡ Some task
     → ListGoes (priorities_of app) s place waiting task (Wait (sort.Listed place) deadline)
     → place_of_call (instr_at app task (task_at s task).pc) ≡ Some (sort.Listed place) → IsFree s.objects task (task_at s task).entries
     → D task (Wait (sort.Listed place) deadline) → IsConsistent app D s
@@ -199,12 +199,12 @@ IsConsistent-waiting_in app D s core task place deadline waiting wishes there ru
     })
     (HoldersFitCall-objects s.objects p.objects task phase (instr_at app task (task_at s task).pc) (holders_then s.objects place waiting wishes)
     (HoldersFitCall-free s.objects task phase (instr_at app task (task_at s task).pc) (task_at s task).entries refl free))
-    (SeatsGo-off_core app D s core task phase there runs has_core e refl at)
+    (LineupGoes-off_core app D s core task phase there runs has_core e refl at)
     (ObjectsGo-list app D s place waiting wishes task phase there goes at) at
 
 -- It waits in one that is in the order of priorities;
 pub IsConsistent-waiting : (app : Application) (D : ℕ → Phase → Type 0) (s : Snapshot) (core task : ℕ) (place : Listed) (deadline : Option ℕ)
-    → task < length s.tasks → 1 ≤ seats_to_run (task_at s task).phase → core < length s.cores → core_at s core ≡ Some task
+    → task < length s.tasks → 1 ≤ times_to_run (task_at s task).phase → core < length s.cores → core_at s core ≡ Some task
     → HasList s place → place_of_call (instr_at app task (task_at s task).pc) ≡ Some (sort.Listed place) → IsFree s.objects task (task_at s task).entries
     → D task (Wait (sort.Listed place) deadline) → IsConsistent app D s
     → IsConsistent app D (with_idle_core (with_phase (with_waiter (priorities_of app) s place task) task (Wait (sort.Listed place) deadline)) core)
@@ -214,7 +214,7 @@ IsConsistent-waiting app D s core task place deadline there runs has_core e has_
 
 -- or behind all others at an event group, with a wish.
 pub IsConsistent-waiting_in_group : (app : Application) (D : ℕ → Phase → Type 0) (s : Snapshot) (core task group : ℕ) (deadline : Option ℕ) (wishes : List Wish)
-    → task < length s.tasks → 1 ≤ seats_to_run (task_at s task).phase → core < length s.cores → core_at s core ≡ Some task
+    → task < length s.tasks → 1 ≤ times_to_run (task_at s task).phase → core < length s.cores → core_at s core ≡ Some task
     → group < length s.objects.groups → place_of_call (instr_at app task (task_at s task).pc) ≡ Some (sort.Listed (Group group))
     → IsFree s.objects task (task_at s task).entries → D task (Wait (sort.Listed (Group group)) deadline) → IsConsistent app D s
     → IsConsistent app D (with_idle_core (with_phase (with_waiting_at s (Group group) (waiting_at s (Group group) ++ task ∷ []) wishes) task
@@ -228,7 +228,7 @@ IsConsistent-waiting_in_group app D s core task group deadline wishes there runs
 
 -- A call that can't be done.
 pub IsConsistent-blocked : (app : Application) (s : Snapshot) (core task : ℕ) (place : Listed) (wait : Operand) → task < length s.tasks
-    → 1 ≤ seats_to_run (task_at s task).phase → core < length s.cores → core_at s core ≡ Some task
+    → 1 ≤ times_to_run (task_at s task).phase → core < length s.cores → core_at s core ≡ Some task
     → HasList s place → place_of_call (instr_at app task (task_at s task).pc) ≡ Some (sort.Listed place) → IsFree s.objects task (task_at s task).entries
     → (task_at s task).pc + 1 < length (code_of app task)
     → IsConsistent app (all_have_time_left s.tick) s
@@ -250,13 +250,13 @@ IsConsistent-blocked app s core task place wait there runs has_core e has_place 
 
 -- The call is done, others may have been woken, and it returns.
 pub IsConsistent-passed : (app : Application) (tick : ℕ) (s p : Snapshot) (task value : ℕ) (tasks : List ℕ) → task < length s.tasks
-    → 1 ≤ seats_to_run (task_at s task).phase → IsFree s.objects task (task_at s task).entries → (task_at s task).pc + 1 < length (code_of app task)
+    → 1 ≤ times_to_run (task_at s task).phase → IsFree s.objects task (task_at s task).entries → (task_at s task).pc + 1 < length (code_of app task)
     → AfterWaking s p tasks
     → IsConsistent app (all_have_time_left tick) p → IsConsistent app (all_have_time_left tick) (returned p task value)
 IsConsistent-passed app tick s p task value tasks there runs free within after at =
-    let same = after.idle task (runner_waits_nowhere (task_at s task).phase (has_seat (can_run (task_at s task).phase) runs)) in
+    let same = after.idle task (runner_waits_nowhere (task_at s task).phase (true_if_one (can_run (task_at s task).phase) runs)) in
     IsConsistent-returned app (all_have_time_left tick) p task value (omega (arith, there, after.same_length))
-    (subst (λ (t : TaskSnapshot). 1 ≤ seats_to_run t.phase) (sym same) runs)
+    (subst (λ (t : TaskSnapshot). 1 ≤ times_to_run t.phase) (sym same) runs)
     (IsFree-objects s.objects p.objects task (task_at p task).entries after.holders (subst (λ (t : TaskSnapshot). IsFree s.objects task t.entries) (sym same) free))
     (subst (λ (t : TaskSnapshot). t.pc + 1 < length (code_of app task)) (sym same) within) tt at
 
@@ -268,7 +268,7 @@ waits_is_task s place t sized there some = member_has (λ t. t < length s.tasks)
 pub record RunsInstr (app : Application) (s : Snapshot) (core task : ℕ) (instr : Instr) : Type 0 where
   pub valid : IsValid app s
   pub there : task < length s.tasks
-  pub runs : 1 ≤ seats_to_run (task_at s task).phase
+  pub runs : 1 ≤ times_to_run (task_at s task).phase
   pub has_core : core < length s.cores
   pub on_core : core_at s core ≡ Some task
   pub at_instr : instr_at app task (task_at s task).pc ≡ instr
@@ -287,7 +287,7 @@ free_at app s core task instr calls none =
 pub record IsDone (app : Application) (s p : Snapshot) (task : ℕ) (waiting : Listed) : Type 0 where
   pub consistent : IsConsistent app (all_have_time_left s.tick) p
   pub there : task < length p.tasks
-  pub runs : 1 ≤ seats_to_run (task_at p task).phase
+  pub runs : 1 ≤ times_to_run (task_at p task).phase
   pub free : IsFree p.objects task (task_at p task).entries
   pub within : (task_at p task).pc + 1 < length (code_of app task)
   pub waiters : (t : ℕ) → 1 ≤ times_in_list t (waiting_at p waiting) → t < length p.tasks
@@ -353,7 +353,7 @@ or_blocked-tick priorities s core task place wait cannot called same =
 -- ---- room
 
 pub room_in_list : (app : Application) (D : ℕ → Phase → Type 0) (s : Snapshot) (task : ℕ) (place : Listed) → IsConsistent app D s → IsSized s
-    → task < length s.tasks → 1 ≤ seats_to_run (task_at s task).phase → HasList s place → length (waiting_at s place) < length s.tasks
+    → task < length s.tasks → 1 ≤ times_to_run (task_at s task).phase → HasList s place → length (waiting_at s place) < length s.tasks
 room_in_list app D s task place at sized there runs has_place =
     room_for (waiting_at s place) (length s.tasks) task (IsSizedList-waiting_at s place sized has_place).0
     (λ t h. omega (arith, at.places place t h, times_waiting_in-at_most_one place (task_at s t).phase)) there
@@ -361,15 +361,15 @@ room_in_list app D s task place at sized there runs has_place =
 
 -- The ready list has room for a task that can't run.
 pub room_in_ready : (app : Application) (D : ℕ → Phase → Type 0) (s : Snapshot) (task : ℕ) → IsConsistent app D s → IsSized s → task < length s.tasks
-    → seats_to_run (task_at s task).phase ≡ 0 → length s.ready < length s.tasks
+    → times_to_run (task_at s task).phase ≡ 0 → length s.ready < length s.tasks
 room_in_ready app D s task at sized there idle =
-    room_for s.ready (length s.tasks) task sized.scheduling.ready (λ t h. omega (arith, at.seated_once t h, seats_to_run-at_most_one (task_at s t).phase)) there
-    (omega (arith, at.seated_once task there, idle))
+    room_for s.ready (length s.tasks) task sized.scheduling.ready (λ t h. omega (arith, at.lined_up_once t h, times_to_run-at_most_one (task_at s t).phase)) there
+    (omega (arith, at.lined_up_once task there, idle))
 
-pub due_idle : (tick : ℕ) (phase : Phase) → is_due tick phase ≡ true → seats_to_run phase ≡ 0
+pub due_idle : (tick : ℕ) (phase : Phase) → is_due tick phase ≡ true → times_to_run phase ≡ 0
 due_idle tick phase = by_place (waits_at phase) refl
   where
-    by_place : (o : Option Place) → waits_at phase ≡ o → (is_some o && not (is_ahead tick (kept_deadline phase))) ≡ true → seats_to_run phase ≡ 0
+    by_place : (o : Option Place) → waits_at phase ≡ o → (is_some o && not (is_ahead tick (kept_deadline phase))) ≡ true → times_to_run phase ≡ 0
     by_place None e due = absurd (false≢true due)
     by_place (Some place) e due = waiter_is_idle phase place e
 
@@ -379,10 +379,10 @@ room_beside_core : (app : Application) (s : Snapshot) (core task : ℕ) → IsVa
 room_beside_core app s core task valid has_core e =
     let at = IsConsistent-valid app s valid in
     let there = is_task_on_core app s core task valid has_core e in
-    let seats = at.seated_once task there in
+    let lined_up = at.lined_up_once task there in
     room_for s.ready (length s.tasks) task valid.in_limits.sized.scheduling.ready
-    (λ t h. omega (arith, at.seated_once t h, seats_to_run-at_most_one (task_at s t).phase)) there
-    (omega (arith, seats, seats_to_run-at_most_one (task_at s task).phase, times_on_cores-some s core task has_core e))
+    (λ t h. omega (arith, at.lined_up_once t h, times_to_run-at_most_one (task_at s t).phase)) there
+    (omega (arith, lined_up, times_to_run-at_most_one (task_at s task).phase, times_on_cores-some s core task has_core e))
 
 -- It has room as long as somebody waits, who isn't ready,
 pub room_while_one_waits : (app : Application) (s : Snapshot) (task : ℕ) → IsValid app s → task < length s.tasks
@@ -391,7 +391,7 @@ room_while_one_waits app s task valid there waits =
     room_in_ready app (all_have_time_left s.tick) s task (IsConsistent-valid app s valid) valid.in_limits.sized there
     (by_place (waits_at (task_at s task).phase) refl waits)
   where
-    by_place : (o : Option Place) → waits_at (task_at s task).phase ≡ o → IsSome o → seats_to_run (task_at s task).phase ≡ 0
+    by_place : (o : Option Place) → waits_at (task_at s task).phase ≡ o → IsSome o → times_to_run (task_at s task).phase ≡ 0
     by_place None e waits = absurd (false≢true waits)
     by_place (Some place) e waits = waiter_is_idle (task_at s task).phase place e
 

@@ -21,19 +21,19 @@ use Rattle.rd_state.specs.declared.phase.Listed.TheVariants.{Queue, QueueSet, Gr
 use Rattle.rd_app.specs.Application.{Application, code_of, instr_at, priorities_of}
 use Rattle.rd_app.specs.declared.objects.QueueShape.{QueueShape}
 use Rattle.rd_wait.specs.Joined.{IsInOrder}
-use Rattle.rd_state.specs.Settled.{seating_of}
+use Rattle.rd_state.specs.Settled.{lineup_of}
 use Rattle.rd_state.specs.Sizes.{IsSized}
 use Rattle.rd_state.specs.Snapshot.{Snapshot, TaskSnapshot, no_task, task_at, with_objects, with_task}
 use Rattle.rd_state.specs.Objects.{AreShaped, ObjectsSnapshot, capacity_of, no_group, no_queue, no_queue_set, numbers_in, shape_of, shapes_in}
 use Rattle.rd_state.specs.declared.phase.Held.{Held}
 use Rattle.rd_state.specs.declared.phase.Held.TheVariants.{Stream, Message}
 use Rattle.rd_app.specs.declared.instr.Instr.{Instr}
-use Rattle.rd_state.specs.Valid.{EntriesFitCall, HasTimeLeft, HoldersFitCall, HoldersFitScripts, IsValid, ListsInOrder, PhaseFitsCall, SeatedOnce, WaitsInLists}
-use Rattle.rd_state.specs.Valid.{seats_to_run}
+use Rattle.rd_state.specs.Valid.{EntriesFitCall, HasTimeLeft, HoldersFitCall, HoldersFitScripts, IsValid, ListsInOrder, PhaseFitsCall, LinedUpOnce, WaitsInLists}
+use Rattle.rd_state.specs.Valid.{times_to_run}
 use Rattle.rd_state.specs.Valid.{times_in_list, times_waiting_in}
 use Rattle.rd_state.specs.Waiting.{HasList, IsList, holder_in, list_kind, list_object, list_part}
 use Rattle.rd_state.specs.Waiting.{objects_then, part_number, same_list, waiting_at, waiting_in}
-use Rattle.rd_state.proofs.Offered.{SeatsKept}
+use Rattle.rd_state.proofs.Offered.{Rescheduled}
 
 -- What holds of a task by itself. What is asked of its deadline is a parameter: in the middle of a tick it holds of
 -- some tasks alone.
@@ -49,7 +49,7 @@ pub record IsConsistent (app : Application) (D : ℕ → Phase → Type 0) (s : 
   pub tasks : length s.tasks ≡ length app.tasks
   pub each : (task : ℕ) → task < length s.tasks → IsConsistentTask app D task (task_at s task)
   pub shapes : AreShaped app s.objects
-  pub seated_once : SeatedOnce s
+  pub lined_up_once : LinedUpOnce s
   pub waiting_lists : ListsInOrder (priorities_of app) s
   pub places : WaitsInLists s
   pub holders : HoldersFitScripts app s
@@ -70,7 +70,7 @@ IsConsistent-valid app s valid = record {
     entries = valid.entries task h;
   };
   shapes = valid.in_limits.objects;
-  seated_once = valid.seated_once;
+  lined_up_once = valid.lined_up_once;
   waiting_lists = valid.waiting_lists;
   places = valid.places;
   holders = valid.holders;
@@ -86,7 +86,7 @@ IsValid-consistent app s at sized = record {
     entries = All-from_get_or (λ (t : TaskSnapshot). length t.entries ≡ app.entries) s.tasks no_task (λ task h. (at.each task h).entry_count);
     objects = at.shapes;
   };
-  seated_once = at.seated_once;
+  lined_up_once = at.lined_up_once;
   waiting_lists = at.waiting_lists;
   places = at.places;
   calls = λ task h. (at.each task h).call;
@@ -106,7 +106,7 @@ IsConsistent-deadlines app D E s gives at = record {
       λ task h. let was = at.each task h in
       record { pc = was.pc; entry_count = was.entry_count; call = was.call; deadline = gives task h was.deadline; entries = was.entries };
   shapes = at.shapes;
-  seated_once = at.seated_once;
+  lined_up_once = at.lined_up_once;
   waiting_lists = at.waiting_lists;
   places = at.places;
   holders = at.holders;
@@ -293,7 +293,7 @@ IsConsistent-contents app D s n change at = record {
   tasks = at.tasks;
   each = at.each;
   shapes = change.shapes ∙ at.shapes;
-  seated_once = at.seated_once;
+  lined_up_once = at.lined_up_once;
   waiting_lists = record {
     ready = at.waiting_lists.ready;
     waiting = λ place by. subst (IsInOrder (priorities_of app)) (sym (change.waiting place)) (at.waiting_lists.waiting place by);
@@ -302,10 +302,10 @@ IsConsistent-contents app D s n change at = record {
   holders = λ t h. HoldersFitCall-objects s.objects n t (task_at s t).phase (instr_at app t (task_at s t).pc) change.holders (at.holders t h);
 }
 
--- Who is seated changes as scheduling changes it.
-pub IsConsistent-seats : (app : Application) (D : ℕ → Phase → Type 0) (s z : Snapshot) → SeatsKept (priorities_of app) (seating_of s) (seating_of z)
+-- The line-up changes as scheduling changes it.
+pub IsConsistent-rescheduled : (app : Application) (D : ℕ → Phase → Type 0) (s z : Snapshot) → Rescheduled (priorities_of app) (lineup_of s) (lineup_of z)
     → z.tasks ≡ s.tasks → z.objects ≡ s.objects → IsConsistent app D s → IsConsistent app D z
-IsConsistent-seats app D s z kept tasks objects at =
+IsConsistent-rescheduled app D s z kept tasks objects at =
     let is : (t : ℕ) → task_at z t ≡ task_at s t = λ t. ap (λ (ts : List TaskSnapshot). get_or ts t no_task) tasks in
     let in_s : (t : ℕ) → t < length z.tasks → t < length s.tasks = λ t h. omega (arith, h, ap length tasks) in
     record {
@@ -313,7 +313,7 @@ IsConsistent-seats app D s z kept tasks objects at =
       tasks = ap length tasks ∙ at.tasks;
       each = λ t h. subst (IsConsistentTask app D t) (sym (is t)) (at.each t (in_s t h));
       shapes = subst (AreShaped app) (sym objects) at.shapes;
-      seated_once = λ t h. kept.seats t ∙ at.seated_once t (in_s t h) ∙ ap (λ (x : TaskSnapshot). seats_to_run x.phase) (sym (is t));
+      lined_up_once = λ t h. kept.lined_up t ∙ at.lined_up_once t (in_s t h) ∙ ap (λ (x : TaskSnapshot). times_to_run x.phase) (sym (is t));
       waiting_lists = record {
         ready = kept.order at.waiting_lists.ready;
         waiting = λ place by. subst (λ o. IsInOrder (priorities_of app) (waiting_in o place)) (sym objects) (at.waiting_lists.waiting place by);

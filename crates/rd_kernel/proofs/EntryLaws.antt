@@ -12,7 +12,7 @@ use Rattle.rd_state.specs.declared.phase.Phase.{Phase}
 use Rattle.rd_app.specs.Application.{Application, instr_at, priorities_of}
 use Rattle.rd_state.specs.Snapshot.{Snapshot, TaskSnapshot, core_at, no_task, task_at, with_task}
 use Rattle.rd_state.specs.Objects.{ObjectsSnapshot}
-use Rattle.rd_state.specs.Valid.{EntriesFitCall, HoldersFitCall, entry_of_call, place_of_call, seats_to_run, state_of_entry}
+use Rattle.rd_state.specs.Valid.{EntriesFitCall, HoldersFitCall, entry_of_call, place_of_call, times_to_run, state_of_entry}
 use Rattle.rd_state.specs.Waiting.{entry_of}
 use Rattle.rd_state.proofs.Offered.{times_in_list-cons}
 use Rattle.rd_state.specs.declared.phase.Place.{Place}
@@ -25,7 +25,7 @@ use Rattle.rd_app.specs.declared.instr.Instr.{Instr}
 use Rattle.rd_notify.specs.declared.entries.Entry.{Entry}
 use Rattle.rd_notify.specs.declared.entries.EntryState.TheVariants.{Waiting}
 use Rattle.rd_kernel.specs.Waking.{phase_woken, woken, woken_all, woken_at}
-use Rattle.rd_kernel.proofs.MovingLaws.{IsConsistent-moves, IsConsistent-task_replaced, IsFree, ObjectsGo-stay, SeatsGo-off_core, has_seat}
+use Rattle.rd_kernel.proofs.MovingLaws.{IsConsistent-moves, IsConsistent-task_replaced, IsFree, ObjectsGo-stay, LineupGoes-off_core, true_if_one}
 use Rattle.rd_kernel.proofs.MovingLaws.{none_is_some, runner_waits_nowhere, waits_nowhere}
 use Rattle.rd_kernel.specs.declared.waking.Waking.TheVariants.{TriesAgain}
 use Rattle.rd_kernel.specs.Outcomes.{concluded, returned, stopped}
@@ -125,13 +125,13 @@ pub record StaysThere (s p : Snapshot) (task : ℕ) : Type 0 where
   pub phase : (task_at p task).phase ≡ (task_at s task).phase
 
 pub StaysThere-told : (priorities : List ℕ) (s : Snapshot) (caller task index : ℕ) (entry : Entry) → task < length s.tasks
-    → 1 ≤ seats_to_run (task_at s caller).phase → StaysThere s (told priorities s task index entry) caller
+    → 1 ≤ times_to_run (task_at s caller).phase → StaysThere s (told priorities s task index entry) caller
 StaysThere-told priorities s caller task index entry there runs =
     let tasks = if_waiting_for s task index in
     let q = woken_all priorities TriesAgain s tasks in
     let after = AfterWaking-woken_all priorities TriesAgain s tasks in
     let phase = (task_at s caller).phase in
-    let same = after.idle caller (runner_waits_nowhere phase (has_seat (can_run phase) runs)) in
+    let same = after.idle caller (runner_waits_nowhere phase (true_if_one (can_run phase) runs)) in
     let x = record (task_at q task) { entries = set (task_at q task).entries index entry } in
     let in_q : task < length q.tasks = omega (arith, there, after.same_length) in
     record {
@@ -157,7 +157,7 @@ entry_is_held index held e = cc
 
 -- A task waits for an entry of its own.
 pub IsConsistent-waiting_for_entry : (app : Application) (D : ℕ → Phase → Type 0) (s : Snapshot) (core task index : ℕ) (entry : Entry) (deadline : Option ℕ)
-    → HasEntry s task index → 1 ≤ seats_to_run (task_at s task).phase → core < length s.cores → core_at s core ≡ Some task
+    → HasEntry s task index → 1 ≤ times_to_run (task_at s task).phase → core < length s.cores → core_at s core ≡ Some task
     → place_of_call (instr_at app task (task_at s task).pc) ≡ Some (sort.Entry index) → IsFree s.objects task (task_at s task).entries
     → D task (Wait (sort.Entry index) deadline) → IsConsistent app D s
     → IsConsistent app D (stopped (with_entry s task index (entry_waiting entry)) core task (Wait (sort.Entry index) deadline))
@@ -193,7 +193,7 @@ IsConsistent-waiting_for_entry app D s core task index entry deadline has runs h
       named = λ held is. absurd (free.unnamed held is);
       names = λ held is. absurd (entry_is_held index held is);
     })
-    (SeatsGo-off_core app D s core task phase has.0 runs has_core e refl at)
+    (LineupGoes-off_core app D s core task phase has.0 runs has_core e refl at)
     (ObjectsGo-stay app D s task phase has.0 (λ list. sym (waits_nowhere list x.phase runs)) at) at
 
 -- Once the entry through which its call waits was looked at, none is waiting.

@@ -15,7 +15,7 @@ use Rattle.rd_state.specs.declared.phase.Phase.{Phase}
 use Rattle.rd_state.specs.declared.phase.Place.{Place}
 use Rattle.rd_state.specs.Phases.{can_run, tries_again, waits_at, was_given}
 use Rattle.rd_state.specs.Snapshot.{Snapshot, TaskSnapshot, task_at}
-use Rattle.rd_state.specs.Valid.{FitsCall, IsValid, is_ahead, is_in_group, is_in_list, place_of_call, seats_to_run, times_in_list, times_waiting_in}
+use Rattle.rd_state.specs.Valid.{FitsCall, IsValid, is_ahead, is_in_group, is_in_list, place_of_call, times_to_run, times_in_list, times_waiting_in}
 use Rattle.rd_state.specs.declared.phase.Listed.{Listed}
 use Rattle.rd_state.specs.Waiting.{entry_of, listed_at, same_list, waiting_at, with_waiting_at}
 use Rattle.rd_state.proofs.Offered.{one_if}
@@ -26,7 +26,7 @@ use Rattle.rd_kernel.specs.declared.waking.Waking.TheVariants.{IsGiven}
 use Rattle.rd_kernel.proofs.CallLaws.{IsConsistent-waiting_in_group, RunsInstr}
 use Rattle.rd_kernel.proofs.ConsistentLaws.{IsConsistent, all_have_time_left, same_list-is}
 use Rattle.rd_kernel.proofs.HoldingLaws.{IsOn}
-use Rattle.rd_kernel.proofs.MovingLaws.{IsFree, IsFree-objects, has_seat, none_is_some, runner_waits_nowhere, seats_to_run-at_most_one}
+use Rattle.rd_kernel.proofs.MovingLaws.{IsFree, IsFree-objects, true_if_one, none_is_some, runner_waits_nowhere, times_to_run-at_most_one}
 use Rattle.rd_kernel.proofs.MovingLaws.{times_waiting_in-at_most_one, waits_idle}
 use Rattle.rd_kernel.proofs.TaskListLaws.{all_once}
 use Rattle.rd_kernel.proofs.WakingLaws.{AfterWaking-woken_all, IsConsistent-woken_all, MayWakeIfWaiting}
@@ -35,7 +35,7 @@ use Rattle.rd_kernel.proofs.WakingLaws.{AfterWaking-woken_all, IsConsistent-woke
 
 -- A task that waits somewhere, and stands in that list, waits there.
 is_there : (group : ℕ) (place : Place) → 1 ≤ one_if (is_in_list (Group group) (listed_at place)) → place ≡ sort.Listed (Group group)
-is_there group (sort.Listed list) some = ap sort.Listed (sym (same_list-is (Group group) list (has_seat (same_list (Group group) list) some)))
+is_there group (sort.Listed list) some = ap sort.Listed (sym (same_list-is (Group group) list (true_if_one (same_list (Group group) list) some)))
 is_there group (sort.Held held) some = absurd (omega (arith, some))
 is_there group (sort.Entry index) some = absurd (omega (arith, some))
 
@@ -91,11 +91,11 @@ room_for_all app s list tasks valid there among =
     once t h =
         let phase = (task_at s t).phase in
         let both = sum_by-append (λ m. one_if (nat_eq t m)) s.ready tasks in
-        let seats = valid.seated_once t h in
+        let lined_up = valid.lined_up_once t h in
         let waits = valid.places list t h in
         elim (cases_lt 0 (times_waiting_in list phase)) [
-          | inl some ↦ omega (arith, both, seats, waits, among t, waits_idle list phase some, times_waiting_in-at_most_one list phase)
-          | inr none ↦ omega (arith, both, seats, waits, among t, none, seats_to_run-at_most_one phase)
+          | inl some ↦ omega (arith, both, lined_up, waits, among t, waits_idle list phase some, times_waiting_in-at_most_one list phase)
+          | inr none ↦ omega (arith, both, lined_up, waits, among t, none, times_to_run-at_most_one phase)
         ]
 
 -- ---- in the middle of a call
@@ -108,9 +108,9 @@ pub IsOn-given : (app : Application) (s p : Snapshot) (core task group bits : �
 IsOn-given app s p core task group bits instr tasks calls among members on =
     let q = woken_all (priorities_of app) (IsGiven bits) p tasks in
     let after = AfterWaking-woken_all (priorities_of app) (IsGiven bits) p tasks in
-    let runs : 1 ≤ seats_to_run (task_at p task).phase = subst (λ phase. 1 ≤ seats_to_run phase) (sym on.stays.phase) calls.runs in
+    let runs : 1 ≤ times_to_run (task_at p task).phase = subst (λ phase. 1 ≤ times_to_run phase) (sym on.stays.phase) calls.runs in
     let same : task_at q task ≡ task_at p task =
-    after.idle task (runner_waits_nowhere (task_at p task).phase (has_seat (can_run (task_at p task).phase) runs)) in
+    after.idle task (runner_waits_nowhere (task_at p task).phase (true_if_one (can_run (task_at p task).phase) runs)) in
     record {
       consistent = IsConsistent-given app p s.tick group bits tasks among members on.consistent;
       stays = record {
@@ -135,7 +135,7 @@ pub IsOn-waits_in_group : (app : Application) (s p : Snapshot) (core task group 
     }) core task)
 IsOn-waits_in_group app s p core task group wishes wait instr calls at_place has_group ahead on =
     IsConsistent-waiting_in_group app (all_have_time_left s.tick) p core task group (deadline_of p task wait) wishes
-    (omega (arith, calls.there, on.stays.same_length)) (subst (λ phase. 1 ≤ seats_to_run phase) (sym on.stays.phase) calls.runs)
+    (omega (arith, calls.there, on.stays.same_length)) (subst (λ phase. 1 ≤ times_to_run phase) (sym on.stays.phase) calls.runs)
     (omega (arith, calls.has_core, ap length on.cores)) (ap (λ (cores : List (Option ℕ)). get_or cores core None) on.cores ∙ calls.on_core) has_group
     (ap (λ pc. place_of_call (instr_at app task pc)) on.stays.pc ∙ ap place_of_call calls.at_instr ∙ at_place) on.free
     (ap (λ tick. is_ahead tick (deadline_of p task wait)) (sym on.tick) ∙ ahead) on.consistent

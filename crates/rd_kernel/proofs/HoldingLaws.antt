@@ -31,7 +31,7 @@ use Rattle.rd_state.specs.declared.phase.Place.{Place}
 use Rattle.rd_state.specs.Objects.{ObjectsSnapshot, message_in, no_message_buffer, no_stream, numbers_in, stream_in}
 use Rattle.rd_state.specs.Phases.{can_run, tries_again, waits_at, was_given}
 use Rattle.rd_state.specs.Snapshot.{Snapshot, TaskSnapshot, core_at, no_task, task_at, with_objects, with_task}
-use Rattle.rd_state.specs.Valid.{EntriesFitCall, FitsCall, HoldersFitCall, PhaseFitsCall, entry_of_call, is_ahead, is_in_group, place_of_call, seats_to_run, state_of_entry, times_in_list}
+use Rattle.rd_state.specs.Valid.{EntriesFitCall, FitsCall, HoldersFitCall, PhaseFitsCall, entry_of_call, is_ahead, is_in_group, place_of_call, times_to_run, state_of_entry, times_in_list}
 use Rattle.rd_state.specs.Waiting.{HasHeld, entry_of, held_side, holder_at, holder_in, objects_naming, with_holder}
 use Rattle.rd_state.specs.declared.phase.Held.TheVariants.{Stream, Message}
 use Rattle.rd_state.specs.Objects.{AreShaped}
@@ -48,7 +48,7 @@ use Rattle.rd_kernel.proofs.CallLaws.{IsConsistent-returned, IsConsistent-stoppe
 use Rattle.rd_kernel.proofs.ConsistentLaws.{ContentsChange, IsConsistent, IsConsistent-contents, IsConsistent-valid, all_have_time_left, task_now}
 use Rattle.rd_kernel.proofs.EntryLaws.{IsConsistent-told, IsConsistent-with_entry, StaysThere, StaysThere-told, StaysThere-with_entry, idle_of_entry}
 use Rattle.rd_kernel.proofs.HolderLaws.{HolderGoes-naming, by_held}
-use Rattle.rd_kernel.proofs.MovingLaws.{IsConsistent-moves, IsFree, IsFree-objects, ObjectsGo-holder, SeatsGo-off_core, SeatsGo-stay, free_in_run, has_seat}
+use Rattle.rd_kernel.proofs.MovingLaws.{IsConsistent-moves, IsFree, IsFree-objects, ObjectsGo-holder, LineupGoes-off_core, LineupGoes-stay, free_in_run, true_if_one}
 use Rattle.rd_kernel.proofs.MovingLaws.{none_is_some, runner_waits_nowhere, waits_nowhere}
 use Rattle.rd_kernel.proofs.TaskListLaws.{other_none, same_one}
 use Rattle.rd_kernel.proofs.WakingLaws.{AfterWaking, AfterWaking-woken_all}
@@ -81,7 +81,7 @@ IsConsistent-name_gone app D s held task there has_held named nowhere at =
           (λ apart. was.named other (sym (goes.others other apart) ∙ is));
       names = λ other waits. absurd (none_is_some (sort.Held other) (sym nowhere ∙ waits));
     })
-    (SeatsGo-stay app D s task x.phase there refl at)
+    (LineupGoes-stay app D s task x.phase there refl at)
     (ObjectsGo-holder app D s held None task x.phase there has_held (λ t differs. none_is_some t)
     (λ t differs is. differs (some_is t task (sym is ∙ named))) (λ place. refl) at) at
 
@@ -177,14 +177,14 @@ pub IsOn-returns : (app : Application) (s p : Snapshot) (core task value : ℕ) 
     → IsConsistent app (all_have_time_left s.tick) (concluded (call_returns p value) core task)
 IsOn-returns app s p core task value instr calls on =
     IsConsistent-returned app (all_have_time_left s.tick) p task value (omega (arith, calls.there, on.stays.same_length))
-    (subst (λ phase. 1 ≤ seats_to_run phase) (sym on.stays.phase) calls.runs) on.free (omega (arith, calls.within, on.stays.pc)) tt on.consistent
+    (subst (λ phase. 1 ≤ times_to_run phase) (sym on.stays.phase) calls.runs) on.free (omega (arith, calls.within, on.stays.pc)) tt on.consistent
 
 -- It fails.
 pub IsOn-fails : (app : Application) (s p : Snapshot) (core task : ℕ) (cause : Cause) (instr : Instr) → RunsInstr app s core task instr → IsOn app s p task
     → IsConsistent app (all_have_time_left s.tick) (concluded (record { state = p; outcome = Fails cause }) core task)
 IsOn-fails app s p core task cause instr calls on =
     IsConsistent-stopped app (all_have_time_left s.tick) p core task (Failed cause) (omega (arith, calls.there, on.stays.same_length))
-    (subst (λ phase. 1 ≤ seats_to_run phase) (sym on.stays.phase) calls.runs) (omega (arith, calls.has_core, ap length on.cores))
+    (subst (λ phase. 1 ≤ times_to_run phase) (sym on.stays.phase) calls.runs) (omega (arith, calls.has_core, ap length on.cores))
     (ap (λ (cores : List (Option ℕ)). get_or cores core None) on.cores ∙ calls.on_core) refl refl on.free tt tt on.consistent
 
 -- ---- a call that is tried again
@@ -240,7 +240,7 @@ NameGone-name_gone app s task held there has_held call nowhere names at = by_nam
           (stays (λ other is. differs (some_is holder task (sym e ∙ ap (holder_at s) (sym (named_at_call app s task held other there call at is)) ∙ is))))
     ]
 
-first_runs : (phase : Phase) (instr : Instr) → 1 ≤ seats_to_run phase → tries_again phase ≡ false → is_in_group (place_of_call instr) ≡ false
+first_runs : (phase : Phase) (instr : Instr) → 1 ≤ times_to_run phase → tries_again phase ≡ false → is_in_group (place_of_call instr) ≡ false
     → PhaseFitsCall phase instr → phase ≡ Run
 first_runs Run instr runs first none at = refl
 first_runs (Again deadline) instr runs first none at = absurd (false≢true (sym first))
@@ -274,7 +274,7 @@ IsOn-come_back app s core task held instr calls at_place has_held entries names 
         let x = task_at s task in
         let at = IsConsistent-valid app s calls.valid in
         let D = all_have_time_left s.tick in
-        let nowhere = runner_waits_nowhere x.phase (has_seat (can_run x.phase) calls.runs) in
+        let nowhere = runner_waits_nowhere x.phase (true_if_one (can_run x.phase) calls.runs) in
         let call : IsCallAt app s task held = ap place_of_call calls.at_instr ∙ at_place in
         let gone = NameGone-name_gone app s task held calls.there has_held call nowhere names at in
         let p = name_gone s held task in
@@ -311,7 +311,7 @@ IsOn-come_back app s core task held instr calls at_place has_held entries names 
 -- ---- a task that waits as a reader or writer
 
 IsConsistent-waiting_held : (app : Application) (D : ℕ → Phase → Type 0) (s : Snapshot) (core task : ℕ) (held : Held) (deadline : Option ℕ) → HasEntry s task 0
-    → 1 ≤ seats_to_run (task_at s task).phase → core < length s.cores → core_at s core ≡ Some task → HasHeld s held → holder_at s held ≡ None
+    → 1 ≤ times_to_run (task_at s task).phase → core < length s.cores → core_at s core ≡ Some task → HasHeld s held → holder_at s held ≡ None
     → IsCallAt app s task held → IsFree s.objects task (task_at s task).entries → D task (Wait (sort.Held held) deadline) → IsConsistent app D s
     → IsConsistent app D (stopped (with_entry (with_holder s held (Some task)) task 0 (entry_waiting (entry_at s task 0))) core task (Wait (sort.Held held) deadline))
 IsConsistent-waiting_held app D s core task held deadline has runs has_core e has_held nobody call free asked at =
@@ -349,7 +349,7 @@ IsConsistent-waiting_held app D s core task held deadline has runs has_core e ha
           (λ apart. absurd (free.unnamed other (sym (goes.others other apart) ∙ is)));
       names = λ other is. ap (holder_in p.objects) (sym (held_is held other is)) ∙ goes.here;
     })
-    (SeatsGo-off_core app D s core task phase has.0 runs has_core e refl at)
+    (LineupGoes-off_core app D s core task phase has.0 runs has_core e refl at)
     (ObjectsGo-holder app D s held (Some task) task phase has.0 has_held (λ t differs is. differs (some_is t task (sym is)))
     (λ t differs is. none_is_some t (sym nobody ∙ is)) (λ list. sym (waits_nowhere list x.phase runs)) at) at
 
@@ -369,7 +369,7 @@ IsOn-waits_held app s p core task held wait instr calls at_place has_held entrie
         → IsConsistent app (all_have_time_left s.tick) (concluded (waits_where o p task held wait) core task)
     by_name None nobody =
         IsConsistent-waiting_held app (all_have_time_left s.tick) p core task held (deadline_of p task wait) has
-        (subst (λ phase. 1 ≤ seats_to_run phase) (sym on.stays.phase) calls.runs) (omega (arith, calls.has_core, ap length on.cores))
+        (subst (λ phase. 1 ≤ times_to_run phase) (sym on.stays.phase) calls.runs) (omega (arith, calls.has_core, ap length on.cores))
         (ap (λ (cores : List (Option ℕ)). get_or cores core None) on.cores ∙ calls.on_core) has_held nobody
         (ap (λ pc. place_of_call (instr_at app task pc)) on.stays.pc ∙ ap place_of_call calls.at_instr ∙ at_place) on.free
         (ap (λ tick. is_ahead tick (deadline_of p task wait)) (sym on.tick) ∙ ahead) on.consistent
@@ -444,7 +444,7 @@ IsOn-completed app s p core task held instr calls has_held entries on = by_name 
         λ other u is. by_held other held
         (λ one. absurd (none_is_some u (sym goes.here ∙ ap (holder_in (objects_naming q.objects held None)) (sym one) ∙ is)))
         (λ apart. sym (after.holders other) ∙ sym (goes.others other apart) ∙ is) in
-        let stays = StaysThere-told priorities p task t 0 entry there (subst (λ phase. 1 ≤ seats_to_run phase) (sym on.stays.phase) calls.runs) in
+        let stays = StaysThere-told priorities p task t 0 entry there (subst (λ phase. 1 ≤ times_to_run phase) (sym on.stays.phase) calls.runs) in
         record {
           consistent = IsConsistent-name_gone app D q held t in_q has_q (after.holders held ∙ e) nowhere at_q;
           stays = record {

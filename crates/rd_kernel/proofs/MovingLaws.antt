@@ -12,7 +12,7 @@ use Rattle.rd_state.specs.declared.phase.Held.{Held}
 use Rattle.rd_wait.specs.Joined.{IsInOrder, joined}
 use Rattle.rd_state.specs.Snapshot.{Snapshot, TaskSnapshot, core_at, task_at, with_task}
 use Rattle.rd_state.specs.Objects.{ObjectsSnapshot, shapes_in}
-use Rattle.rd_state.specs.Valid.{EntriesFitCall, HoldersFitCall, entry_of_call, is_in_list, is_on, seats_to_run, state_of_entry, times_in_list, times_on_cores}
+use Rattle.rd_state.specs.Valid.{EntriesFitCall, HoldersFitCall, entry_of_call, is_in_list, is_on, times_to_run, state_of_entry, times_in_list, times_on_cores}
 use Rattle.rd_state.specs.Valid.{times_waiting_in, waits_in}
 use Rattle.rd_state.specs.Waiting.{HasHeld, HasList, entry_of, holder_at, holder_in, is_by_priority, listed_at, objects_naming, objects_then, same_list, waiting_at}
 use Rattle.rd_state.specs.Waiting.{waiting_in}
@@ -34,7 +34,7 @@ use Rattle.rd_app.specs.declared.instr.Instr.{Instr}
 use Rattle.rd_notify.specs.declared.entries.Entry.{Entry}
 use Rattle.rd_notify.specs.declared.entries.EntryState.TheVariants.{Waiting}
 
--- ---- what a phase says of its task's seat, and of where it waits
+-- ---- what a phase says of whether its task is lined up, and of where it waits
 
 pub none_is_some : {X : Type 0} (x : X) → None ≡ Some x → ⊥
 none_is_some x e = cc
@@ -48,36 +48,36 @@ runner_waits_nowhere (Wait place deadline) e = absurd (false≢true e)
 runner_waits_nowhere Ended e = refl
 runner_waits_nowhere (Failed cause) e = refl
 
--- It is one that has a seat.
-pub has_seat : (runs : Bool) → 1 ≤ cond runs 1 0 → runs ≡ true
-has_seat true h = refl
-has_seat false h = absurd (omega (arith, h))
+-- What counts as one is true: so a task that is lined up can run.
+pub true_if_one : (runs : Bool) → 1 ≤ cond runs 1 0 → runs ≡ true
+true_if_one true h = refl
+true_if_one false h = absurd (omega (arith, h))
 
-pub seats_to_run-one : (phase : Phase) → 1 ≤ seats_to_run phase → seats_to_run phase ≡ 1
-seats_to_run-one phase h = ap one_if (has_seat (can_run phase) h)
+pub times_to_run-one : (phase : Phase) → 1 ≤ times_to_run phase → times_to_run phase ≡ 1
+times_to_run-one phase h = ap one_if (true_if_one (can_run phase) h)
 
-pub seats_to_run-at_most_one : (phase : Phase) → seats_to_run phase ≤ 1
-seats_to_run-at_most_one phase = elim (can_run phase) as (λ b. cond b 1 0 ≤ 1) [ true ↦ omega arith | false ↦ omega arith ]
+pub times_to_run-at_most_one : (phase : Phase) → times_to_run phase ≤ 1
+times_to_run-at_most_one phase = elim (can_run phase) as (λ b. cond b 1 0 ≤ 1) [ true ↦ omega arith | false ↦ omega arith ]
 
-pub waits_nowhere : (place : Listed) (phase : Phase) → 1 ≤ seats_to_run phase → times_waiting_in place phase ≡ 0
-waits_nowhere place phase h = ap (λ o. one_if (is_in_list place (option_and_then listed_at o))) (runner_waits_nowhere phase (has_seat (can_run phase) h))
+pub waits_nowhere : (place : Listed) (phase : Phase) → 1 ≤ times_to_run phase → times_waiting_in place phase ≡ 0
+waits_nowhere place phase h = ap (λ o. one_if (is_in_list place (option_and_then listed_at o))) (runner_waits_nowhere phase (true_if_one (can_run phase) h))
 
--- One that waits has no seat.
-pub waiter_is_idle : (phase : Phase) (place : Place) → waits_at phase ≡ Some place → seats_to_run phase ≡ 0
-waiter_is_idle phase place waits = by_seat (can_run phase) refl
+-- One that waits isn't lined up.
+pub waiter_is_idle : (phase : Phase) (place : Place) → waits_at phase ≡ Some place → times_to_run phase ≡ 0
+waiter_is_idle phase place waits = by_run (can_run phase) refl
   where
-    by_seat : (b : Bool) → can_run phase ≡ b → one_if b ≡ 0
-    by_seat true e = absurd (none_is_some place (sym (runner_waits_nowhere phase e) ∙ waits))
-    by_seat false e = refl
+    by_run : (b : Bool) → can_run phase ≡ b → one_if b ≡ 0
+    by_run true e = absurd (none_is_some place (sym (runner_waits_nowhere phase e) ∙ waits))
+    by_run false e = refl
 
 pub times_waiting_in-at_most_one : (place : Listed) (phase : Phase) → times_waiting_in place phase ≤ 1
 times_waiting_in-at_most_one place phase = elim (is_in_list place (waits_in phase)) as (λ b. cond b 1 0 ≤ 1) [ true ↦ omega arith | false ↦ omega arith ]
 
 -- Who waits somewhere can't run, and so who is due.
-pub waits_idle : (place : Listed) (phase : Phase) → 1 ≤ times_waiting_in place phase → seats_to_run phase ≡ 0
+pub waits_idle : (place : Listed) (phase : Phase) → 1 ≤ times_waiting_in place phase → times_to_run phase ≡ 0
 waits_idle place phase = by_place (waits_at phase) refl
   where
-    by_place : (o : Option Place) → waits_at phase ≡ o → 1 ≤ cond (is_in_list place (option_and_then listed_at o)) 1 0 → seats_to_run phase ≡ 0
+    by_place : (o : Option Place) → waits_at phase ≡ o → 1 ≤ cond (is_in_list place (option_and_then listed_at o)) 1 0 → times_to_run phase ≡ 0
     by_place None e h = absurd (omega (arith, h))
     by_place (Some other) e h = waiter_is_idle phase other e
 
@@ -128,10 +128,10 @@ HoldersFitCall-free o task phase instr entries none free = record {
 
 -- ---- a task that goes elsewhere, in two halves that know nothing of each other
 
--- Its seat: who is ready and on cores, once its phase is that one.
-pub record SeatsGo (priorities was_ready ready : List ℕ) (was_cores cores : List (Option ℕ)) (task : ℕ) (phase : Phase) : Type 0 where
+-- The line-up: who is ready and on cores, once its phase is that one.
+pub record LineupGoes (priorities was_ready ready : List ℕ) (was_cores cores : List (Option ℕ)) (task : ℕ) (phase : Phase) : Type 0 where
   pub same_cores : length cores ≡ length was_cores
-  pub seats : times_in_list task ready + times_on_cores task cores ≡ seats_to_run phase
+  pub lined_up : times_in_list task ready + times_on_cores task cores ≡ times_to_run phase
   pub others : (t : ℕ) → t ≢ task → times_in_list t ready + times_on_cores t cores ≡ times_in_list t was_ready + times_on_cores t was_cores
   pub order : IsInOrder priorities ready
 
@@ -154,16 +154,16 @@ HoldersFitCall-others priorities o n task t to phase instr objects differs fit =
 
 pub IsConsistent-moves : (app : Application) (D : ℕ → Phase → Type 0) (s p : Snapshot) (task : ℕ) (x : TaskSnapshot) → task < length s.tasks
     → p.tasks ≡ set s.tasks task x → IsConsistentTask app D task x → HoldersFitCall p.objects task x.phase (instr_at app task x.pc)
-    → SeatsGo (priorities_of app) s.ready p.ready s.cores p.cores task x.phase → ObjectsGo (priorities_of app) s.objects p.objects task x.phase
+    → LineupGoes (priorities_of app) s.ready p.ready s.cores p.cores task x.phase → ObjectsGo (priorities_of app) s.objects p.objects task x.phase
     → IsConsistent app D s → IsConsistent app D p
-IsConsistent-moves app D s p task x there is consistent places seat objects at = record {
-  cores = seat.same_cores ∙ at.cores;
+IsConsistent-moves app D s p task x there is consistent places lineup objects at = record {
+  cores = lineup.same_cores ∙ at.cores;
   tasks = ap length is ∙ length-set s.tasks task x ∙ at.tasks;
   each = task_or_other s p task x (IsConsistentTask app D) there is consistent (λ t differs h. at.each t h);
   shapes = objects.shapes ∙ at.shapes;
-  seated_once = task_or_other s p task x (λ t y. times_in_list t p.ready + times_on_cores t p.cores ≡ seats_to_run y.phase) there is seat.seats
-      (λ t differs h. seat.others t differs ∙ at.seated_once t h);
-  waiting_lists = record { ready = seat.order; waiting = objects.order };
+  lined_up_once = task_or_other s p task x (λ t y. times_in_list t p.ready + times_on_cores t p.cores ≡ times_to_run y.phase) there is lineup.lined_up
+      (λ t differs h. lineup.others t differs ∙ at.lined_up_once t h);
+  waiting_lists = record { ready = lineup.order; waiting = objects.order };
   places = λ place. task_or_other s p task x (λ t y. times_in_list t (waiting_at p place) ≡ times_waiting_in place y.phase) there is (objects.waits place)
       (λ t differs h. objects.others place t differs ∙ at.places place t h);
   holders = task_or_other s p task x (λ t y. HoldersFitCall p.objects t y.phase (instr_at app t y.pc)) there is places
@@ -171,41 +171,41 @@ IsConsistent-moves app D s p task x there is consistent places seat objects at =
       (at.holders t h));
 }
 
--- It keeps its seat, or goes on without one.
-pub SeatsGo-stay : (app : Application) (D : ℕ → Phase → Type 0) (s : Snapshot) (task : ℕ) (phase : Phase) → task < length s.tasks
-    → seats_to_run phase ≡ seats_to_run (task_at s task).phase → IsConsistent app D s
-    → SeatsGo (priorities_of app) s.ready s.ready s.cores s.cores task phase
-SeatsGo-stay app D s task phase there runs at = record {
+-- It is lined up as it was, or still isn't.
+pub LineupGoes-stay : (app : Application) (D : ℕ → Phase → Type 0) (s : Snapshot) (task : ℕ) (phase : Phase) → task < length s.tasks
+    → times_to_run phase ≡ times_to_run (task_at s task).phase → IsConsistent app D s
+    → LineupGoes (priorities_of app) s.ready s.ready s.cores s.cores task phase
+LineupGoes-stay app D s task phase there runs at = record {
   same_cores = refl;
-  seats = at.seated_once task there ∙ sym runs;
+  lined_up = at.lined_up_once task there ∙ sym runs;
   others = λ t differs. refl;
   order = at.waiting_lists.ready;
 }
 
 -- It leaves its core.
-pub SeatsGo-off_core : (app : Application) (D : ℕ → Phase → Type 0) (s : Snapshot) (core task : ℕ) (phase : Phase) → task < length s.tasks
-    → 1 ≤ seats_to_run (task_at s task).phase → core < length s.cores → core_at s core ≡ Some task → seats_to_run phase ≡ 0 → IsConsistent app D s
-    → SeatsGo (priorities_of app) s.ready s.ready s.cores (set s.cores core None) task phase
-SeatsGo-off_core app D s core task phase there runs has_core e idle at =
+pub LineupGoes-off_core : (app : Application) (D : ℕ → Phase → Type 0) (s : Snapshot) (core task : ℕ) (phase : Phase) → task < length s.tasks
+    → 1 ≤ times_to_run (task_at s task).phase → core < length s.cores → core_at s core ≡ Some task → times_to_run phase ≡ 0 → IsConsistent app D s
+    → LineupGoes (priorities_of app) s.ready s.ready s.cores (set s.cores core None) task phase
+LineupGoes-off_core app D s core task phase there runs has_core e idle at =
     let off_core : (t : ℕ) → times_on_cores t (set s.cores core None) + one_if (nat_eq t task) ≡ times_on_cores t s.cores =
     λ t. omega (arith, times_on_cores-set t core s.cores None has_core, ap (λ r. one_if (is_on t r)) e) in
     record {
       same_cores = length-set s.cores core None;
-      seats = omega (arith, off_core task, same_one task, at.seated_once task there, seats_to_run-one (task_at s task).phase runs, idle);
+      lined_up = omega (arith, off_core task, same_one task, at.lined_up_once task there, times_to_run-one (task_at s task).phase runs, idle);
       others = λ t differs. omega (arith, off_core t, other_none t task differs);
       order = at.waiting_lists.ready;
     }
 
 -- It joins those that are ready.
-pub SeatsGo-ready : (app : Application) (D : ℕ → Phase → Type 0) (s : Snapshot) (task : ℕ) (phase : Phase) → task < length s.tasks
-    → seats_to_run (task_at s task).phase ≡ 0 → seats_to_run phase ≡ 1 → IsConsistent app D s
-    → SeatsGo (priorities_of app) s.ready (joined (priorities_of app) s.ready task) s.cores s.cores task phase
-SeatsGo-ready app D s task phase there idle runs at =
+pub LineupGoes-ready : (app : Application) (D : ℕ → Phase → Type 0) (s : Snapshot) (task : ℕ) (phase : Phase) → task < length s.tasks
+    → times_to_run (task_at s task).phase ≡ 0 → times_to_run phase ≡ 1 → IsConsistent app D s
+    → LineupGoes (priorities_of app) s.ready (joined (priorities_of app) s.ready task) s.cores s.cores task phase
+LineupGoes-ready app D s task phase there idle runs at =
     let times : (t : ℕ) → times_in_list t (joined (priorities_of app) s.ready task) ≡ times_in_list t s.ready + one_if (nat_eq t task) =
     λ t. times_in_list-joined (priorities_of app) s.ready t task in
     record {
       same_cores = refl;
-      seats = omega (arith, times task, same_one task, at.seated_once task there, idle, runs);
+      lined_up = omega (arith, times task, same_one task, at.lined_up_once task there, idle, runs);
       others = λ t differs. omega (arith, times t, other_none t task differs);
       order = IsInOrder-joined (priorities_of app) s.ready task at.waiting_lists.ready;
     }
@@ -266,7 +266,7 @@ ObjectsGo-list app D s place waiting wishes task phase there goes at =
 
 -- It comes to wait.
 pub ListGoes-joined : (app : Application) (D : ℕ → Phase → Type 0) (s : Snapshot) (place : Listed) (task : ℕ) (phase : Phase) → task < length s.tasks
-    → HasList s place → 1 ≤ seats_to_run (task_at s task).phase → waits_at phase ≡ Some (sort.Listed place) → IsConsistent app D s
+    → HasList s place → 1 ≤ times_to_run (task_at s task).phase → waits_at phase ≡ Some (sort.Listed place) → IsConsistent app D s
     → ListGoes (priorities_of app) s place (joined (priorities_of app) (waiting_at s place) task) task phase
 ListGoes-joined app D s place task phase there has_place runs waits at =
     let list = waiting_at s place in
@@ -284,7 +284,7 @@ ListGoes-joined app D s place task phase there has_place runs waits at =
 
 -- It comes to wait at an event group, behind all others.
 pub ListGoes-appended : (app : Application) (D : ℕ → Phase → Type 0) (s : Snapshot) (group task : ℕ) (phase : Phase) → task < length s.tasks
-    → HasList s (Group group) → 1 ≤ seats_to_run (task_at s task).phase → waits_at phase ≡ Some (sort.Listed (Group group)) → IsConsistent app D s
+    → HasList s (Group group) → 1 ≤ times_to_run (task_at s task).phase → waits_at phase ≡ Some (sort.Listed (Group group)) → IsConsistent app D s
     → ListGoes (priorities_of app) s (Group group) (waiting_at s (Group group) ++ task ∷ []) task phase
 ListGoes-appended app D s group task phase there has_place runs waits at =
     let place = Group group in
@@ -304,7 +304,7 @@ ListGoes-appended app D s group task phase there has_place runs waits at =
 -- It has waited, and can run.
 pub ListGoes-left : (app : Application) (D : ℕ → Phase → Type 0) (s : Snapshot) (place : Listed) (task : ℕ) (phase : Phase)
     (f : FoundInList task (waiting_at s place)) → task < length s.tasks → waits_at (task_at s task).phase ≡ Some (sort.Listed place)
-    → 1 ≤ times_in_list task (waiting_at s place) → 1 ≤ seats_to_run phase → IsConsistent app D s
+    → 1 ≤ times_in_list task (waiting_at s place) → 1 ≤ times_to_run phase → IsConsistent app D s
     → ListGoes (priorities_of app) s place (remove (waiting_at s place) f.index) task phase
 ListGoes-left app D s place task phase f there waits some runs at =
     let list = waiting_at s place in
@@ -344,9 +344,9 @@ ObjectsGo-holder app D s held who task phase there has_held no_other no_other_be
 -- A task is replaced by one that stands as often on cores and in lists.
 pub IsConsistent-task_replaced : (app : Application) (D : ℕ → Phase → Type 0) (s : Snapshot) (task : ℕ) (x : TaskSnapshot) → task < length s.tasks
     → IsConsistentTask app D task x
-    → seats_to_run x.phase ≡ seats_to_run (task_at s task).phase
+    → times_to_run x.phase ≡ times_to_run (task_at s task).phase
     → ((place : Listed) → times_waiting_in place x.phase ≡ times_waiting_in place (task_at s task).phase)
     → HoldersFitCall s.objects task x.phase (instr_at app task x.pc) → IsConsistent app D s → IsConsistent app D (with_task s task x)
 IsConsistent-task_replaced app D s task x there consistent runs waits places at =
-    IsConsistent-moves app D s (with_task s task x) task x there refl consistent places (SeatsGo-stay app D s task x.phase there runs at)
+    IsConsistent-moves app D s (with_task s task x) task x there refl consistent places (LineupGoes-stay app D s task x.phase there runs at)
     (ObjectsGo-stay app D s task x.phase there waits at) at

@@ -1,5 +1,5 @@
 -- The laws of rd_kernel that crates above stand on. No other of its proofs is used there.
-pub use Rattle.rd_kernel.proofs.ConsistentLaws.{ContentsChange, HoldersFitCall-objects, IsConsistent, IsConsistent-contents, IsConsistent-deadlines, IsConsistent-seats}
+pub use Rattle.rd_kernel.proofs.ConsistentLaws.{ContentsChange, HoldersFitCall-objects, IsConsistent, IsConsistent-contents, IsConsistent-deadlines, IsConsistent-rescheduled}
 pub use Rattle.rd_kernel.proofs.ConsistentLaws.{IsConsistent-valid, IsValid-consistent, all_have_time_left, both, map_kept, place_there, read_kept, task_now}
 pub use Rattle.rd_kernel.proofs.WakingLaws.{AfterWaking, AfterWaking-woken_all, TimedOut, TimedOut-so_far, all_looked_at, any_deadline, first_tries_wait, timed_out-next}
 pub use Rattle.rd_kernel.proofs.CallLaws.{IsConsistent-advanced, IsConsistent-returned_alone, IsConsistent-done, IsConsistent-failed}
@@ -8,7 +8,7 @@ pub use Rattle.rd_kernel.proofs.CallLaws.{IsConsistent-with_values, IsDone, Runs
 pub use Rattle.rd_kernel.proofs.CallLaws.{room_in_ready, runs_on_core, runs_outside_calls, waits_is_task, woken_first-tick}
 pub use Rattle.rd_kernel.proofs.TaskListLaws.{first_is_listed, first_waits, other_none, same_one}
 pub use Rattle.rd_kernel.proofs.CallLaws.{free_at}
-pub use Rattle.rd_kernel.proofs.MovingLaws.{IsFree, IsFree-objects, free_in_call, free_in_run, has_seat, none_is_some, runner_waits_nowhere}
+pub use Rattle.rd_kernel.proofs.MovingLaws.{IsFree, IsFree-objects, free_in_call, free_in_run, true_if_one, none_is_some, runner_waits_nowhere}
 pub use Rattle.rd_kernel.proofs.EntryLaws.{IsConsistent-told, IsConsistent-waiting_for_entry, IsConsistent-with_entry, StaysThere, StaysThere-told}
 pub use Rattle.rd_kernel.proofs.EntryLaws.{StaysThere-with_entry, free_of_entry, told-tick}
 pub use Rattle.rd_kernel.proofs.HoldingLaws.{IsOn, IsOn-come_back, IsOn-completed, IsOn-contents, IsOn-fails, IsOn-outside, IsOn-returns, IsOn-values}

@@ -46,7 +46,7 @@ use Rattle.rd_kernel.proofs.ConsistentLaws.{read_kept}
 use Rattle.rd_kernel.proofs.EntryLaws.{EachStays-task}
 use Rattle.rd_kernel.proofs.HeldStepLaws.{IsBeside}
 use Rattle.rd_kernel.proofs.HolderLaws.{HolderGoes-naming, by_held}
-use Rattle.rd_kernel.proofs.MovingLaws.{has_seat, none_is_some, runner_waits_nowhere}
+use Rattle.rd_kernel.proofs.MovingLaws.{true_if_one, none_is_some, runner_waits_nowhere}
 use Rattle.rd_kernel.proofs.TaskListLaws.{first_is_listed, other_none}
 use Rattle.rd_kernel.proofs.WakingLaws.{AfterWaking-woken_all, due_is_listed}
 
@@ -209,7 +209,7 @@ pub runner_is_another : (app : Application) (s : Snapshot) (core caller task : �
 runner_is_another app s core caller task own valid on_core sleeper same = elim (cases_lt core (length s.cores)) [
   | inl has_core ↦
       let phase = (task_at s caller).phase in
-      let nowhere = runner_waits_nowhere phase (has_seat (can_run phase) (runs_on_core app s core caller valid has_core on_core)) in
+      let nowhere = runner_waits_nowhere phase (true_if_one (can_run phase) (runs_on_core app s core caller valid has_core on_core)) in
       none_is_some (sort.Held own) (sym nowhere ∙ ap (λ n. waits_at (task_at s n).phase) (sym same) ∙ sleeper.waits)
   | inr past ↦ none_is_some caller (sym (get_or_past s.cores core None past) ∙ on_core)
 ]

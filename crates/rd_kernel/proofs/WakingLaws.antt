@@ -13,7 +13,7 @@ use Rattle.rd_state.specs.declared.phase.Listed.{Listed}
 use Rattle.rd_app.specs.Application.{Application, instr_at, max_delay, priorities_of}
 use Rattle.rd_wait.specs.Joined.{joined}
 use Rattle.rd_state.specs.Snapshot.{Snapshot, TaskSnapshot, no_task, task_at}
-use Rattle.rd_state.specs.Valid.{EntriesFitCall, FitsCall, HasTimeLeft, HoldersFitCall, PhaseFitsCall, is_ahead, is_in_list, place_of_call, seats_to_run}
+use Rattle.rd_state.specs.Valid.{EntriesFitCall, FitsCall, HasTimeLeft, HoldersFitCall, PhaseFitsCall, is_ahead, is_in_list, place_of_call, times_to_run}
 use Rattle.rd_state.specs.Valid.{times_in_list}
 use Rattle.rd_state.specs.Waiting.{holder_at, holder_in, listed_at, waiting_at, waiting_in, wishes_in}
 use Rattle.rd_state.proofs.Offered.{length-joined, one_if, times_in_list-cons}
@@ -26,7 +26,7 @@ use Rattle.rd_kernel.proofs.TaskListLaws.{find_in_list, first_is_listed, other_n
 use Rattle.std.specs.Option.{option_and_then, option_to_list}
 use Rattle.rd_kernel.specs.Waking.{FirstTriesWait, deadline_after, due_below, if_due, is_due, objects_left, objects_without, operand_value, phase_woken, timed_out}
 use Rattle.rd_kernel.specs.Waking.{woken, woken_all, woken_at, woken_first}
-use Rattle.rd_kernel.proofs.MovingLaws.{IsConsistent-moves, ListGoes-left, ObjectsGo-list, ObjectsGo-stay, SeatsGo-ready, none_is_some}
+use Rattle.rd_kernel.proofs.MovingLaws.{IsConsistent-moves, ListGoes-left, ObjectsGo-list, ObjectsGo-stay, LineupGoes-ready, none_is_some}
 use Rattle.rd_kernel.proofs.MovingLaws.{waiter_is_idle, waits_nowhere}
 use Rattle.rd_kernel.specs.declared.waking.Waking.{Waking}
 use Rattle.rd_kernel.specs.declared.waking.Waking.TheVariants.{IsGiven, TriesAgain}
@@ -34,7 +34,7 @@ use Rattle.rd_kernel.specs.declared.waking.Waking.TheVariants.{IsGiven, TriesAga
 -- ---- waking
 
 -- Whoever is woken can run, and waits nowhere.
-woken_runs : (waking : Waking) (phase : Phase) → seats_to_run (phase_woken waking phase) ≡ 1
+woken_runs : (waking : Waking) (phase : Phase) → times_to_run (phase_woken waking phase) ≡ 1
 woken_runs TriesAgain phase = refl
 woken_runs (IsGiven bits) phase = refl
 
@@ -105,7 +105,7 @@ IsConsistent-woken_outside_lists app D waking s task place there e unlisted wake
     IsConsistent-moves app D s p task x there refl
     (record { pc = was.pc; entry_count = was.entry_count; call = wakes.call; deadline = wakes.deadline; entries = wakes.entries })
     (named_woken app D waking s.objects s.objects task (task_at s task) (λ held. refl) wakes (at.holders task there))
-    (SeatsGo-ready app D s task phase there (waiter_is_idle (task_at s task).phase place e) (woken_runs waking (task_at s task).phase) at)
+    (LineupGoes-ready app D s task phase there (waiter_is_idle (task_at s task).phase place e) (woken_runs waking (task_at s task).phase) at)
     (ObjectsGo-stay app D s task phase there
     (λ list. waits_nowhere list phase (omega (arith, woken_runs waking (task_at s task).phase))
     ∙ sym (ap (λ o. one_if (is_in_list list (option_and_then listed_at o))) e ∙ ap (λ o. one_if (is_in_list list o)) unlisted)) at) at
@@ -128,7 +128,7 @@ IsConsistent-woken_at app D waking s task (Some (sort.Listed place)) there e may
     (record { pc = was.pc; entry_count = was.entry_count; call = wakes.call; deadline = wakes.deadline; entries = wakes.entries })
     (named_woken app D waking s.objects (after (Some f.index)).objects task (task_at s task)
     (holders_then s.objects place (remove (waiting_at s place) f.index) (remove (wishes_in s.objects place) f.index)) wakes (at.holders task there))
-    (SeatsGo-ready app D s task phase there (waiter_is_idle (task_at s task).phase (sort.Listed place) e) (woken_runs waking (task_at s task).phase) at)
+    (LineupGoes-ready app D s task phase there (waiter_is_idle (task_at s task).phase (sort.Listed place) e) (woken_runs waking (task_at s task).phase) at)
     (ObjectsGo-list app D s place (remove (waiting_at s place) f.index) (remove (wishes_in s.objects place) f.index) task phase there
     (ListGoes-left app D s place task phase f there e some (omega (arith, woken_runs waking (task_at s task).phase)) at) at) at)
 IsConsistent-woken_at app D waking s task (Some (sort.Held held)) there e may at =

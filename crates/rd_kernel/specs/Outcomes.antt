@@ -10,7 +10,7 @@ use Rattle.rd_state.specs.Edit.{Edit, Reaches}
 use Rattle.rd_state.specs.Sizes.{IsSizedPhase}
 use Rattle.rd_state.specs.Snapshot.{Snapshot, numbers_of, task_at}
 use Rattle.rd_state.specs.Objects.{Numbers}
-use Rattle.rd_state.specs.Valid.{IsValid, seats_to_run}
+use Rattle.rd_state.specs.Valid.{IsValid, times_to_run}
 use Rattle.rd_state.specs.Waiting.{HasList, waiting_at}
 use Rattle.rd_kernel.specs.declared.outcome.Outcome.{Outcome}
 use Rattle.rd_kernel.specs.declared.outcome.Outcome.TheVariants.{Returns, ReturnsBoth, Waits, Fails}
@@ -22,7 +22,7 @@ use Rattle.rd_kernel.specs.Waking.{ReadyHasRoom, deadline_of, may_wait, with_wai
 pub record IsCalling (app : Application) (s : Snapshot) (task : ℕ) : Type 0 where
   pub valid : IsValid app s
   pub there : task < length s.tasks
-  pub runs : 1 ≤ seats_to_run (task_at s task).phase
+  pub runs : 1 ≤ times_to_run (task_at s task).phase
   pub room_to_wait : (list : Listed) → HasList s list
       → length (waiting_at s list) < length s.tasks
   pub room_to_wake : ReadyHasRoom s

@@ -6,7 +6,7 @@ ghost use Rattle.rd_app.specs.Application.{IsOperand, priorities_of};
 ghost use Rattle.rd_state.specs.Edit.{Reaches, GivesUp};
 ghost use Rattle.rd_state.specs.Sizes.{IsDeadline};
 ghost use Rattle.rd_state.specs.Snapshot.{numbers_of, task_at};
-ghost use Rattle.rd_state.specs.Valid.{is_ahead, seats_to_run};
+ghost use Rattle.rd_state.specs.Valid.{is_ahead, times_to_run};
 ghost use Rattle.rd_state.specs.Waiting.{HasList, IsPlace, is_by_priority, waiting_at};
 ghost use Rattle.rd_kernel.specs.Costs.{waking_cost};
 ghost use Rattle.rd_kernel.specs.Outcomes.{DoesCall, IsCalling, blocked, passed};
@@ -175,7 +175,7 @@ pub fn wake(
     requires priorities { length priorities.now ≡ length editing.old.now.tasks }
     ensures ok { OnOk result (Reaches editing.old editing.new
         (woken priorities.now waking editing.old.now task) waking_cost) }
-    ensures awake { 1 ≤ seats_to_run (task_at editing.old.now task).phase → IsOk result }
+    ensures awake { 1 ≤ times_to_run (task_at editing.old.now task).phase → IsOk result }
     ensures err { OnErr result (GivesUp editing.old editing.new waking_cost) }
 {
     let phase = editing.state().phase(task);

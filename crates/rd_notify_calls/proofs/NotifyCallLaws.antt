@@ -11,7 +11,7 @@ use Rattle.rd_app.specs.declared.instr.NotifyCall.TheVariants.{ClearState, Clear
 use Rattle.rd_app.specs.declared.instr.Operand.{Operand}
 use Rattle.rd_kernel.proofs.Offered.{IsConsistent, IsConsistent-returned, IsConsistent-returned_alone, IsConsistent-told, IsConsistent-valid}
 use Rattle.rd_kernel.proofs.Offered.{IsConsistent-waiting_for_entry, IsConsistent-with_entry, IsConsistent-with_values, IsFree, RunsInstr, StaysThere}
-use Rattle.rd_kernel.proofs.Offered.{StaysThere-told, StaysThere-with_entry, all_have_time_left, free_in_call, free_in_run, free_of_entry, has_seat}
+use Rattle.rd_kernel.proofs.Offered.{StaysThere-told, StaysThere-with_entry, all_have_time_left, free_in_call, free_in_run, free_of_entry, true_if_one}
 use Rattle.rd_kernel.proofs.Offered.{none_is_some, read_kept, runner_waits_nowhere, task_now, told-tick}
 use Rattle.rd_kernel.specs.Outcomes.{Called, call_fails, call_gives, call_passes, call_returns, concluded}
 use Rattle.rd_kernel.specs.Tasks.{HasEntry, entry_at, with_entry, with_register}
@@ -28,7 +28,7 @@ use Rattle.rd_notify_calls.specs.NotifyCalls.{answer_to, clear_state_outcome, en
 use Rattle.rd_notify_calls.specs.NotifyCalls.{take_outcome}
 use Rattle.rd_state.specs.Phases.{can_run, is_first}
 use Rattle.rd_state.specs.Snapshot.{Snapshot, TaskSnapshot, no_task, task_at, with_task}
-use Rattle.rd_state.specs.Valid.{EntriesFitCall, HoldersFitCall, IsValid, entry_of_call, place_of_call, seats_to_run}
+use Rattle.rd_state.specs.Valid.{EntriesFitCall, HoldersFitCall, IsValid, entry_of_call, place_of_call, times_to_run}
 use Rattle.rd_state.specs.Waiting.{entry_of}
 use Rattle.rd_state.specs.declared.phase.Phase.{Phase}
 use Rattle.rd_state.specs.declared.phase.Phase.TheVariants.{Again, Ended, Failed, Given, Run, Wait}
@@ -49,7 +49,7 @@ returns_there app s p core task value instr calls none stays at =
     let free = free_in_call p.objects task (task_at p task).phase instr (task_at p task).entries none
     (subst (λ i. EntriesFitCall (task_at p task).phase i (task_at p task).entries) is (at.each task there).entries)
     (subst (HoldersFitCall p.objects task (task_at p task).phase) is (at.holders task there)) in
-    IsConsistent-returned app (all_have_time_left s.tick) p task value there (subst (λ phase. 1 ≤ seats_to_run phase) (sym stays.phase) calls.runs) free
+    IsConsistent-returned app (all_have_time_left s.tick) p task value there (subst (λ phase. 1 ≤ times_to_run phase) (sym stays.phase) calls.runs) free
     (omega (arith, calls.within, stays.pc)) tt at
 
 -- the same of one that gets a second value
@@ -177,7 +177,7 @@ LooksAt-idle app s core task index entry instr calls through has idle =
     let D = all_have_time_left s.tick in
     let at = IsConsistent-valid app s calls.valid in
     let x = task_at s task in
-    let nowhere = runner_waits_nowhere x.phase (has_seat (can_run x.phase) calls.runs) in
+    let nowhere = runner_waits_nowhere x.phase (true_if_one (can_run x.phase) calls.runs) in
     let p = with_entry s task index entry in
     let now = task_now s task (record x { entries = set x.entries index entry }) has.0 in
     let stays = StaysThere-with_entry s task index entry has.0 in
@@ -189,7 +189,7 @@ LooksAt-idle app s core task index entry instr calls through has idle =
     let free : IsFree s.objects task (task_at p task).entries =
     subst (λ (t : TaskSnapshot). IsFree s.objects task t.entries) (sym now)
     (free_of_entry s.objects task x.phase instr x.entries index entry has.1 through idle fit named) in
-    let runs = subst (λ phase. 1 ≤ seats_to_run phase) (sym stays.phase) calls.runs in
+    let runs = subst (λ phase. 1 ≤ times_to_run phase) (sym stays.phase) calls.runs in
     let within : (task_at p task).pc + 1 < length (code_of app task) = omega (arith, calls.within, stays.pc) in
     record {
       returns = λ value. IsConsistent-returned app D p task value there runs free within tt at_p;
@@ -198,7 +198,7 @@ LooksAt-idle app s core task index entry instr calls through has idle =
           let q = with_task p task y in
           let later = task_now p task y there in
           IsConsistent-returned app D q task value (omega (arith, there, length-set p.tasks task y))
-          (subst (λ (t : TaskSnapshot). 1 ≤ seats_to_run t.phase) (sym later) runs) (subst (λ (t : TaskSnapshot). IsFree s.objects task t.entries) (sym later) free)
+          (subst (λ (t : TaskSnapshot). 1 ≤ times_to_run t.phase) (sym later) runs) (subst (λ (t : TaskSnapshot). IsFree s.objects task t.entries) (sym later) free)
           (subst (λ (t : TaskSnapshot). t.pc + 1 < length (code_of app task)) (sym later) within) tt
           (IsConsistent-with_values app D p task (set (task_at p task).registers 1 second) (task_at p task).bytes there at_p);
     }

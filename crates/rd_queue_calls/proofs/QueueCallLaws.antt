@@ -25,7 +25,7 @@ use Rattle.rd_state.specs.declared.phase.Listed.{Listed}
 use Rattle.rd_state.specs.declared.phase.Listed.TheVariants.{Queue, QueueSet}
 use Rattle.rd_state.specs.Sizes.{IsSized}
 use Rattle.rd_state.specs.Snapshot.{Snapshot, TaskSnapshot, no_task, task_at, queue_at, queue_set_at, with_queue, with_queue_set, items_at}
-use Rattle.rd_state.specs.Valid.{entry_of_call, seats_to_run, times_in_list}
+use Rattle.rd_state.specs.Valid.{entry_of_call, times_to_run, times_in_list}
 use Rattle.rd_state.specs.Waiting.{HasList, holder_at, waiting_at}
 use Rattle.rd_state.proofs.Offered.{queue_sized}
 use Rattle.rd_kernel.specs.Outcomes.{call_returns, call_fails, call_passes, concluded}
@@ -67,7 +67,7 @@ done_as app s p core task instr place calls none consistent tasks has_place same
     record {
       consistent = consistent;
       there = omega (arith, calls.there, ap length tasks);
-      runs = subst (λ (t : TaskSnapshot). 1 ≤ seats_to_run t.phase) (sym is) calls.runs;
+      runs = subst (λ (t : TaskSnapshot). 1 ≤ times_to_run t.phase) (sym is) calls.runs;
       free = IsFree-objects s.objects p.objects task (task_at p task).entries holders
           (subst (λ (t : TaskSnapshot). IsFree s.objects task t.entries) (sym is) (free_at app s core task instr calls none));
       within = subst (λ (t : TaskSnapshot). t.pc + 1 < length (code_of app task)) (sym is) calls.within;
@@ -137,7 +137,7 @@ peeked app s core task queue instr calls none there =
       consistent = IsConsistent-with_values app (all_have_time_left s.tick) s task (task_at s task).registers (get_or (items_at s queue) 0 []) calls.there
           (IsConsistent-valid app s calls.valid);
       there = omega (arith, calls.there, same);
-      runs = subst (λ (t : TaskSnapshot). 1 ≤ seats_to_run t.phase) (sym is) calls.runs;
+      runs = subst (λ (t : TaskSnapshot). 1 ≤ times_to_run t.phase) (sym is) calls.runs;
       free = subst (λ (t : TaskSnapshot). IsFree s.objects task t.entries) (sym is) (free_at app s core task instr calls none);
       within = subst (λ (t : TaskSnapshot). t.pc + 1 < length (code_of app task)) (sym is) calls.within;
       waiters = λ t some. subst (λ n. t < n) (sym same) (waits_is_task s (Queue queue Receiving) t calls.valid.in_limits.sized there some);
@@ -160,7 +160,7 @@ taken app s core task queue instr calls none there =
       consistent = IsConsistent-with_values app D without_item task (task_at s task).registers first calls.there
           (IsConsistent-items app D s queue items there (IsConsistent-valid app s calls.valid));
       there = omega (arith, calls.there, same);
-      runs = subst (λ (t : TaskSnapshot). 1 ≤ seats_to_run t.phase) (sym is) calls.runs;
+      runs = subst (λ (t : TaskSnapshot). 1 ≤ times_to_run t.phase) (sym is) calls.runs;
       free = IsFree-objects s.objects p.objects task (task_at p task).entries (holder_at-with_queue s queue now)
           (subst (λ (t : TaskSnapshot). IsFree s.objects task t.entries) (sym is) (free_at app s core task instr calls none));
       within = subst (λ (t : TaskSnapshot). t.pc + 1 < length (code_of app task)) (sym is) calls.within;

@@ -62,6 +62,6 @@ abbrev pub PlaceIsNamed : NamesView → Phase → Type 0
 PlaceIsNamed names phase = IfSome (waits_at phase) (IsPlace (numbers_named names))
 
 -- Those who run and those who are ready have a name.
-pub record SeatedAreNamed (names : NamesView) (s : Snapshot) : Type 0 where
+pub record LineupIsNamed (names : NamesView) (s : Snapshot) : Type 0 where
   pub cores : All (IsNamedOrNone names.tasks) s.cores
   pub ready : All (IsNamed names.tasks) s.ready

@@ -4,7 +4,7 @@
 ghost use Rattle.std.specs.Prelude.{◌≡◌, ◌++◌, position, All, OnErr, OnOk};
 ghost use Rattle.rd_state.specs.Waiting.{IsList, IsPlace};
 ghost use Rattle.rd_reply.specs.Names.{numbers_named, name_or_dash, IsNamedOrNone, PlaceIsNamed};
-ghost use Rattle.rd_reply.specs.Names.{SeatedAreNamed};
+ghost use Rattle.rd_reply.specs.Names.{LineupIsNamed};
 ghost use Rattle.rd_reply.specs.Replies.{line_of, list_text, cause_text, deadline_text, list_name};
 ghost use Rattle.rd_reply.specs.Replies.{listed_text, place_text, phase_text, entry_text};
 ghost use Rattle.rd_reply.specs.Replies.{running_core_text, state_text, task_text, is_task};
@@ -26,7 +26,7 @@ use rd_state::task::Task;
 use rd_text::kind::Kind;
 
 // The names of the tasks on the cores.
-fn append_seat_names(page: &mut Page<'_>, names: &Names, cores: &[Option<usize>])
+fn append_running_names(page: &mut Page<'_>, names: &Names, cores: &[Option<usize>])
     requires { All (IsNamedOrNone names.now.tasks) cores.now }
     ensures { Appends page.old page.new (list_text (name_or_dash names.now.tasks) cores.now) }
 {
@@ -224,7 +224,7 @@ fn append_state(page: &mut Page<'_>, task: &Task)
 /// Appends the view of the cores. An `Err` says that there is no memory for it, and comes only
 /// where the page has no room for it; the page may then have some part of it after what it had.
 pub fn show_cores(page: &mut Vec<u8>, names: &Names, state: &State) -> Appended
-    requires { SeatedAreNamed names.now state.now }
+    requires { LineupIsNamed names.now state.now }
     ensures text { OnOk result (page.new.items
         ≡ page.old.items ++ line_of (cores_text names.now state.now)) }
     ensures full { OnErr result
@@ -238,11 +238,11 @@ pub fn show_cores(page: &mut Vec<u8>, names: &Names, state: &State) -> Appended
 
 // The line of the cores.
 fn append_cores(page: &mut Page<'_>, names: &Names, state: &State)
-    requires { SeatedAreNamed names.now state.now }
+    requires { LineupIsNamed names.now state.now }
     ensures { Appends page.old page.new (line_of (cores_text names.now state.now)) }
 {
     page.append("cores ");
-    append_seat_names(page, names, state.cores());
+    append_running_names(page, names, state.cores());
     page.append(" ready ");
     append_task_names(page, names, state.ready().as_slice());
     append_ticks(page, state);

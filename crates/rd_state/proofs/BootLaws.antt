@@ -15,15 +15,15 @@ use Rattle.rd_wait.proofs.Offered.{IsInOrder-joined}
 use Rattle.rd_state.specs.declared.phase.Place.{Place}
 use Rattle.rd_state.specs.declared.phase.Place.TheVariants as sort
 use Rattle.rd_state.specs.Boot.{all_joined, before_scheduling, boot_of, fresh_task}
-use Rattle.rd_state.specs.Settled.{seating_of, IsSettled}
+use Rattle.rd_state.specs.Settled.{lineup_of, IsSettled}
 use Rattle.rd_state.specs.Sizes.{IsSized}
 use Rattle.rd_state.specs.Snapshot.{Snapshot, TaskSnapshot, no_task, task_at}
-use Rattle.rd_state.specs.Valid.{EntriesFitCall, HoldersFitCall, IsValid, PhaseFitsCall, HasTimeLeft, is_on, seats_to_run}
+use Rattle.rd_state.specs.Valid.{EntriesFitCall, HoldersFitCall, IsValid, PhaseFitsCall, HasTimeLeft, is_on, times_to_run}
 use Rattle.rd_state.specs.Valid.{times_in_list, times_on_cores, times_waiting_in}
 use Rattle.rd_state.proofs.EndLaws.{scheduling_settles}
 use Rattle.rd_state.proofs.ObjectLaws.{AreShaped-new}
 use Rattle.rd_state.proofs.PlaceLaws.{holder_at-before_scheduling, waiting_at-before_scheduling}
-use Rattle.rd_state.proofs.ScheduleLaws.{SeatsKept, SeatsKept-settled, one_if, times_in_list-joined}
+use Rattle.rd_state.proofs.ScheduleLaws.{Rescheduled, Rescheduled-settled, one_if, times_in_list-joined}
 
 -- Each of the tasks so far stands once in the list of all that joined, and no other does.
 times_in_list-all_joined : (priorities : List ℕ) (n task : ℕ)
@@ -80,8 +80,8 @@ IsValid-boot app s limits sized e =
     let n = length app.tasks in
     let before = before_scheduling app in
     let cores : length before.cores ≡ app.cores = length-replicate app.cores None in
-    let kept : SeatsKept priorities (seating_of before) (seating_of (boot_of app)) =
-    SeatsKept-settled priorities before (omega (arith, cores, limits.some_cores)) in
+    let kept : Rescheduled priorities (lineup_of before) (lineup_of (boot_of app)) =
+    Rescheduled-settled priorities before (omega (arith, cores, limits.some_cores)) in
     let tasks : length before.tasks ≡ n = length-replicate n (fresh_task app.entries) in
     let there : (task : ℕ) → task < length before.tasks → task_at before task ≡ fresh_task app.entries =
     λ task h. get_or-replicate n task (fresh_task app.entries) no_task (omega (arith, h, tasks)) in
@@ -97,13 +97,13 @@ IsValid-boot app s limits sized e =
         entries = All-replicate (λ (task : TaskSnapshot). length task.entries ≡ app.entries) n (fresh_task app.entries) (length-replicate app.entries idle_entry);
         objects = AreShaped-new app;
       };
-      seated_once = λ task h.
+      lined_up_once = λ task h.
           omega (
             arith,
-            kept.seats task,
+            kept.lined_up task,
             (times_in_list-all_joined priorities n task).0 (omega (arith, h, tasks)),
             times_on_cores-idle task app.cores,
-            ap (λ (t : TaskSnapshot). seats_to_run t.phase) (there task h),
+            ap (λ (t : TaskSnapshot). times_to_run t.phase) (there task h),
           );
       waiting_lists = record {
         ready = kept.order (IsInOrder-all_joined priorities n);

@@ -7,8 +7,8 @@ use Rattle.std.specs.Prelude.{Result, Ok, Err, OnOk, OnErr, insert}
 use Rattle.rd_state.specs.Change.{Change}
 use Rattle.rd_state.specs.Change.{SetTick, SetTurn, SetCore, InsReady, DelReady, Task, Object}
 use Rattle.rd_state.specs.Snapshot.{Snapshot}
-use Rattle.rd_state.specs.Change.{applied, inverse_of, cost_of, moves_seats, weight_of, Fits}
-use Rattle.rd_state.specs.Edit.{Base, Edit, GoesOn, IsCalmSince, SameShape, SeatsStay, Reaches, begun_at, capacity_of, edit_of}
+use Rattle.rd_state.specs.Change.{applied, inverse_of, cost_of, moves_lineup, weight_of, Fits}
+use Rattle.rd_state.specs.Edit.{Outset, Edit, GoesOn, IsCalmSince, SameShape, LineupStays, Reaches, begun_at, capacity_of, edit_of}
 use Rattle.std.proofs.Common.{Bool, true, false, zero, suc, ◌+◌, ◌<◌, ap₂, length-append}
 use Rattle.rd_state.specs.Edit.{room_for, room_of}
 use Rattle.rd_state.specs.PackedChanges.{all_packed, packed, ChangeListView}
@@ -28,11 +28,11 @@ shape-applied s (DelReady index) = record { cores = refl; tasks = refl; objects 
 shape-applied s (Task task change) = record { cores = refl; tasks = length-set s.tasks task _; objects = refl }
 shape-applied s (Object change) = record { cores = refl; tasks = refl; objects = object_numbers s.objects change }
 
-abbrev base_of : Snapshot → List Change → Bool → Base
-base_of s changes calm = record { state = s; recorded = changes; calm = calm }
+abbrev outset_of : Snapshot → List Change → Bool → Outset
+outset_of s changes calm = record { state = s; recorded = changes; calm = calm }
 
-base_same : (s t : Snapshot) (xs ys : List Change) (calm : Bool) → s ≡ t → xs ≡ ys → base_of s xs calm ≡ base_of t ys calm
-base_same s t xs ys calm e f = rw (e, f) refl
+outset_same : (s t : Snapshot) (xs ys : List Change) (calm : Bool) → s ≡ t → xs ≡ ys → outset_of s xs calm ≡ outset_of t ys calm
+outset_same s t xs ys calm e f = rw (e, f) refl
 
 -- The room that a change leaves, once the list has as much memory or more.
 room_after : (list list' : ChangeListView) (change : Change) → list'.changes ≡ list.changes ++ change ∷ [] → list.capacity ≤ list'.capacity
@@ -114,8 +114,8 @@ Reaches-act s s' list list' start was calm calm' change sized fits within grows 
     ap (undone (applied s change)) more ∙ undone-push (applied s change) later back ∙ ap (λ (t : Snapshot). undone t later) law.back in
     record {
       now = e;
-      base =
-          base_same _ _ _ _ was (ap₂ (λ (t : Snapshot) cs. undone t (drop start cs)) e f ∙ leads)
+      outset =
+          outset_same _ _ _ _ was (ap₂ (λ (t : Snapshot) cs. undone t (drop start cs)) e f ∙ leads)
           (ap (take start) f ∙ take-append-le start changes (back ∷ []) within);
       weight = omega (arith, ap (λ cs. weight_of (drop start cs)) f, ap weight_of more, sum_by_push cost_of later back);
       room = room_after list list' back f grows;
@@ -197,45 +197,45 @@ first_stays : (ready : List ℕ) (index task : ℕ) → suc index ≤ length rea
 first_stays [] index task within = absurd (omega (arith, within))
 first_stays (first ∷ later) index task within = refl
 
-pub seats_stay : (s : Snapshot) (change : Change) → Fits s change → moves_seats change ≡ false → SeatsStay s (applied s change)
-seats_stay s (SetTick tick) fits still = record { cores = refl; first = refl }
-seats_stay s (SetTurn turn) fits still = record { cores = refl; first = refl }
-seats_stay s (SetCore core task) fits still = absurd cc
-seats_stay s (InsReady zero task) fits still = absurd cc
-seats_stay s (InsReady (suc index) task) fits still = record { cores = refl; first = first_stays s.ready index task fits.0 }
-seats_stay s (DelReady index) fits still = absurd cc
-seats_stay s (Task task change) fits still = record { cores = refl; first = refl }
-seats_stay s (Object change) fits still = record { cores = refl; first = refl }
+pub lineup_stays : (s : Snapshot) (change : Change) → Fits s change → moves_lineup change ≡ false → LineupStays s (applied s change)
+lineup_stays s (SetTick tick) fits still = record { cores = refl; first = refl }
+lineup_stays s (SetTurn turn) fits still = record { cores = refl; first = refl }
+lineup_stays s (SetCore core task) fits still = absurd cc
+lineup_stays s (InsReady zero task) fits still = absurd cc
+lineup_stays s (InsReady (suc index) task) fits still = record { cores = refl; first = first_stays s.ready index task fits.0 }
+lineup_stays s (DelReady index) fits still = absurd cc
+lineup_stays s (Task task change) fits still = record { cores = refl; first = refl }
+lineup_stays s (Object change) fits still = record { cores = refl; first = refl }
 
-pub stay_on : (base : Base) (s s' : Snapshot) → IsCalmSince base s → SeatsStay s s' → IsCalmSince base s'
-stay_on base s s' calm stay = record {
+pub stay_on : (outset : Outset) (s s' : Snapshot) → IsCalmSince outset s → LineupStays s s' → IsCalmSince outset s'
+stay_on outset s s' calm stay = record {
   was = calm.was;
   stay = record { cores = stay.cores ∙ calm.stay.cores; first = stay.first ∙ calm.stay.first };
 }
 
--- What `act` makes of a move that was calm: it stays so where the change leaves the seats, or isn't made.
+-- What `act` makes of a move that was calm: it stays so where the change leaves the line-up, or isn't made.
 pub calm-from_act : {T E : Type 0} (r : Result T E) (old : Edit) (s s' : Snapshot) (list list' : ChangeListView) (start : ℕ) (was calm calm' : Bool) (change : Change)
     → edit_of s list start was calm ≡ old → IsSized s → Fits old.now change → start ≤ length list.changes → list.capacity ≤ list'.capacity
     → OnOk r (s' ≡ applied s change) → OnOk r (list'.changes ≡ list.changes ++ inverse_of s change ∷ []) → OnErr r (s' ≡ s) → OnErr r (list' ≡ list)
-    → (calm ≡ true → IsCalmSince (edit_of s list start was calm).base s) → (calm' ≡ true → calm ≡ true) → (calm' ≡ true → OnOk r (moves_seats change ≡ false))
-    → calm' ≡ true → IsCalmSince (edit_of s' list' start was calm').base s'
+    → (calm ≡ true → IsCalmSince (edit_of s list start was calm).outset s) → (calm' ≡ true → calm ≡ true) → (calm' ≡ true → OnOk r (moves_lineup change ≡ false))
+    → calm' ≡ true → IsCalmSince (edit_of s' list' start was calm').outset s'
 calm-from_act r old s s' list list' start was calm calm' change e sized fits within grows f g h k since only still here =
     let fits_here : Fits s change = subst (λ (edit : Edit). Fits edit.now change) (sym e) fits in
     let before = since (only here) in
     (elim r as (λ q. OnOk q (s' ≡ applied s change) → OnOk q (list'.changes ≡ list.changes ++ inverse_of s change ∷ []) → OnErr q (s' ≡ s) → OnErr q (list' ≡ list)
-    → OnOk q (moves_seats change ≡ false) → IsCalmSince (edit_of s' list' start was calm').base s') [
+    → OnOk q (moves_lineup change ≡ false) → IsCalmSince (edit_of s' list' start was calm').outset s') [
       | Ok x ↦ λ now record_now _ _ same.
-          subst (λ (b : Base). IsCalmSince b s') (sym (Reaches-act s s' list list' start was calm calm' change sized fits_here within grows now record_now).base)
-          (stay_on (edit_of s list start was calm).base s s' before (subst (SeatsStay s) (sym now) (seats_stay s change fits_here same)))
+          subst (λ (b : Outset). IsCalmSince b s') (sym (Reaches-act s s' list list' start was calm calm' change sized fits_here within grows now record_now).outset)
+          (stay_on (edit_of s list start was calm).outset s s' before (subst (LineupStays s) (sym now) (lineup_stays s change fits_here same)))
       | Err y ↦ λ _ _ now record_now _. rw (now, record_now) before
     ]) f g h k (still here)
 
--- A change that leaves the seats, whichever it is, leaves a move as calm as it was.
+-- A change that leaves the line-up, whichever it is, leaves a move as calm as it was.
 pub calm-from_still_act : {T E : Type 0} (r : Result T E) (old : Edit) (s s' : Snapshot) (list list' : ChangeListView) (start : ℕ) (was calm : Bool) (change : Change)
     → edit_of s list start was calm ≡ old → IsSized s → Fits old.now change → start ≤ length list.changes → list.capacity ≤ list'.capacity
     → OnOk r (s' ≡ applied s change) → OnOk r (list'.changes ≡ list.changes ++ inverse_of s change ∷ []) → OnErr r (s' ≡ s) → OnErr r (list' ≡ list)
-    → (calm ≡ true → IsCalmSince (edit_of s list start was calm).base s) → moves_seats change ≡ false
-    → calm ≡ true → IsCalmSince (edit_of s' list' start was calm).base s'
+    → (calm ≡ true → IsCalmSince (edit_of s list start was calm).outset s) → moves_lineup change ≡ false
+    → calm ≡ true → IsCalmSince (edit_of s' list' start was calm).outset s'
 calm-from_still_act r old s s' list list' start was calm change e sized fits within grows f g h k since still =
     calm-from_act r old s s' list list' start was calm calm change e sized fits within grows f g h k since (λ c. c)
-    (λ _. (elim r as (λ q. OnOk q (moves_seats change ≡ false)) [ Ok x ↦ still | Err y ↦ tt ]))
+    (λ _. (elim r as (λ q. OnOk q (moves_lineup change ≡ false)) [ Ok x ↦ still | Err y ↦ tt ]))

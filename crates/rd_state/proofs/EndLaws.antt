@@ -10,11 +10,11 @@ use Rattle.std.proofs.lemmas.Bool.{cases_lt, le-leb}
 use Rattle.std.proofs.lemmas.Bool.Decides.{eqb_tells, leb_tells, nat_tests}
 use Rattle.rd_wait.specs.Joined.{is_at_least, IsInOrder}
 use Rattle.rd_wait.proofs.Offered.{All-insert, AllByRecursion-insert}
-use Rattle.rd_state.specs.Settled.{Seating, running_on, rank_of, weakest_up_to, weakest_of, head_of, takes_core, with_displaced, with_seats, seated_on}
-use Rattle.rd_state.specs.Settled.{after_one_round, after_rounds, seating_of, settled, rotated, IsSettled, SchedulingSettles}
-use Rattle.rd_state.specs.Edit.{SeatsStay}
+use Rattle.rd_state.specs.Settled.{Lineup, running_on, rank_of, weakest_up_to, weakest_of, head_of, takes_core, with_displaced, with_lineup, with_head_on}
+use Rattle.rd_state.specs.Settled.{after_one_round, after_rounds, lineup_of, settled, rotated, IsSettled, SchedulingSettles}
+use Rattle.rd_state.specs.Edit.{LineupStays}
 use Rattle.rd_state.specs.Snapshot.{Snapshot}
-use Rattle.rd_state.proofs.ScheduleLaws.{SeatsKept-after_one_round, SeatsKept-after_rounds, one_if, weakest_of-lt}
+use Rattle.rd_state.proofs.ScheduleLaws.{Rescheduled-after_one_round, Rescheduled-after_rounds, one_if, weakest_of-lt}
 use Rattle.rd_state.proofs.SettleLaws.{after_rounds-still, settled_in-still}
 
 -- one above the head's priority, or 0 where nobody is ready
@@ -26,8 +26,8 @@ level_of priorities (first ∷ rest) = slice_index priorities first + 1
 abbrev is_weak : List ℕ → ℕ → Option ℕ → Bool
 is_weak priorities level running = nat_lt (rank_of priorities running) level
 
-abbrev weak_cores : List ℕ → Seating → ℕ
-weak_cores priorities seats = count_by (is_weak priorities (level_of priorities seats.ready)) seats.cores
+abbrev weak_cores : List ℕ → Lineup → ℕ
+weak_cores priorities lineup = count_by (is_weak priorities (level_of priorities lineup.ready)) lineup.cores
 
 -- the lowest rank is the weakest core's
 weakest_up_to-least : (priorities : List ℕ) (cores : List (Option ℕ)) (n core : ℕ) → core ≤ n
@@ -63,15 +63,15 @@ below_displaced priorities tasks (Some displaced) priority h weak =
     AllByRecursion-insert (λ task. slice_index priorities task ≤ priority) tasks (prefix_len (is_at_least priorities (slice_index priorities displaced)) tasks)
     displaced h (omega (arith, weak))
 
--- a seating that changes something
-fewer_weak : (priorities : List ℕ) (seats : Seating) (core : ℕ) → core < length seats.cores → IsInOrder priorities seats.ready
-    → rank_of priorities (running_on seats.cores core) < level_of priorities seats.ready
-    → weak_cores priorities (seated_on priorities seats core) + 1 ≤ weak_cores priorities seats
-fewer_weak priorities seats core there order weak = fewer seats.cores seats.ready there order weak
+-- a head of the ready list that takes a weak core
+fewer_weak : (priorities : List ℕ) (lineup : Lineup) (core : ℕ) → core < length lineup.cores → IsInOrder priorities lineup.ready
+    → rank_of priorities (running_on lineup.cores core) < level_of priorities lineup.ready
+    → weak_cores priorities (with_head_on priorities lineup core) + 1 ≤ weak_cores priorities lineup
+fewer_weak priorities lineup core there order weak = fewer lineup.cores lineup.ready there order weak
   where
     fewer : (cores : List (Option ℕ)) (ready : List ℕ) → core < length cores → IsInOrder priorities ready
         → rank_of priorities (running_on cores core) < level_of priorities ready
-        → weak_cores priorities (seated_on priorities (record { cores = cores; ready = ready }) core) + 1 ≤ weak_cores priorities
+        → weak_cores priorities (with_head_on priorities (record { cores = cores; ready = ready }) core) + 1 ≤ weak_cores priorities
         (record { cores = cores; ready = ready })
     fewer cores [] there order weak = absurd (omega (arith, weak))
     fewer cores (first ∷ rest) there order weak =
@@ -88,70 +88,70 @@ fewer_weak priorities seats core there order weak = fewer seats.cores seats.read
         let under : (r : Option ℕ) → new r ≤ old r = λ r. grind (arith, nat_tests, lower) in
         omega (arith, sum, was, is, sum_by-le-sum_by new old (set cores core (Some first)) under)
 
--- A round leaves everything where the weakest core outranks all who are ready, and else seats the head there.
-abbrev RoundLeaves : List ℕ → Seating → Type 0
-RoundLeaves priorities seats =
-    (after_one_round priorities seats ≡ seats)
-    × (level_of priorities seats.ready ≤ rank_of priorities (running_on seats.cores (weakest_of priorities seats.cores)))
+-- A round leaves everything where the weakest core outranks all who are ready, and else the head takes it.
+abbrev RoundLeaves : List ℕ → Lineup → Type 0
+RoundLeaves priorities lineup =
+    (after_one_round priorities lineup ≡ lineup)
+    × (level_of priorities lineup.ready ≤ rank_of priorities (running_on lineup.cores (weakest_of priorities lineup.cores)))
 
-abbrev RoundSeats : List ℕ → Seating → Type 0
-RoundSeats priorities seats =
-    (after_one_round priorities seats ≡ seated_on priorities seats (weakest_of priorities seats.cores))
-    × (rank_of priorities (running_on seats.cores (weakest_of priorities seats.cores)) < level_of priorities seats.ready)
+abbrev RoundTakes : List ℕ → Lineup → Type 0
+RoundTakes priorities lineup =
+    (after_one_round priorities lineup ≡ with_head_on priorities lineup (weakest_of priorities lineup.cores))
+    × (rank_of priorities (running_on lineup.cores (weakest_of priorities lineup.cores)) < level_of priorities lineup.ready)
 
 round_cases : (priorities : List ℕ) (cores : List (Option ℕ)) (ready : List ℕ)
-    → RoundLeaves priorities (record { cores = cores; ready = ready }) ⊎ RoundSeats priorities (record { cores = cores; ready = ready })
+    → RoundLeaves priorities (record { cores = cores; ready = ready }) ⊎ RoundTakes priorities (record { cores = cores; ready = ready })
 round_cases priorities cores [] = inl (refl, omega arith)
 round_cases priorities cores (first ∷ rest) =
-    let seats : Seating = record { cores = cores; ready = first ∷ rest } in
+    let lineup : Lineup = record { cores = cores; ready = first ∷ rest } in
     let core = weakest_of priorities cores in
     let rank = rank_of priorities (running_on cores core) in
     let some : leb 1 (length (first ∷ rest)) ≡ true = le-leb 1 (length (first ∷ rest)) (omega arith) in
-    let choose : Bool → Bool → Seating = λ b c. cond (b && c) (seated_on priorities seats core) seats in
+    let choose : Bool → Bool → Lineup = λ b c. cond (b && c) (with_head_on priorities lineup core) lineup in
     elim (leb_tells rank (slice_index priorities first)) [
       | inl w ↦ inr (ap (λ b. choose b (leb rank (slice_index priorities first))) some ∙ ap (choose true) w.0, omega (arith, w.1))
       | inr w ↦ inl (ap (λ b. choose b (leb rank (slice_index priorities first))) some ∙ ap (choose true) w.0, omega (arith, w.1))
     ]
 
 -- the weakest core counts, if it is weak
-some_weak : (priorities : List ℕ) (seats : Seating) → 0 < length seats.cores
-    → rank_of priorities (running_on seats.cores (weakest_of priorities seats.cores)) < level_of priorities seats.ready → 1 ≤ weak_cores priorities seats
-some_weak priorities seats some weak =
-    let core = weakest_of priorities seats.cores in
-    let count : Option ℕ → ℕ = λ r. one_if (is_weak priorities (level_of priorities seats.ready) r) in
-    let one : count (running_on seats.cores core) ≡ 1 = grind (arith, nat_tests, weak) in
-    omega (arith, get_or-le-sum_by count seats.cores core None (weakest_of-lt priorities seats.cores some), one)
+some_weak : (priorities : List ℕ) (lineup : Lineup) → 0 < length lineup.cores
+    → rank_of priorities (running_on lineup.cores (weakest_of priorities lineup.cores)) < level_of priorities lineup.ready → 1 ≤ weak_cores priorities lineup
+some_weak priorities lineup some weak =
+    let core = weakest_of priorities lineup.cores in
+    let count : Option ℕ → ℕ = λ r. one_if (is_weak priorities (level_of priorities lineup.ready) r) in
+    let one : count (running_on lineup.cores core) ≡ 1 = grind (arith, nat_tests, weak) in
+    omega (arith, get_or-le-sum_by count lineup.cores core None (weakest_of-lt priorities lineup.cores some), one)
 
 -- With no more weak cores than rounds, the last round leaves everything.
-last_round : (priorities : List ℕ) (rounds : ℕ) (seats : Seating) → 0 < length seats.cores → IsInOrder priorities seats.ready
-    → weak_cores priorities seats ≤ rounds
-    → after_one_round priorities (after_rounds priorities rounds seats) ≡ after_rounds priorities rounds seats
-last_round priorities zero seats some order few =
-    elim (round_cases priorities seats.cores seats.ready) [
+last_round : (priorities : List ℕ) (rounds : ℕ) (lineup : Lineup) → 0 < length lineup.cores → IsInOrder priorities lineup.ready
+    → weak_cores priorities lineup ≤ rounds
+    → after_one_round priorities (after_rounds priorities rounds lineup) ≡ after_rounds priorities rounds lineup
+last_round priorities zero lineup some order few =
+    elim (round_cases priorities lineup.cores lineup.ready) [
       | inl leaves ↦ leaves.0
-      | inr takes ↦ absurd (omega (arith, few, some_weak priorities seats some takes.1))
+      | inr takes ↦ absurd (omega (arith, few, some_weak priorities lineup some takes.1))
     ]
-last_round priorities (suc rounds) seats some order few =
-    let next = after_one_round priorities seats in
-    elim (round_cases priorities seats.cores seats.ready) [
-      | inl leaves ↦ let still = after_rounds-still priorities (suc rounds) seats leaves.0 in
+last_round priorities (suc rounds) lineup some order few =
+    let next = after_one_round priorities lineup in
+    elim (round_cases priorities lineup.cores lineup.ready) [
+      | inl leaves ↦ let still = after_rounds-still priorities (suc rounds) lineup leaves.0 in
           ap (after_one_round priorities) still ∙ leaves.0 ∙ sym still
-      | inr takes ↦ let kept = SeatsKept-after_one_round priorities seats some in
-          let fewer = fewer_weak priorities seats (weakest_of priorities seats.cores) (weakest_of-lt priorities seats.cores some) order takes.1 in
-          let same : weak_cores priorities next ≡ weak_cores priorities (seated_on priorities seats (weakest_of priorities seats.cores)) =
+      | inr takes ↦ let kept = Rescheduled-after_one_round priorities lineup some in
+          let fewer = fewer_weak priorities lineup (weakest_of priorities lineup.cores) (weakest_of-lt priorities lineup.cores some) order takes.1 in
+          let same : weak_cores priorities next ≡ weak_cores priorities (with_head_on priorities lineup (weakest_of priorities lineup.cores)) =
           ap (weak_cores priorities) takes.0 in
           last_round priorities rounds next (omega (arith, kept.cores, some)) (kept.order order) (omega (arith, few, fewer, same))
     ]
 
 -- Where a round leaves everything, the weakest core outranks all who are ready.
-outranks : (priorities : List ℕ) (seats : Seating) → 0 < length seats.cores → IsInOrder priorities seats.ready → after_one_round priorities seats ≡ seats
-    → level_of priorities seats.ready ≤ rank_of priorities (running_on seats.cores (weakest_of priorities seats.cores))
-outranks priorities seats some order still =
-    elim (round_cases priorities seats.cores seats.ready) [
+outranks : (priorities : List ℕ) (lineup : Lineup) → 0 < length lineup.cores → IsInOrder priorities lineup.ready → after_one_round priorities lineup ≡ lineup
+    → level_of priorities lineup.ready ≤ rank_of priorities (running_on lineup.cores (weakest_of priorities lineup.cores))
+outranks priorities lineup some order still =
+    elim (round_cases priorities lineup.cores lineup.ready) [
       | inl leaves ↦ leaves.1
       | inr takes ↦
-          let fewer = fewer_weak priorities seats (weakest_of priorities seats.cores) (weakest_of-lt priorities seats.cores some) order takes.1 in
-          let same : weak_cores priorities seats ≡ weak_cores priorities (seated_on priorities seats (weakest_of priorities seats.cores)) =
+          let fewer = fewer_weak priorities lineup (weakest_of priorities lineup.cores) (weakest_of-lt priorities lineup.cores some) order takes.1 in
+          let same : weak_cores priorities lineup ≡ weak_cores priorities (with_head_on priorities lineup (weakest_of priorities lineup.cores)) =
           ap (weak_cores priorities) (sym still ∙ takes.0) in
           absurd (omega (arith, fewer, same))
     ]
@@ -172,11 +172,11 @@ all_outranked priorities cores (first ∷ rest) some order low =
 
 pub scheduling_settles : SchedulingSettles
 scheduling_settles priorities s some order =
-    let seats = seating_of s in
-    let end = after_rounds priorities (length s.cores) seats in
-    let kept = SeatsKept-after_rounds priorities (length s.cores) seats some in
+    let lineup = lineup_of s in
+    let end = after_rounds priorities (length s.cores) lineup in
+    let kept = Rescheduled-after_rounds priorities (length s.cores) lineup some in
     let still : after_one_round priorities end ≡ end =
-    last_round priorities (length s.cores) seats some order (count_by-le-length (is_weak priorities (level_of priorities s.ready)) s.cores) in
+    last_round priorities (length s.cores) lineup some order (count_by-le-length (is_weak priorities (level_of priorities s.ready)) s.cores) in
     record {
       settled_now =
           all_outranked priorities end.cores end.ready (omega (arith, kept.cores, some)) (kept.order order)
@@ -202,7 +202,7 @@ pub settled-still : (priorities : List ℕ) (s : Snapshot) → 0 < length s.core
 settled-still priorities s some before =
     let core = weakest_of priorities s.cores in
     settled_in-still priorities (length s.cores) s
-    (ap (λ b. cond b (seated_on priorities (seating_of s) core) (seating_of s))
+    (ap (λ b. cond b (with_head_on priorities (lineup_of s) core) (lineup_of s))
     (takes_none priorities s.cores s.ready core (weakest_of-lt priorities s.cores some) before))
 
 -- The first that is ready tells alone whether it takes a core.
@@ -218,22 +218,22 @@ head_alone priorities cores (first ∷ rest) (head ∷ later) core same =
     let takes : ℕ → Bool = λ task. nat_le (rank_of priorities (running_on cores core)) (slice_index priorities task) in
     ap (λ b. b && takes head) also ∙ ap takes heads ∙ sym (ap (λ b. b && takes first) some)
 
--- Where the seats stay as they were in a settled state, scheduling changes nothing.
-pub settled-calm : (priorities : List ℕ) (before s : Snapshot) → 0 < length s.cores → IsSettled priorities before → SeatsStay before s → settled priorities s ≡ s
+-- Where the line-up stays as it was in a settled state, scheduling changes nothing.
+pub settled-calm : (priorities : List ℕ) (before s : Snapshot) → 0 < length s.cores → IsSettled priorities before → LineupStays before s → settled priorities s ≡ s
 settled-calm priorities before s some was stay =
     let core = weakest_of priorities s.cores in
-    let still : takes_core priorities (seating_of s) core ≡ false =
+    let still : takes_core priorities (lineup_of s) core ≡ false =
     head_alone priorities s.cores before.ready s.ready core stay.first
     ∙ takes_none priorities s.cores before.ready core (weakest_of-lt priorities s.cores some)
     (subst (λ (cores : List (Option ℕ)). All (λ task. All (λ running. slice_index priorities task < rank_of priorities running) cores) before.ready) (sym stay.cores) was) in
-    settled_in-still priorities (length s.cores) s (ap (λ b. cond b (seated_on priorities (seating_of s) core) (seating_of s)) still)
+    settled_in-still priorities (length s.cores) s (ap (λ b. cond b (with_head_on priorities (lineup_of s) core) (lineup_of s)) still)
 
 -- a task that no running one is outranked by, once the head of the ready list runs instead of its equal
-below_all : (priorities : List ℕ) (seats : Seating) (core task : ℕ) → slice_index priorities task ≤ slice_index priorities (head_of seats.ready)
-    → All (λ running. slice_index priorities task < rank_of priorities running) seats.cores
-    → All (λ running. slice_index priorities task < rank_of priorities running) (set seats.cores core (Some (head_of seats.ready)))
-below_all priorities seats core task low all =
-    All-set (λ running. slice_index priorities task < rank_of priorities running) seats.cores core (Some (head_of seats.ready)) (omega (arith, low)) all
+below_all : (priorities : List ℕ) (lineup : Lineup) (core task : ℕ) → slice_index priorities task ≤ slice_index priorities (head_of lineup.ready)
+    → All (λ running. slice_index priorities task < rank_of priorities running) lineup.cores
+    → All (λ running. slice_index priorities task < rank_of priorities running) (set lineup.cores core (Some (head_of lineup.ready)))
+below_all priorities lineup core task low all =
+    All-set (λ running. slice_index priorities task < rank_of priorities running) lineup.cores core (Some (head_of lineup.ready)) (omega (arith, low)) all
 
 displaced_below : (priorities : List ℕ) (cores : List (Option ℕ)) (ready : List ℕ) (running : Option ℕ) (P : ℕ → Type 0) → All P ready
     → ((task : ℕ) → running ≡ Some task → P task) → All P (with_displaced priorities ready running)
@@ -248,30 +248,30 @@ rotated_settled : (priorities : List ℕ) (cores : List (Option ℕ)) (ready : L
     (with_displaced priorities (drop 1 ready) (running_on cores core))
 rotated_settled priorities cores [] core there some equal all = absurd (omega (arith, some))
 rotated_settled priorities cores (head ∷ rest) core there some equal all =
-    let seats : Seating = record { cores = cores; ready = head ∷ rest } in
+    let lineup : Lineup = record { cores = cores; ready = head ∷ rest } in
     let Outranked : ℕ → Type 0 = λ task. All (λ running. slice_index priorities task < rank_of priorities running) cores in
     let Below : ℕ → Type 0 = λ task. All (λ running. slice_index priorities task < rank_of priorities running) (set cores core (Some head)) in
     let top : Outranked head = All-get_or Outranked (head ∷ rest) 0 0 (omega arith) all in
     let later : All Outranked rest = All-drop Outranked 1 (head ∷ rest) all in
     let others : All Below rest =
     All-weaker Outranked Below
-    (λ task above. below_all priorities seats core task
+    (λ task above. below_all priorities lineup core task
     (omega (arith, All-get_or (λ running. slice_index priorities task < rank_of priorities running) cores core None there above, equal)) above) rest later in
     displaced_below priorities cores rest (running_on cores core) Below others
     (λ task e. let same : slice_index priorities task + 1 ≡ slice_index priorities head + 1 = sym (ap (rank_of priorities) e) ∙ equal in
-    below_all priorities seats core task (omega (arith, same))
+    below_all priorities lineup core task (omega (arith, same))
     (All-weaker (λ running. slice_index priorities head < rank_of priorities running) (λ running. slice_index priorities task < rank_of priorities running)
     (λ running above. omega (arith, same, above)) cores top))
 
 pub stays_settled : (priorities : List ℕ) (core : ℕ) (s : Snapshot) → core < length s.cores → IsSettled priorities s
     → IsSettled priorities (rotated priorities core s)
 stays_settled priorities core s there settled_now =
-    let seats = seating_of s in
-    let shares = nat_eq (rank_of priorities (running_on seats.cores core)) (slice_index priorities (head_of seats.ready) + 1) in
-    let Goal : Bool → Type 0 = λ b. IsSettled priorities (with_seats s (cond b (seated_on priorities seats core) seats)) in
-    elim (leb_tells 1 (length seats.ready)) [
+    let lineup = lineup_of s in
+    let shares = nat_eq (rank_of priorities (running_on lineup.cores core)) (slice_index priorities (head_of lineup.ready) + 1) in
+    let Goal : Bool → Type 0 = λ b. IsSettled priorities (with_lineup s (cond b (with_head_on priorities lineup core) lineup)) in
+    elim (leb_tells 1 (length lineup.ready)) [
       | inl w ↦ subst (λ (b : Bool). Goal (b && shares)) (sym w.0)
-          (elim (eqb_tells (rank_of priorities (running_on seats.cores core)) (slice_index priorities (head_of seats.ready) + 1)) [
+          (elim (eqb_tells (rank_of priorities (running_on lineup.cores core)) (slice_index priorities (head_of lineup.ready) + 1)) [
             | inl equal ↦ subst Goal (sym equal.0) (rotated_settled priorities s.cores s.ready core there w.1 equal.1 settled_now)
             | inr differs ↦ subst Goal (sym differs.0) settled_now
           ])

@@ -9,14 +9,14 @@ use Rattle.std.proofs.lemmas.List.Sums.{sum_by-cons, sum_by-insert, sum_by-set}
 use Rattle.std.proofs.lemmas.Bool.Decides.{leb_tells}
 use Rattle.rd_wait.specs.Joined.{joined, is_at_least, IsInOrder}
 use Rattle.rd_wait.proofs.Offered.{IsInOrder-joined, IsInOrder-rest}
-use Rattle.rd_state.specs.Settled.{Seating, running_on, rank_of, weakest_up_to, weakest_of, head_of, with_displaced}
-use Rattle.rd_state.specs.Settled.{seated_on, after_one_round, after_rounds, seating_of, settled, rotated}
+use Rattle.rd_state.specs.Settled.{Lineup, running_on, rank_of, weakest_up_to, weakest_of, head_of, with_displaced}
+use Rattle.rd_state.specs.Settled.{with_head_on, after_one_round, after_rounds, lineup_of, settled, rotated}
 use Rattle.rd_state.specs.Snapshot.{Snapshot}
 use Rattle.rd_state.specs.Valid.{times_in_list, times_on_cores, is_on}
 
 -- how often a task stands in the ready list or on a core
-abbrev pub seats_of : ℕ → Seating → ℕ
-seats_of task seats = times_in_list task seats.ready + times_on_cores task seats.cores
+abbrev pub times_lined_up : ℕ → Lineup → ℕ
+times_lined_up task lineup = times_in_list task lineup.ready + times_on_cores task lineup.cores
 
 -- one or none, as the test says
 abbrev pub one_if : Bool → ℕ
@@ -50,17 +50,17 @@ weakest_up_to-le priorities cores (suc n) =
 pub weakest_of-lt : (priorities : List ℕ) (cores : List (Option ℕ)) → 0 < length cores → weakest_of priorities cores < length cores
 weakest_of-lt priorities cores some = omega (arith, weakest_up_to-le priorities cores (length cores - 1), some)
 
--- what stays between two seatings
-pub record SeatsKept (priorities : List ℕ) (old new : Seating) : Type 0 where
+-- A line-up that scheduling makes of another: as many cores, each task in it as often, in order as before.
+pub record Rescheduled (priorities : List ℕ) (old new : Lineup) : Type 0 where
   pub cores : length new.cores ≡ length old.cores
-  pub seats : (task : ℕ) → seats_of task new ≡ seats_of task old
+  pub lined_up : (task : ℕ) → times_lined_up task new ≡ times_lined_up task old
   pub order : IsInOrder priorities old.ready → IsInOrder priorities new.ready
 
-SeatsKept-same : (priorities : List ℕ) (seats : Seating) → SeatsKept priorities seats seats
-SeatsKept-same priorities seats = record { cores = refl; seats = λ task. refl; order = λ h. h }
+Rescheduled-same : (priorities : List ℕ) (lineup : Lineup) → Rescheduled priorities lineup lineup
+Rescheduled-same priorities lineup = record { cores = refl; lined_up = λ task. refl; order = λ h. h }
 
-pub SeatsKept-then : (priorities : List ℕ) (a b c : Seating) → SeatsKept priorities a b → SeatsKept priorities b c → SeatsKept priorities a c
-SeatsKept-then priorities a b c h k = record { cores = k.cores ∙ h.cores; seats = λ task. k.seats task ∙ h.seats task; order = λ o. k.order (h.order o) }
+pub Rescheduled-then : (priorities : List ℕ) (a b c : Lineup) → Rescheduled priorities a b → Rescheduled priorities b c → Rescheduled priorities a c
+Rescheduled-then priorities a b c h k = record { cores = k.cores ∙ h.cores; lined_up = λ task. k.lined_up task ∙ h.lined_up task; order = λ o. k.order (h.order o) }
 
 IsInOrder-with_displaced : (priorities tasks : List ℕ) (running : Option ℕ) → IsInOrder priorities tasks
     → IsInOrder priorities (with_displaced priorities tasks running)
@@ -73,56 +73,56 @@ head_times : (task : ℕ) (ready : List ℕ) → 0 < length ready
 head_times task [] h = absurd (omega (arith, h))
 head_times task (first ∷ rest) h = times_in_list-cons task first rest
 
-SeatsKept-seated_on : (priorities : List ℕ) (seats : Seating) (core : ℕ) → core < length seats.cores → 0 < length seats.ready
-    → SeatsKept priorities seats (seated_on priorities seats core)
-SeatsKept-seated_on priorities seats core there some = record {
-  cores = length-set seats.cores core (Some (head_of seats.ready));
-  seats =
+Rescheduled-with_head_on : (priorities : List ℕ) (lineup : Lineup) (core : ℕ) → core < length lineup.cores → 0 < length lineup.ready
+    → Rescheduled priorities lineup (with_head_on priorities lineup core)
+Rescheduled-with_head_on priorities lineup core there some = record {
+  cores = length-set lineup.cores core (Some (head_of lineup.ready));
+  lined_up =
       λ task. omega (
         arith,
-        head_times task seats.ready some,
-        times_in_list-displaced priorities (drop 1 seats.ready) task (running_on seats.cores core),
-        times_on_cores-set task core seats.cores (Some (head_of seats.ready)) there,
+        head_times task lineup.ready some,
+        times_in_list-displaced priorities (drop 1 lineup.ready) task (running_on lineup.cores core),
+        times_on_cores-set task core lineup.cores (Some (head_of lineup.ready)) there,
       );
-  order = λ h. IsInOrder-with_displaced priorities (drop 1 seats.ready) (running_on seats.cores core) (IsInOrder-rest priorities seats.ready h);
+  order = λ h. IsInOrder-with_displaced priorities (drop 1 lineup.ready) (running_on lineup.cores core) (IsInOrder-rest priorities lineup.ready h);
 }
 
-pub SeatsKept-after_one_round : (priorities : List ℕ) (seats : Seating) → 0 < length seats.cores → SeatsKept priorities seats (after_one_round priorities seats)
-SeatsKept-after_one_round priorities seats some =
-    let core = weakest_of priorities seats.cores in
-    let outranks = nat_le (rank_of priorities (running_on seats.cores core)) (slice_index priorities (head_of seats.ready)) in
-    elim (leb_tells 1 (length seats.ready)) [
-      | inl w ↦ subst (λ (b : Bool). SeatsKept priorities seats (cond (b && outranks) (seated_on priorities seats core) seats)) (sym w.0)
-          (elim outranks as (λ b. SeatsKept priorities seats (cond (true && b) (seated_on priorities seats core) seats))
-          [ true ↦ SeatsKept-seated_on priorities seats core (weakest_of-lt priorities seats.cores some) w.1 | false ↦ SeatsKept-same priorities seats ])
+pub Rescheduled-after_one_round : (priorities : List ℕ) (lineup : Lineup) → 0 < length lineup.cores → Rescheduled priorities lineup (after_one_round priorities lineup)
+Rescheduled-after_one_round priorities lineup some =
+    let core = weakest_of priorities lineup.cores in
+    let outranks = nat_le (rank_of priorities (running_on lineup.cores core)) (slice_index priorities (head_of lineup.ready)) in
+    elim (leb_tells 1 (length lineup.ready)) [
+      | inl w ↦ subst (λ (b : Bool). Rescheduled priorities lineup (cond (b && outranks) (with_head_on priorities lineup core) lineup)) (sym w.0)
+          (elim outranks as (λ b. Rescheduled priorities lineup (cond (true && b) (with_head_on priorities lineup core) lineup))
+          [ true ↦ Rescheduled-with_head_on priorities lineup core (weakest_of-lt priorities lineup.cores some) w.1 | false ↦ Rescheduled-same priorities lineup ])
       | inr w ↦
-          subst (λ (b : Bool). SeatsKept priorities seats (cond (b && outranks) (seated_on priorities seats core) seats)) (sym w.0)
-          (SeatsKept-same priorities seats)
+          subst (λ (b : Bool). Rescheduled priorities lineup (cond (b && outranks) (with_head_on priorities lineup core) lineup)) (sym w.0)
+          (Rescheduled-same priorities lineup)
     ]
 
-pub SeatsKept-after_rounds : (priorities : List ℕ) (rounds : ℕ) (seats : Seating) → 0 < length seats.cores
-    → SeatsKept priorities seats (after_rounds priorities rounds seats)
-SeatsKept-after_rounds priorities zero seats some = SeatsKept-same priorities seats
-SeatsKept-after_rounds priorities (suc rounds) seats some =
-    let once = SeatsKept-after_one_round priorities seats some in
-    SeatsKept-then priorities seats (after_one_round priorities seats) _ once
-    (SeatsKept-after_rounds priorities rounds (after_one_round priorities seats) (omega (arith, once.cores, some)))
+pub Rescheduled-after_rounds : (priorities : List ℕ) (rounds : ℕ) (lineup : Lineup) → 0 < length lineup.cores
+    → Rescheduled priorities lineup (after_rounds priorities rounds lineup)
+Rescheduled-after_rounds priorities zero lineup some = Rescheduled-same priorities lineup
+Rescheduled-after_rounds priorities (suc rounds) lineup some =
+    let once = Rescheduled-after_one_round priorities lineup some in
+    Rescheduled-then priorities lineup (after_one_round priorities lineup) _ once
+    (Rescheduled-after_rounds priorities rounds (after_one_round priorities lineup) (omega (arith, once.cores, some)))
 
 -- what scheduling keeps of a state
-pub SeatsKept-settled : (priorities : List ℕ) (s : Snapshot) → 0 < length s.cores → SeatsKept priorities (seating_of s) (seating_of (settled priorities s))
-SeatsKept-settled priorities s some = SeatsKept-after_rounds priorities (length s.cores) (seating_of s) some
+pub Rescheduled-settled : (priorities : List ℕ) (s : Snapshot) → 0 < length s.cores → Rescheduled priorities (lineup_of s) (lineup_of (settled priorities s))
+Rescheduled-settled priorities s some = Rescheduled-after_rounds priorities (length s.cores) (lineup_of s) some
 
 -- and what turns of equals keep
-pub SeatsKept-rotated : (priorities : List ℕ) (core : ℕ) (s : Snapshot) → core < length s.cores
-    → SeatsKept priorities (seating_of s) (seating_of (rotated priorities core s))
-SeatsKept-rotated priorities core s there =
-    let seats = seating_of s in
-    let shares = nat_eq (rank_of priorities (running_on seats.cores core)) (slice_index priorities (head_of seats.ready) + 1) in
-    elim (leb_tells 1 (length seats.ready)) [
-      | inl w ↦ subst (λ (b : Bool). SeatsKept priorities seats (cond (b && shares) (seated_on priorities seats core) seats)) (sym w.0)
-          (elim shares as (λ b. SeatsKept priorities seats (cond (true && b) (seated_on priorities seats core) seats))
-          [ true ↦ SeatsKept-seated_on priorities seats core there w.1 | false ↦ SeatsKept-same priorities seats ])
+pub Rescheduled-rotated : (priorities : List ℕ) (core : ℕ) (s : Snapshot) → core < length s.cores
+    → Rescheduled priorities (lineup_of s) (lineup_of (rotated priorities core s))
+Rescheduled-rotated priorities core s there =
+    let lineup = lineup_of s in
+    let shares = nat_eq (rank_of priorities (running_on lineup.cores core)) (slice_index priorities (head_of lineup.ready) + 1) in
+    elim (leb_tells 1 (length lineup.ready)) [
+      | inl w ↦ subst (λ (b : Bool). Rescheduled priorities lineup (cond (b && shares) (with_head_on priorities lineup core) lineup)) (sym w.0)
+          (elim shares as (λ b. Rescheduled priorities lineup (cond (true && b) (with_head_on priorities lineup core) lineup))
+          [ true ↦ Rescheduled-with_head_on priorities lineup core there w.1 | false ↦ Rescheduled-same priorities lineup ])
       | inr w ↦
-          subst (λ (b : Bool). SeatsKept priorities seats (cond (b && shares) (seated_on priorities seats core) seats)) (sym w.0)
-          (SeatsKept-same priorities seats)
+          subst (λ (b : Bool). Rescheduled priorities lineup (cond (b && shares) (with_head_on priorities lineup core) lineup)) (sym w.0)
+          (Rescheduled-same priorities lineup)
     ]

@@ -15,7 +15,7 @@ use Rattle.rd_state.specs.declared.transfer.Source.TheVariants.{QueueFront, Stre
 use Rattle.rd_state.specs.declared.transfer.Transfer.{Transfer}
 use Rattle.rd_state.specs.declared.transfer.Transfer.TheVariants.{FromData, ToData}
 use Rattle.rd_state.specs.Objects.{ObjectsSnapshot, queue_in, stream_in, AreSizedObjects, ObjectFits}
-use Rattle.rd_state.specs.Change.{applied, cost_of, inverse_of, moves_seats, Fits}
+use Rattle.rd_state.specs.Change.{applied, cost_of, inverse_of, moves_lineup, Fits}
 use Rattle.rd_state.specs.Edit.{Edit, IsCalmSince, Reaches, edit_of, room_for}
 use Rattle.rd_state.specs.PackedChanges.{all_packed, packed, ChangeListView}
 use Rattle.rd_state.specs.Sizes.{IsSized}
@@ -88,8 +88,8 @@ CanUndo-from_transfer r old s s' list list' start was calm transfer e sized can 
     let here = subst (λ (f : Edit). CanTransfer f.now transfer) (sym e) can in
     CanUndo-from_act r (edit_of s list start was calm) s s' list list' start was calm (change_of s transfer) refl sized (transfer_fits s transfer sized here)
 
--- A transfer leaves the seats.
-transfer_still : (s : Snapshot) (transfer : Transfer) → moves_seats (change_of s transfer) ≡ false
+-- A transfer leaves the line-up.
+transfer_still : (s : Snapshot) (transfer : Transfer) → moves_lineup (change_of s transfer) ≡ false
 transfer_still s (FromData task sink) = refl
 transfer_still s (ToData source task) = refl
 
@@ -97,7 +97,7 @@ pub calm-from_transfer : {T E : Type 0} (r : Result T E) (old : Edit) (s s' : Sn
     → edit_of s list start was calm ≡ old → IsSized s → CanTransfer old.now transfer → start ≤ length list.changes → list.capacity ≤ list'.capacity
     → OnOk r (s' ≡ applied s (change_of s transfer)) → OnOk r (list'.changes ≡ list.changes ++ inverse_of s (change_of s transfer) ∷ [])
     → OnErr r (s' ≡ s) → OnErr r (list' ≡ list)
-    → (calm ≡ true → IsCalmSince (edit_of s list start was calm).base s) → calm ≡ true → IsCalmSince (edit_of s' list' start was calm).base s'
+    → (calm ≡ true → IsCalmSince (edit_of s list start was calm).outset s) → calm ≡ true → IsCalmSince (edit_of s' list' start was calm).outset s'
 calm-from_transfer r old s s' list list' start was calm transfer e sized can within grows f g h k since =
     let here = subst (λ (edit : Edit). CanTransfer edit.now transfer) (sym e) can in
     calm-from_still_act r (edit_of s list start was calm) s s' list list' start was calm (change_of s transfer) refl sized (transfer_fits s transfer sized here) within grows f g h k since

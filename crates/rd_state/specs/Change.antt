@@ -53,14 +53,14 @@ applied s (Task task change) = with_task s task (task_applied (task_at s task) c
 applied s (Object change) = with_objects s (object_applied s.objects change)
 
 -- Does it change who is on a core, or who is the first that is ready?
-abbrev pub moves_seats : Change → Bool
-moves_seats (SetTick tick) = false
-moves_seats (SetTurn turn) = false
-moves_seats (SetCore core task) = true
-moves_seats (InsReady index task) = nat_eq index 0
-moves_seats (DelReady index) = true
-moves_seats (Task task change) = false
-moves_seats (Object change) = false
+abbrev pub moves_lineup : Change → Bool
+moves_lineup (SetTick tick) = false
+moves_lineup (SetTurn turn) = false
+moves_lineup (SetCore core task) = true
+moves_lineup (InsReady index task) = nat_eq index 0
+moves_lineup (DelReady index) = true
+moves_lineup (Task task change) = false
+moves_lineup (Object change) = false
 
 -- the change that undoes a change made at this state
 abbrev pub inverse_of : Snapshot → Change → Change

@@ -4,21 +4,21 @@
 use Rattle.std.specs.Prelude.{ℕ, ◌≡◌, ◌+◌, ◌-◌, ◌*◌, ◌<◌, ◌≤◌, ◌&&◌, Bool, true, not, List}
 use Rattle.std.specs.Prelude.{length, drop, take}
 use Rattle.rd_state.specs.Change.{Change}
-use Rattle.rd_state.specs.Change.{moves_seats, weight_of}
+use Rattle.rd_state.specs.Change.{moves_lineup, weight_of}
 use Rattle.rd_state.specs.PackedChanges.{all_packed, ChangeListView}
 use Rattle.rd_state.specs.Snapshot.{Snapshot, numbers_of}
 use Rattle.rd_state.specs.Undoing.{undone, CanUndo}
 
 -- where a move began: the state, what its record had before, and whether nothing had called for
 -- settling by then
-pub record Base : Type 0 where
+pub record Outset : Type 0 where
   pub state : Snapshot
   pub recorded : List Change
   pub calm : Bool
 
 pub record Edit : Type 0 where
   pub now : Snapshot
-  pub base : Base
+  pub outset : Outset
   pub weight : ℕ
   pub changes : List Change
   pub room : ℕ
@@ -36,7 +36,7 @@ capacity_of edit = length (all_packed edit.changes) + edit.room
 abbrev pub edit_of : Snapshot → ChangeListView → ℕ → Bool → Bool → Edit
 edit_of s list start was_calm calm = record {
   now = s;
-  base = record {
+  outset = record {
     state = undone s (drop start list.changes);
     recorded = take start list.changes;
     calm = was_calm;
@@ -51,7 +51,7 @@ edit_of s list start was_calm calm = record {
 abbrev pub begun_at : Snapshot → List Change → ℕ → Bool → Edit
 begun_at s changes room calm = record {
   now = s;
-  base = record { state = s; recorded = changes; calm = calm };
+  outset = record { state = s; recorded = changes; calm = calm };
   weight = 0;
   changes = changes;
   room = room;
@@ -59,18 +59,18 @@ begun_at s changes room calm = record {
 }
 
 -- The same tasks are on the cores, and the same one is the first that is ready, if one is.
-pub record SeatsStay (before now : Snapshot) : Type 0 where
+pub record LineupStays (before now : Snapshot) : Type 0 where
   pub cores : now.cores ≡ before.cores
   pub first : take 1 now.ready ≡ take 1 before.ready
 
--- Where nothing has called for settling, nothing had where the move began, and the seats stay.
-pub record IsCalmSince (base : Base) (now : Snapshot) : Type 0 where
-  pub was : base.calm ≡ true
-  pub stay : SeatsStay base.state now
+-- Where nothing has called for settling, nothing had where the move began, and the line-up stays.
+pub record IsCalmSince (outset : Outset) (now : Snapshot) : Type 0 where
+  pub was : outset.calm ≡ true
+  pub stay : LineupStays outset.state now
 
 -- whether nothing has called for settling behind a change, by whether nothing had before it
 abbrev pub calm_behind : Bool → Change → Bool
-calm_behind calm change = calm && not (moves_seats change)
+calm_behind calm change = calm && not (moves_lineup change)
 
 -- what a record has got since
 abbrev pub added : List Change → List Change → List Change
@@ -78,10 +78,10 @@ added before changes = drop (length before) changes
 
 -- The record has what it had before, and what it got leads back to where the move began.
 pub record GoesOn (edit : Edit) (changes : List Change) : Type 0 where
-  pub before : take (length edit.base.recorded) changes ≡ edit.base.recorded
-  pub leads_back : undone edit.now (added edit.base.recorded changes) ≡ edit.base.state
-  pub can_undo : CanUndo edit.now (added edit.base.recorded changes)
-  pub weight : weight_of (added edit.base.recorded changes) ≡ edit.weight
+  pub before : take (length edit.outset.recorded) changes ≡ edit.outset.recorded
+  pub leads_back : undone edit.now (added edit.outset.recorded changes) ≡ edit.outset.state
+  pub can_undo : CanUndo edit.now (added edit.outset.recorded changes)
+  pub weight : weight_of (added edit.outset.recorded changes) ≡ edit.weight
 
 -- The room that a record needs, at the most, for what costs so much: a change takes no more than 15
 -- bytes and those that it carries.
@@ -91,7 +91,7 @@ room_for cost = 16 * cost
 -- The move goes no further: there is no memory, and less room than that cost needs. It still began
 -- where it did, and its record leads back there, with no less memory.
 pub record GivesUp (old new : Edit) (cost : ℕ) : Type 0 where
-  pub base : new.base ≡ old.base
+  pub outset : new.outset ≡ old.outset
   pub short : old.room < room_for cost
   pub grows : capacity_of old ≤ capacity_of new
 
@@ -105,7 +105,7 @@ pub record SameShape (old new : Snapshot) : Type 0 where
 -- with no less memory.
 pub record Reaches (old new : Edit) (target : Snapshot) (cost : ℕ) : Type 0 where
   pub now : new.now ≡ target
-  pub base : new.base ≡ old.base
+  pub outset : new.outset ≡ old.outset
   pub weight : new.weight ≤ old.weight + cost
   pub room : old.room ≤ new.room + room_for cost
   pub grows : capacity_of old ≤ capacity_of new

@@ -10,4 +10,4 @@ edit_in e = edit_of e.state e.changes e.start e.was_calm e.calm
 pub record IsEditing (e : Inside) : Type 0 where
   pub within : e.start ≤ length e.changes.changes
   pub can_undo : CanUndo e.state (drop e.start e.changes.changes)
-  pub calm_since : e.calm ≡ true → IsCalmSince (edit_in e).base e.state
+  pub calm_since : e.calm ≡ true → IsCalmSince (edit_in e).outset e.state

@@ -6,8 +6,8 @@ use Rattle.std.specs.Prelude.{None, nat_eq, nat_lt, nat_le, if◌then◌else◌}
 use Rattle.rd_wait.specs.Joined.{joined, IsInOrder}
 use Rattle.rd_state.specs.Snapshot.{Snapshot}
 
--- who runs and who is ready
-pub record Seating : Type 0 where
+-- a line-up: who runs and who is ready
+pub record Lineup : Type 0 where
   pub cores : List (Option ℕ)
   pub ready : List ℕ
 
@@ -36,11 +36,11 @@ abbrev pub head_of : List ℕ → ℕ
 head_of ready = slice_index ready 0
 
 -- Is there a head of the ready list, and does it outrank the task on that core?
-abbrev pub takes_core : List ℕ → Seating → ℕ → Bool
-takes_core priorities seats core =
-    nat_lt 0 (length seats.ready)
-    && nat_le (rank_of priorities (running_on seats.cores core))
-    (slice_index priorities (head_of seats.ready))
+abbrev pub takes_core : List ℕ → Lineup → ℕ → Bool
+takes_core priorities lineup core =
+    nat_lt 0 (length lineup.ready)
+    && nat_le (rank_of priorities (running_on lineup.cores core))
+    (slice_index priorities (head_of lineup.ready))
 
 -- the ready list with the task that was displaced, if one was, joined to it
 abbrev pub with_displaced : List ℕ → List ℕ → Option ℕ → List ℕ
@@ -48,55 +48,55 @@ with_displaced priorities ready None = ready
 with_displaced priorities ready (Some task) = joined priorities ready task
 
 -- the head of the ready list has taken the core
-abbrev pub seated_on : List ℕ → Seating → ℕ → Seating
-seated_on priorities seats core = record {
-  cores = slice_set seats.cores core (Some (head_of seats.ready));
-  ready = with_displaced priorities (drop 1 seats.ready) (running_on seats.cores core);
+abbrev pub with_head_on : List ℕ → Lineup → ℕ → Lineup
+with_head_on priorities lineup core = record {
+  cores = slice_set lineup.cores core (Some (head_of lineup.ready));
+  ready = with_displaced priorities (drop 1 lineup.ready) (running_on lineup.cores core);
 }
 
 -- one round: the head takes the weakest core, if it can
-abbrev pub after_one_round : List ℕ → Seating → Seating
-after_one_round priorities seats =
-    let core = weakest_of priorities seats.cores in
-    if takes_core priorities seats core then seated_on priorities seats core else seats
+abbrev pub after_one_round : List ℕ → Lineup → Lineup
+after_one_round priorities lineup =
+    let core = weakest_of priorities lineup.cores in
+    if takes_core priorities lineup core then with_head_on priorities lineup core else lineup
 
 -- that many rounds, one after the other
-abbrev pub after_rounds : List ℕ → ℕ → Seating → Seating
-after_rounds priorities zero seats = seats
-after_rounds priorities (suc rounds) seats =
-    after_rounds priorities rounds (after_one_round priorities seats)
+abbrev pub after_rounds : List ℕ → ℕ → Lineup → Lineup
+after_rounds priorities zero lineup = lineup
+after_rounds priorities (suc rounds) lineup =
+    after_rounds priorities rounds (after_one_round priorities lineup)
 
--- who runs and who is ready in a state, and the state with another seating
-abbrev pub seating_of : Snapshot → Seating
-seating_of s = record { cores = s.cores; ready = s.ready }
+-- the line-up of a state, and the state with another one
+abbrev pub lineup_of : Snapshot → Lineup
+lineup_of s = record { cores = s.cores; ready = s.ready }
 
-abbrev pub with_seats : Snapshot → Seating → Snapshot
-with_seats s seats = record s { cores = seats.cores; ready = seats.ready }
+abbrev pub with_lineup : Snapshot → Lineup → Snapshot
+with_lineup s lineup = record s { cores = lineup.cores; ready = lineup.ready }
 
 -- the state after that many rounds
 abbrev pub settled_in : List ℕ → ℕ → Snapshot → Snapshot
-settled_in priorities rounds s = with_seats s (after_rounds priorities rounds (seating_of s))
+settled_in priorities rounds s = with_lineup s (after_rounds priorities rounds (lineup_of s))
 
--- Who was seated outranks all who are still ready, so each core changes hands once at the most: as
+-- Who took a core outranks all who are still ready, so each core changes hands once at the most: as
 -- many rounds as there are cores are enough.
 abbrev pub settled : List ℕ → Snapshot → Snapshot
 settled priorities s = settled_in priorities (length s.cores) s
 
 -- Does the head of the ready list have the priority of the task on the core?
-abbrev pub shares_core : List ℕ → Seating → ℕ → Bool
-shares_core priorities seats core =
-    nat_lt 0 (length seats.ready)
-    && nat_eq (rank_of priorities (running_on seats.cores core))
-    (slice_index priorities (head_of seats.ready) + 1)
+abbrev pub shares_core : List ℕ → Lineup → ℕ → Bool
+shares_core priorities lineup core =
+    nat_lt 0 (length lineup.ready)
+    && nat_eq (rank_of priorities (running_on lineup.cores core))
+    (slice_index priorities (head_of lineup.ready) + 1)
 
 -- Tasks of one priority take turns: the head then takes the core, and the task that ran there joins
 -- the ready list.
 abbrev pub rotated : List ℕ → ℕ → Snapshot → Snapshot
 rotated priorities core s =
-    with_seats s
-    (if shares_core priorities (seating_of s) core
-    then seated_on priorities (seating_of s) core
-    else seating_of s)
+    with_lineup s
+    (if shares_core priorities (lineup_of s) core
+    then with_head_on priorities (lineup_of s) core
+    else lineup_of s)
 
 -- No ready task outranks a running one, and no core is idle while a task is ready.
 abbrev pub IsSettled : List ℕ → Snapshot → Type 0

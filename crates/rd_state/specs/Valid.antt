@@ -51,14 +51,14 @@ abbrev pub times_on_cores : ℕ → List (Option ℕ) → ℕ
 times_on_cores task cores = count_by (is_on task) cores
 
 -- how often a task of this phase stands on a core or in the ready list
-abbrev pub seats_to_run : Phase → ℕ
-seats_to_run phase = if can_run phase then 1 else 0
+abbrev pub times_to_run : Phase → ℕ
+times_to_run phase = if can_run phase then 1 else 0
 
 -- A task that can run is on one core or once in the ready list, not both; any other is in neither.
-abbrev pub SeatedOnce : Snapshot → Type 0
-SeatedOnce s =
+abbrev pub LinedUpOnce : Snapshot → Type 0
+LinedUpOnce s =
     (task : ℕ) → task < length s.tasks
-    → times_in_list task s.ready + times_on_cores task s.cores ≡ seats_to_run (task_at s task).phase
+    → times_in_list task s.ready + times_on_cores task s.cores ≡ times_to_run (task_at s task).phase
 
 -- the list in which a task of this phase waits, if one has it
 abbrev pub waits_in : Phase → Option Listed
@@ -178,7 +178,7 @@ HoldersFitScripts app s =
 
 pub record IsValid (app : Application) (s : Snapshot) : Type 0 where
   pub in_limits : InLimits app s
-  pub seated_once : SeatedOnce s
+  pub lined_up_once : LinedUpOnce s
   pub waiting_lists : ListsInOrder (priorities_of app) s
   pub places : WaitsInLists s
   pub calls : PhasesFitScripts app s

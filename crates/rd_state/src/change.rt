@@ -1,7 +1,7 @@
 //! The primitive changes of the state.
 
 ghost use Rattle.std.specs.Prelude.{◌≡◌};
-ghost use Rattle.rd_state.specs.Change.{cost_of, moves_seats, the_change};
+ghost use Rattle.rd_state.specs.Change.{cost_of, moves_lineup, the_change};
 
 use crate::objects::ObjectChange;
 use crate::task_change::TaskChange;
@@ -47,8 +47,8 @@ impl Change<'_> {
     /// called for. (A task that leaves the ready list counts, wherever it stands there, as only the
     /// scheduler takes tasks out.)
     #[inline(always)]
-    pub(crate) fn moves_seats(self) -> bool
-        ensures { result ≡ moves_seats (the_change self.entry) }
+    pub(crate) fn moves_lineup(self) -> bool
+        ensures { result ≡ moves_lineup (the_change self.entry) }
     {
         match self {
             Change::SetCore { .. } | Change::DelReady { .. } => true,

@@ -6,7 +6,7 @@ ghost use Rattle.std.specs.Prelude.{IfSome, IsOk, IsTrue, OnOk, OnErr};
 ghost use Rattle.std.specs.Borrow.{sem, Lends};
 ghost use Rattle.rd_state.specs.contracts.editing.Editing.{the_row};
 ghost use Rattle.rd_state.specs.contracts.state.State.{the_row as state_row};
-ghost use Rattle.rd_state.specs.Change.{applied, cost_of, inverse_of, moves_seats, the_change};
+ghost use Rattle.rd_state.specs.Change.{applied, cost_of, inverse_of, moves_lineup, the_change};
 ghost use Rattle.rd_state.specs.Change.{Fits, Object, Task};
 ghost use Rattle.rd_state.specs.Objects.{the_object_change};
 ghost use Rattle.rd_state.specs.Edit.{begun_at, calm_behind, capacity_of, room_for, GoesOn};
@@ -68,11 +68,11 @@ impl Model for Editing {
 #[inline(always)]
 fn stays_calm(calm: bool, made: &Result<(), NoMemory>, change: Change<'_>) -> bool
     ensures before { IsTrue result → IsTrue calm }
-    ensures still { IsTrue result → OnOk made.now (moves_seats (the_change change.entry) ≡ false) }
+    ensures still { IsTrue result → OnOk made.now (moves_lineup (the_change change.entry) ≡ false) }
     ensures ok { OnOk made.now (result ≡ calm_behind calm (the_change change.entry)) }
     ensures err { OnErr made.now (result ≡ calm) }
 {
-    calm && (made.is_err() || !change.moves_seats())
+    calm && (made.is_err() || !change.moves_lineup())
 }
 
 impl Editing {
@@ -152,7 +152,7 @@ impl Editing {
     #[inline(always)]
     pub fn is_calm(&self) -> bool
         ensures exact { result ≡ self.now.calm }
-        ensures since { IsTrue result → IsCalmSince self.now.base self.now.now }
+        ensures since { IsTrue result → IsCalmSince self.now.outset self.now.now }
     {
         self.calm
     }
@@ -369,7 +369,7 @@ impl Editing {
     #[inline(always)]
     pub fn roll_back(&mut self)
         ensures begun { self.new
-            ≡ begun_at self.old.base.state self.old.base.recorded self.new.room self.old.calm }
+            ≡ begun_at self.old.outset.state self.old.outset.recorded self.new.room self.old.calm }
         ensures room { self.old.room ≤ self.new.room }
         ensures capacity { capacity_of self.new ≡ capacity_of self.old }
     {

@@ -5,8 +5,8 @@ ghost use Rattle.std.specs.Prelude.{Ok, false, true, IfOk, IsOk, OnOk, OnErr};
 ghost use Rattle.rd_wait.specs.Joined.{joined};
 ghost use Rattle.rd_state.specs.Edit.{room_for, GivesUp, Reaches};
 ghost use Rattle.rd_state.specs.Settled.{settled, settled_in, rotated, weakest_of, rank_of};
-ghost use Rattle.rd_state.specs.Settled.{head_of, running_on, seated_on, after_one_round};
-ghost use Rattle.rd_state.specs.Settled.{seating_of, shares_core, with_seats, IsSettled};
+ghost use Rattle.rd_state.specs.Settled.{head_of, running_on, with_head_on, after_one_round};
+ghost use Rattle.rd_state.specs.Settled.{lineup_of, shares_core, with_lineup, IsSettled};
 ghost use Rattle.rd_state.specs.Settled.{SchedulingSettles};
 ghost use Rattle.rd_state.specs.Sizes.{IsTaskOrIdle};
 
@@ -66,13 +66,13 @@ impl Editing {
     }
 
     // The head of the ready list takes the core, and who ran there joins the list.
-    fn seat_on(&mut self, priorities: &[u8], core: usize, head: usize) -> Result<(), NoMemory>
+    fn take_core(&mut self, priorities: &[u8], core: usize, head: usize) -> Result<(), NoMemory>
         requires core { core < length self.old.now.cores }
         requires some { 0 < length self.old.now.ready }
         requires head { head ≡ head_of self.old.now.ready }
         requires priorities { length priorities.now ≡ length self.old.now.tasks }
         ensures ok { OnOk result (Reaches self.old self.new
-            (with_seats self.old.now (seated_on priorities.now (seating_of self.old.now) core)) 3) }
+            (with_lineup self.old.now (with_head_on priorities.now (lineup_of self.old.now) core)) 3) }
         ensures err { OnErr result (GivesUp self.old self.new 3) }
     {
         let running = self.state().core(core);
@@ -86,14 +86,14 @@ impl Editing {
 
     /// The head of the ready list takes the weakest core, if it outranks who
     /// runs there. Answers whether it did.
-    fn seat_head(&mut self, priorities: &[u8]) -> Result<bool, NoMemory>
+    fn run_head(&mut self, priorities: &[u8]) -> Result<bool, NoMemory>
         requires cores { 0 < length self.old.now.cores }
         requires priorities { length priorities.now ≡ length self.old.now.tasks }
         ensures ok { OnOk result
             (Reaches self.old self.new (settled_in priorities.now 1 self.old.now) 3) }
         ensures settled { IsSettled priorities.now self.old.now → result ≡ Ok false }
         ensures still { result ≡ Ok false
-            → after_one_round priorities.now (seating_of self.old.now) ≡ seating_of self.old.now }
+            → after_one_round priorities.now (lineup_of self.old.now) ≡ lineup_of self.old.now }
         ensures err { OnErr result (GivesUp self.old self.new 3) }
     {
         let Some(head) = self.state().ready().first() else {
@@ -103,11 +103,11 @@ impl Editing {
         if rank > usize::from(priorities[head]) {
             return Ok(false);
         }
-        self.seat_on(priorities, core, head)?;
+        self.take_core(priorities, core, head)?;
         Ok(true)
     }
 
-    /// Seats heads of the ready list, for at most `rounds` rounds.
+    /// Lets heads of the ready list take cores, for at most `rounds` rounds.
     fn settle_in(&mut self, priorities: &[u8], rounds: usize) -> Result<(), NoMemory>
         requires cores { 0 < length self.old.now.cores }
         requires priorities { length priorities.now ≡ length self.old.now.tasks }
@@ -120,7 +120,7 @@ impl Editing {
         if rounds == 0 {
             return Ok(());
         }
-        if self.seat_head(priorities)? {
+        if self.run_head(priorities)? {
             self.settle_in(priorities, rounds - 1)
         } else {
             Ok(())
@@ -133,8 +133,8 @@ impl Editing {
     pub fn settle(&mut self, priorities: &[u8]) -> Result<(), NoMemory>
         requires cores { 0 < length self.old.now.cores }
         requires priorities { length priorities.now ≡ length self.old.now.tasks }
-        requires calm { self.old.base.calm ≡ true
-            → IsSettled priorities.now self.old.base.state }
+        requires calm { self.old.outset.calm ≡ true
+            → IsSettled priorities.now self.old.outset.state }
         ensures ok { OnOk result (Reaches self.old self.new (settled priorities.now self.old.now)
             (3 * length self.old.now.cores)) }
         ensures settled { IsSettled priorities.now self.old.now → IsOk result }
@@ -155,7 +155,7 @@ impl Editing {
         requires priorities { length priorities.now ≡ length self.old.now.tasks }
         ensures ok { OnOk result
             (Reaches self.old self.new (rotated priorities.now core self.old.now) 3) }
-        ensures stays { shares_core priorities.now (seating_of self.old.now) core ≡ false
+        ensures stays { shares_core priorities.now (lineup_of self.old.now) core ≡ false
             → IsOk result }
         ensures err { OnErr result (GivesUp self.old self.new 3) }
     {
@@ -166,7 +166,7 @@ impl Editing {
         if rank_of(priorities, running) != usize::from(priorities[head]) + 1 {
             return Ok(());
         }
-        self.seat_on(priorities, core, head)
+        self.take_core(priorities, core, head)
     }
 }
 

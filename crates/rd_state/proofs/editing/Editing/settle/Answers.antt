@@ -8,8 +8,8 @@ returns-then-is_calm-clause-ok c =
     let edit = c.args.self.now in
     let since = c.is_calm.ensures.since c.if-is_calm.true in
     record {
-      now = sym (settled-calm c.args.priorities.now edit.base.state edit.now c.requires.cores (c.requires.calm since.was) since.stay);
-      base = refl;
+      now = sym (settled-calm c.args.priorities.now edit.outset.state edit.now c.requires.cores (c.requires.calm since.was) since.stay);
+      outset = refl;
       weight = omega arith;
       room = omega arith;
       grows = omega arith;

@@ -1,8 +1,8 @@
--- The goals of append_seat_names that the check left open.
+-- The goals of append_running_names that the check left open.
 use Rattle.std.proofs.Common.{arith, None}
 use Rattle.rd_reply.proofs.TextLaws.{one_more}
 use Rattle.rd_reply.specs.Names.{name_or_dash}
-use Rattle.rd_reply.proofs.tasks.append_seat_names.Goals as goal
+use Rattle.rd_reply.proofs.tasks.append_running_names.Goals as goal
 
 pub loop-index-preserved : goal.loop-index-preserved
 loop-index-preserved c =
