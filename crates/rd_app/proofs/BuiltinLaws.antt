@@ -13,5 +13,5 @@ no_members = tt
 limits : IsApplication builtin
 limits = search (rules, no_members)
 
-pub builtin_is_kept : (app : Application) → app ≡ builtin → IsApplication app
-builtin_is_kept app is = subst IsApplication (sym is) limits
+pub builtin_is_application : (app : Application) → app ≡ builtin → IsApplication app
+builtin_is_application app is = subst IsApplication (sym is) limits

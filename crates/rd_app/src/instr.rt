@@ -51,7 +51,7 @@ pub enum LocalInstr {
 #[derive(Clone, Copy)]
 pub enum QueueCall {
     /// `send Q T`, `front Q T`: puts the data at the queue's back, or at its front, and waits for
-    /// room up to the block time (`xQueueSend`, `xQueueSendToFront`).
+    /// space up to the block time (`xQueueSend`, `xQueueSendToFront`).
     Send { end: End, wait: Operand },
     /// `recv Q T`: takes the queue's first item as the data, and waits for one up to the block time
     /// (`xQueueReceive`).
@@ -85,8 +85,8 @@ pub enum QueueSetCall {
 /// A call of a stream buffer.
 #[derive(Clone, Copy)]
 pub enum StreamCall {
-    /// `swrite B T`: puts as many bytes of the data into the buffer as it has room for, and waits
-    /// for room for all of them up to the block time (`xStreamBufferSend`).
+    /// `swrite B T`: puts as many bytes of the data into the buffer as it has space for, and waits
+    /// for space for all of them up to the block time (`xStreamBufferSend`).
     Write { wait: Operand },
     /// `sread B ROOM T`: takes the buffer's first bytes as the data, `room` of them at the most,
     /// and waits for some up to the block time (`xStreamBufferReceive`).
@@ -97,14 +97,14 @@ pub enum StreamCall {
     SetTrigger { trigger: Operand },
     /// `scount B`: the number of bytes (`xStreamBufferBytesAvailable`).
     Count,
-    /// `sspaces B`: for how many bytes there is room (`xStreamBufferSpacesAvailable`).
+    /// `sspaces B`: for how many bytes there is space (`xStreamBufferSpacesAvailable`).
     Spaces,
 }
 
 /// A call of a message buffer.
 #[derive(Clone, Copy)]
 pub enum MessageCall {
-    /// `mwrite M T`: puts the data into the buffer as one message, and waits for room up to the
+    /// `mwrite M T`: puts the data into the buffer as one message, and waits for space up to the
     /// block time (`xMessageBufferSend`).
     Write { wait: Operand },
     /// `mread M ROOM T`: takes the buffer's first message as the data, if it has `room` bytes at
@@ -112,7 +112,7 @@ pub enum MessageCall {
     Read { room: usize, wait: Operand },
     /// `mreset M`: empties the buffer (`xMessageBufferReset`).
     Reset,
-    /// `mspaces M`: for how many bytes there is room (`xMessageBufferSpacesAvailable`).
+    /// `mspaces M`: for how many bytes there is space (`xMessageBufferSpacesAvailable`).
     Spaces,
     /// `mnext M`: the number of bytes of the first message (`xMessageBufferNextLengthBytes`).
     NextLength,

@@ -6,8 +6,8 @@ use Rattle.std.specs.Int.{w16, to_le_bytes}
 use Rattle.rd_bytes.specs.Ends.{all_but, bytes_before, end_byte, end_short, end_word, end_long}
 use Rattle.rd_bytes.specs.Tags.{last_kind}
 use Rattle.rd_bytes.specs.declared.tag.TheConstants.{INS_WAIT}
-use Rattle.rd_bytes.specs.Layouts.{Width, Byte, Short, Word, Long, Count, width_size, FitsWidth, bytes_of, end_number, size, HaveRoom, encoded, last_fields}
-use Rattle.rd_bytes.specs.Layouts.{count_in, Layout, row_widths, last_length, laid_out, HasRoom, EachRowIsReadBack}
+use Rattle.rd_bytes.specs.Layouts.{Width, Byte, Short, Word, Long, Count, width_size, FitsWidth, bytes_of, end_number, size, FitWidths, encoded, last_fields}
+use Rattle.rd_bytes.specs.Layouts.{count_in, Layout, row_widths, last_length, laid_out, FitsLayout, EachRowIsReadBack}
 use Rattle.rd_bytes.proofs.EndLaws.{end_byte_of, end_short_of, end_word_of, end_long_of, all_but_saved, bytes_before_end}
 
 length-bytes_of : (width : Width) (number : ℕ) → length (bytes_of width number) ≡ width_size width
@@ -17,11 +17,11 @@ length-bytes_of Word number = refl
 length-bytes_of Long number = refl
 length-bytes_of Count number = refl
 
-length-encoded : (widths : List Width) (fields : List ℕ) → HaveRoom widths fields → length (encoded widths fields) ≡ size widths
-length-encoded [] fields room = refl
-length-encoded (width ∷ later) [] room = absurd room
-length-encoded (width ∷ later) (field ∷ fields) room =
-    omega (arith, length-append (bytes_of width field) (encoded later fields), length-bytes_of width field, length-encoded later fields room.1)
+length-encoded : (widths : List Width) (fields : List ℕ) → FitWidths widths fields → length (encoded widths fields) ≡ size widths
+length-encoded [] fields fits = refl
+length-encoded (width ∷ later) [] fits = absurd fits
+length-encoded (width ∷ later) (field ∷ fields) fits =
+    omega (arith, length-append (bytes_of width field) (encoded later fields), length-bytes_of width field, length-encoded later fields fits.1)
 
 -- a byte of some that stand before others
 byte_before : (x y : List ℕ) (k i : ℕ) → k + i ≡ length x + length y → i < length x → end_byte k (x ++ y) ≡ get_or x i 0
@@ -81,20 +81,20 @@ number_read b y width number k fits at =
     ∙ ap (λ j. end_number width j x) at ∙ number_before width number y fits
 
 -- fields before a tag
-fields_read : (b : List ℕ) (widths : List Width) (fields : List ℕ) (tag : ℕ) → HaveRoom widths fields
+fields_read : (b : List ℕ) (widths : List Width) (fields : List ℕ) (tag : ℕ) → FitWidths widths fields
     → last_fields widths (b ++ (encoded widths fields ++ tag ∷ [])) ≡ fields
-fields_read b [] [] tag room = refl
-fields_read b [] (field ∷ fields) tag room = absurd room
-fields_read b (width ∷ later) [] tag room = absurd room
-fields_read b (width ∷ later) (field ∷ fields) tag room =
+fields_read b [] [] tag fits = refl
+fields_read b [] (field ∷ fields) tag fits = absurd fits
+fields_read b (width ∷ later) [] tag fits = absurd fits
+fields_read b (width ∷ later) (field ∷ fields) tag fits =
     let first : List ℕ = bytes_of width field in
     let y : List ℕ = encoded later fields ++ tag ∷ [] in
     let whole : b ++ (encoded (width ∷ later) (field ∷ fields) ++ tag ∷ []) ≡ b ++ (first ++ y) =
     ap (λ x. b ++ x) (append_assoc first (encoded later fields) (tag ∷ [])) in
-    let long : length y ≡ size later + 1 = omega (arith, length-append (encoded later fields) (tag ∷ []), length-encoded later fields room.1) in
-    let here : end_number width (2 + size later) (b ++ (first ++ y)) ≡ field = number_read b y width field _ room.0 (omega (arith, long)) in
+    let long : length y ≡ size later + 1 = omega (arith, length-append (encoded later fields) (tag ∷ []), length-encoded later fields fits.1) in
+    let here : end_number width (2 + size later) (b ++ (first ++ y)) ≡ field = number_read b y width field _ fits.0 (omega (arith, long)) in
     let behind : last_fields later (b ++ (first ++ y)) ≡ fields =
-    ap (last_fields later) (sym (append_assoc b first y)) ∙ fields_read (b ++ first) later fields tag room.1 in
+    ap (last_fields later) (sym (append_assoc b first y)) ∙ fields_read (b ++ first) later fields tag fits.1 in
     ap (last_fields (width ∷ later)) whole ∙ ap₂ (λ (x : ℕ) (xs : List ℕ). x ∷ xs) here behind
 
 -- What has to hold of each change of a layout: it is again the change of its tag, its fields and
@@ -107,20 +107,20 @@ pub record ComesBack {Change : Type 0} (layout : Layout Change) (object : ℕ) (
       → last_fields (row_widths layout object change) bytes ≡ (layout.row object change).1 → last_kind bytes ≡ layout.kind
 
 -- Then each change that was laid out behind bytes is read at their end.
-pub laid_read : {Change : Type 0} (layout : Layout Change) → ((object : ℕ) (change : Change) → HasRoom layout object change → ComesBack layout object change)
+pub laid_read : {Change : Type 0} (layout : Layout Change) → ((object : ℕ) (change : Change) → FitsLayout layout object change → ComesBack layout object change)
     → EachRowIsReadBack layout
-laid_read layout each b object change room =
+laid_read layout each b object change fits =
     let row : ℕ × List ℕ × List ℕ = layout.row object change in
     let widths : List Width = layout.widths row.0 in
-    let is = each object change room in
+    let is = each object change fits in
     let x : List ℕ = encoded widths row.1 ++ row.0 ∷ [] in
     let bytes : List ℕ = b ++ laid_out layout object change in
     let apart : bytes ≡ (b ++ row.2) ++ x = sym (append_assoc b row.2 x) in
-    let long : length x ≡ size widths + 1 = omega (arith, length-append (encoded widths row.1) (row.0 ∷ []), length-encoded widths row.1 room.1) in
+    let long : length x ≡ size widths + 1 = omega (arith, length-append (encoded widths row.1) (row.0 ∷ []), length-encoded widths row.1 fits.1) in
     let tag : end_byte 1 bytes ≡ row.0 =
     ap (end_byte 1) apart ∙ end_byte_of (b ++ row.2) x 1 (omega arith) (omega (arith, long))
     ∙ end_byte_of (encoded widths row.1) (row.0 ∷ []) 1 (omega arith) (omega arith) in
-    let fields : last_fields widths bytes ≡ row.1 = ap (last_fields widths) apart ∙ fields_read (b ++ row.2) widths row.1 row.0 room.1 in
+    let fields : last_fields widths bytes ≡ row.1 = ap (last_fields widths) apart ∙ fields_read (b ++ row.2) widths row.1 row.0 fits.1 in
     let carried : bytes_before (1 + size widths) (length row.2) bytes ≡ row.2 =
     ap (bytes_before (1 + size widths) (length row.2)) apart ∙ bytes_before_end b row.2 x (1 + size widths) (length row.2) (omega (arith, long)) refl in
     let whole : last_length layout bytes ≡ 1 + size widths + length row.2 =

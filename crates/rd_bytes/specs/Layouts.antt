@@ -16,7 +16,7 @@ pub data Width : Type 0 where
   Long : Width
   Count : Width
 
--- how many bytes a field takes, and which numbers have room in them
+-- how many bytes a field takes, and which numbers fit in them
 abbrev pub width_size : Width → ℕ
 width_size Byte = 1
 width_size Short = 2
@@ -51,11 +51,11 @@ abbrev pub size : List Width → ℕ
 size [] = 0
 size (width ∷ later) = width_size width + size later
 
-abbrev pub HaveRoom : List Width → List ℕ → Type 0
-HaveRoom [] [] = Unit {0}
-HaveRoom [] (field ∷ fields) = ⊥
-HaveRoom (width ∷ later) [] = ⊥
-HaveRoom (width ∷ later) (field ∷ fields) = FitsWidth width field × HaveRoom later fields
+abbrev pub FitWidths : List Width → List ℕ → Type 0
+FitWidths [] [] = Unit {0}
+FitWidths [] (field ∷ fields) = ⊥
+FitWidths (width ∷ later) [] = ⊥
+FitWidths (width ∷ later) (field ∷ fields) = FitsWidth width field × FitWidths later fields
 
 abbrev pub encoded : List Width → List ℕ → List ℕ
 encoded [] fields = []
@@ -87,7 +87,7 @@ pub record Layout (Change : Type 0) : Type 0 where
   pub read : ℕ → List ℕ → List ℕ → ℕ × Change
   pub optional : Change → Option ℕ
 
--- ---- a change of an object as bytes, and whether they have room for it: for the object, whatever
+-- ---- a change of an object as bytes, and whether it fits in them: for the object, whatever
 -- the change, and for its fields, and the number that may be none is not the one that says so
 
 abbrev pub row_widths : {Change : Type 0} → Layout Change → ℕ → Change → List Width
@@ -99,9 +99,9 @@ laid_out layout object change =
     ++ (encoded (row_widths layout object change) (layout.row object change).1
     ++ (layout.row object change).0 ∷ [])
 
-abbrev pub HasRoom : {Change : Type 0} → Layout Change → ℕ → Change → Type 0
-HasRoom layout object change =
-    (object < 256) × HaveRoom (row_widths layout object change) (layout.row object change).1
+abbrev pub FitsLayout : {Change : Type 0} → Layout Change → ℕ → Change → Type 0
+FitsLayout layout object change =
+    (object < 256) × FitWidths (row_widths layout object change) (layout.row object change).1
     × IfSome (layout.optional change) (λ n. n < 255)
 
 -- ---- the change at the end of bytes
@@ -139,5 +139,5 @@ pub record IsLaidAtEnd {Change : Type 0} (layout : Layout Change) (bytes rest : 
 
 -- Whichever change it is, behind whichever bytes it is put.
 abbrev pub EachRowIsReadBack : {Change : Type 0} → Layout Change → Type 0
-EachRowIsReadBack layout = (rest : List ℕ) (object : ℕ) (change : _) → HasRoom layout object change
+EachRowIsReadBack layout = (rest : List ℕ) (object : ℕ) (change : _) → FitsLayout layout object change
     → IsLaidAtEnd layout (rest ++ laid_out layout object change) rest object change

@@ -66,7 +66,7 @@ fn make_ready(
     count: usize,
 ) -> Result<(), NoMemory>
     requires { len ≤ length slots.old.items }
-    ensures kept { take len slots.new.items ≡ take len slots.old.items }
+    ensures same { take len slots.new.items ≡ take len slots.old.items }
     ensures ok { OnOk result (len + count ≤ length slots.new.items) }
     ensures enough { len + count ≤ slots.old.capacity → IsOk result }
     ensures grows { slots.old.capacity ≤ slots.new.capacity }

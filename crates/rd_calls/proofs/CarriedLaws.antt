@@ -10,7 +10,7 @@ use Rattle.rd_refusal.specs.declared.refusal.Refusal.{Refusal}
 use Rattle.rd_refusal.specs.declared.refusal.Refusal.TheVariants.{BadEdit, NoIsr, NoMemory}
 use Rattle.rd_state.specs.declared.phase.Held.{Held}
 use Rattle.rd_state.specs.Change.{Change}
-use Rattle.rd_state.specs.Edit.{Outset, Edit as Editing, GivesUp, Reaches}
+use Rattle.rd_state.specs.EditingView.{Outset, EditingView, GivesUp, Reaches}
 use Rattle.rd_state.specs.Settled.{IsSettled}
 use Rattle.rd_state.specs.Sizes.{IsSized}
 use Rattle.rd_state.specs.Snapshot.{Snapshot, task_at}
@@ -131,14 +131,14 @@ settled-after app s Tick s' before leaves = leaves
 settled-after app s (Carried carried) s' before leaves = carried-settled app s carried s' before leaves
 
 -- A move that was made, or that gave up, began where it began.
-outset-from : {T E : Type 0} (r : Result T E) (target : Snapshot) (cost : ℕ) (begun made : Editing) → OnOk r (Reaches begun made target cost)
+outset-from : {T E : Type 0} (r : Result T E) (target : Snapshot) (cost : ℕ) (begun made : EditingView) → OnOk r (Reaches begun made target cost)
     → OnErr r (GivesUp begun made cost) → made.outset ≡ begun.outset
 outset-from r target cost begun made =
     elim r as (λ q. OnOk q (Reaches begun made target cost) → OnErr q (GivesUp begun made cost) → made.outset ≡ begun.outset)
     [ Ok x ↦ λ f g. f.outset | Err y ↦ λ f g. g.outset ]
 
 -- Behind a move, made or not, the next one can be made: where nothing calls for settling now, nothing did where it began.
-pub CanPlay-from : {T E : Type 0} (r : Result T E) (app : Application) (s : Snapshot) (move : PlainMove) (target : Snapshot) (cost : ℕ) (begun made now : Editing)
+pub CanPlay-from : {T E : Type 0} (r : Result T E) (app : Application) (s : Snapshot) (move : PlainMove) (target : Snapshot) (cost : ℕ) (begun made now : EditingView)
     (changes : List Change) → IsValid app s → (begun.outset.calm ≡ true → IsSettled (priorities_of app) s) → OnOk r (Reaches begun made target cost)
     → OnErr r (GivesUp begun made cost) → (now.calm ≡ true → made.outset.calm ≡ true) → OnOk r (IsPlayed app s move now.now changes) → OnErr r (now.now ≡ s)
     → CanPlay app now

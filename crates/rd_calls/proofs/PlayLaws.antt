@@ -34,7 +34,7 @@ use Rattle.rd_stream.specs.Messages.{bytes_held}
 use Rattle.rd_stream.specs.StreamSnapshot.{StreamSnapshot}
 use Rattle.rd_state.specs.Change.{Change}
 use Rattle.rd_state.specs.Change.{weight_of}
-use Rattle.rd_state.specs.Edit.{Outset, Edit, GivesUp, GoesOn, Reaches, added, begun_at, capacity_of, room_for}
+use Rattle.rd_state.specs.EditingView.{Outset, EditingView, GivesUp, GoesOn, Reaches, added, begun_at, capacity_of, room_for}
 use Rattle.rd_state.specs.PackedChanges.{all_packed}
 use Rattle.rd_state.specs.Sizes.{IsSized}
 use Rattle.rd_state.specs.Snapshot.{Snapshot, core_at, queue_at}
@@ -124,11 +124,11 @@ pub record Leads (app : Application) (s : Snapshot) (move : PlainMove) (target :
   pub valid : (s' : Snapshot) → s' ≡ target → IsSized s' → IsValid app s'
   pub settled : (s' : Snapshot) → s' ≡ target → LeavesSettled app s move s'
 
-goes_on : (app : Application) (s s' : Snapshot) (move : PlainMove) (target : Snapshot) (cost : ℕ) (begun made : Edit) (before changes : List Change) (room : ℕ) (calm : Bool)
+goes_on : (app : Application) (s s' : Snapshot) (move : PlainMove) (target : Snapshot) (cost : ℕ) (begun made : EditingView) (before changes : List Change) (room : ℕ) (calm : Bool)
     → begun ≡ begun_at s before room calm → Leads app s move target cost → IsSized s' → Reaches begun made target cost → s' ≡ made.now → GoesOn made changes
     → IsPlayed app s move s' (added before changes)
 goes_on app s s' move target cost begun made before changes room calm is leads sized comes now goes =
-    let outset : made.outset ≡ (begun_at s before room calm).outset = comes.outset ∙ ap (λ (edit : Edit). edit.outset) is in
+    let outset : made.outset ≡ (begun_at s before room calm).outset = comes.outset ∙ ap (λ (edit : EditingView). edit.outset) is in
     let there : s' ≡ target = now ∙ comes.now in
     let Q : Snapshot → Outset → Type 0 = λ t b. (undone t (added b.recorded changes) ≡ b.state) × CanUndo t (added b.recorded changes)
     × (weight_of (added b.recorded changes) ≡ made.weight) in
@@ -139,7 +139,7 @@ goes_on app s s' move target cost begun made before changes room calm is leads s
       step = leads.step ∙ ap (λ (t : Snapshot). Ok t) (sym there);
       leads_back = here.0;
       can_undo = here.1;
-      small = omega (arith, here.2, comes.weight, ap (λ (edit : Edit). edit.weight) is, leads.few);
+      small = omega (arith, here.2, comes.weight, ap (λ (edit : EditingView). edit.weight) is, leads.few);
       packable =
           omega (
             arith,
@@ -147,7 +147,7 @@ goes_on app s s' move target cost begun made before changes room calm is leads s
             length-weight-le (added before changes),
             here.2,
             comes.weight,
-            ap (λ (edit : Edit). edit.weight) is,
+            ap (λ (edit : EditingView). edit.weight) is,
             leads.few,
             leads.most_few,
           );
@@ -156,7 +156,7 @@ goes_on app s s' move target cost begun made before changes room calm is leads s
     }
 
 -- the same, seen by what the move returns
-pub IsPlayed-from : {T E : Type 0} (r : Result T E) (app : Application) (s s' : Snapshot) (move : PlainMove) (target : Snapshot) (cost : ℕ) (begun made : Edit)
+pub IsPlayed-from : {T E : Type 0} (r : Result T E) (app : Application) (s s' : Snapshot) (move : PlainMove) (target : Snapshot) (cost : ℕ) (begun made : EditingView)
     (before changes : List Change) (room : ℕ) (calm : Bool) → begun ≡ begun_at s before room calm → Leads app s move target cost → IsSized s'
     → OnOk r (Reaches begun made target cost) → OnOk r (s' ≡ made.now) → OnOk r (GoesOn made changes)
     → OnOk r (IsPlayed app s move s' (added before changes))
@@ -242,21 +242,21 @@ Leads-tick app s limits valid later =
     }
 
 -- No memory is given back, whether the move was made or gave up.
-pub grows-from : {T E : Type 0} (r : Result T E) (target : Snapshot) (cost : ℕ) (begun made : Edit) → OnOk r (Reaches begun made target cost)
+pub grows-from : {T E : Type 0} (r : Result T E) (target : Snapshot) (cost : ℕ) (begun made : EditingView) → OnOk r (Reaches begun made target cost)
     → OnErr r (GivesUp begun made cost) → capacity_of begun ≤ capacity_of made
 grows-from r target cost begun made =
     elim r as (λ q. OnOk q (Reaches begun made target cost) → OnErr q (GivesUp begun made cost) → capacity_of begun ≤ capacity_of made)
     [ Ok x ↦ λ f g. f.grows | Err y ↦ λ f g. g.grows ]
 
 -- the room that was short, where the move gave up
-pub short-from : {T E : Type 0} (r : Result T E) (app : Application) (s : Snapshot) (move : PlainMove) (target : Snapshot) (cost room : ℕ) (begun made : Edit)
+pub short-from : {T E : Type 0} (r : Result T E) (app : Application) (s : Snapshot) (move : PlainMove) (target : Snapshot) (cost room : ℕ) (begun made : EditingView)
     → begun.room ≡ room → Leads app s move target cost → OnErr r (GivesUp begun made cost) → OnErr r (room < room_for (record_limit app s move))
 short-from r app s move target cost room begun made same leads =
     elim r as (λ q. OnErr q (GivesUp begun made cost) → OnErr q (room < room_for (record_limit app s move)))
     [ Ok x ↦ λ f. tt | Err y ↦ λ f. omega (arith, same, f.short, leads.few) ]
 
 -- the room that is left, where it was made
-pub room-from : {T E : Type 0} (r : Result T E) (app : Application) (s : Snapshot) (move : PlainMove) (target : Snapshot) (cost room now : ℕ) (begun made : Edit)
+pub room-from : {T E : Type 0} (r : Result T E) (app : Application) (s : Snapshot) (move : PlainMove) (target : Snapshot) (cost room now : ℕ) (begun made : EditingView)
     → begun.room ≡ room → Leads app s move target cost → OnOk r (Reaches begun made target cost) → OnOk r (now ≡ made.room)
     → OnOk r (room ≤ now + room_for (record_limit app s move))
 room-from r app s move target cost room now begun made same leads =
@@ -264,7 +264,7 @@ room-from r app s move target cost room now begun made same leads =
     [ Ok x ↦ λ f g. omega (arith, same, f.room, g, leads.few) | Err y ↦ λ f g. tt ]
 
 -- and where it gave up, once its changes are taken back
-pub err_room-from : {T E : Type 0} (r : Result T E) (cost : ℕ) (begun made now : Edit) → begun.outset.recorded ≡ begun.changes → capacity_of now ≡ capacity_of made
+pub err_room-from : {T E : Type 0} (r : Result T E) (cost : ℕ) (begun made now : EditingView) → begun.outset.recorded ≡ begun.changes → capacity_of now ≡ capacity_of made
     → OnErr r (GivesUp begun made cost) → OnErr r (now.changes ≡ made.outset.recorded) → OnErr r (begun.room ≤ now.room)
 err_room-from r cost begun made now here capacity =
     elim r as (λ q. OnErr q (GivesUp begun made cost) → OnErr q (now.changes ≡ made.outset.recorded) → OnErr q (begun.room ≤ now.room)) [

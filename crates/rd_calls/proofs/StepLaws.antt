@@ -56,8 +56,8 @@ IsValid-step app s s' core task limits valid there e same sized =
     let z = core_step app s core task in
     let at = IsConsistent-next_instr app s core task limits valid there e in
     let some : 0 < length p.cores = omega (arith, limits.some_cores, at.cores) in
-    let kept : Rescheduled priorities (lineup_of p) (lineup_of z) = Rescheduled-settled priorities (record p { turn = core + 1 }) some in
-    let consistent_z = IsConsistent-rescheduled app (all_have_time_left s.tick) p z kept refl refl at in
+    let rescheduled : Rescheduled priorities (lineup_of p) (lineup_of z) = Rescheduled-settled priorities (record p { turn = core + 1 }) some in
+    let consistent_z = IsConsistent-rescheduled app (all_have_time_left s.tick) p z rescheduled refl refl at in
     let tick : s.tick ≡ z.tick = sym (performed-tick priorities s core task (next_instr app s task)) in
     subst (λ (t : Snapshot). IsSized t → IsValid app t) (sym same)
     (IsValid-consistent app z (subst (λ t. IsConsistent app (all_have_time_left t) z) tick consistent_z)) sized
@@ -100,8 +100,8 @@ IsValid-tick app s s' limits valid same sized =
     let by_settling : Rescheduled priorities (lineup_of p) (lineup_of (settled priorities p)) = Rescheduled-settled priorities p some_p in
     let there : core < length (settled priorities p).cores = omega (arith, by_settling.cores, at.cores, valid.in_limits.cores, mod-lt (s.tick + 1) some) in
     let by_turns : Rescheduled priorities (lineup_of (settled priorities p)) (lineup_of z) = Rescheduled-rotated priorities core (settled priorities p) there in
-    let kept = Rescheduled-then priorities (lineup_of p) (lineup_of (settled priorities p)) (lineup_of z) by_settling by_turns in
-    let consistent_z = IsConsistent-rescheduled app (all_have_time_left (s.tick + 1)) p z kept refl refl at in
+    let rescheduled = Rescheduled-then priorities (lineup_of p) (lineup_of (settled priorities p)) (lineup_of z) by_settling by_turns in
+    let consistent_z = IsConsistent-rescheduled app (all_have_time_left (s.tick + 1)) p z rescheduled refl refl at in
     let tick : s.tick + 1 ≡ z.tick = sym (TimedOut-of_valid app s (length s.tasks) valid (omega arith)).after.tick in
     subst (λ (t : Snapshot). IsSized t → IsValid app t) (sym same)
     (IsValid-consistent app z (subst (λ t. IsConsistent app (all_have_time_left t) z) tick consistent_z)) sized
@@ -114,8 +114,8 @@ IsSettled-tick app s s' limits valid same =
     let at = IsConsistent-ticked app s valid in
     let some : 0 < length s.cores = omega (arith, limits.some_cores, valid.in_limits.cores) in
     let some_p : 0 < length p.cores = omega (arith, limits.some_cores, at.cores) in
-    let kept : Rescheduled priorities (lineup_of p) (lineup_of (settled priorities p)) = Rescheduled-settled priorities p some_p in
-    let there : core < length (settled priorities p).cores = omega (arith, kept.cores, at.cores, valid.in_limits.cores, mod-lt (s.tick + 1) some) in
+    let rescheduled : Rescheduled priorities (lineup_of p) (lineup_of (settled priorities p)) = Rescheduled-settled priorities p some_p in
+    let there : core < length (settled priorities p).cores = omega (arith, rescheduled.cores, at.cores, valid.in_limits.cores, mod-lt (s.tick + 1) some) in
     subst (IsSettled priorities) (sym same)
     (stays_settled priorities core (settled priorities p) there (scheduling_settles priorities p some_p at.waiting_lists.ready).settled_now)
 

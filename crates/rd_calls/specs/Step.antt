@@ -15,8 +15,8 @@ use Rattle.rd_refusal.specs.declared.refusal.Refusal.TheVariants.{NoTask, TickLi
 use Rattle.rd_bytes.specs.declared.no_memory.NoMemory.{NoMemory}
 use Rattle.rd_state.specs.Change.{Change}
 use Rattle.rd_state.specs.Change.{weight_of}
-use Rattle.rd_state.specs.Edit.{added, capacity_of, room_for}
-use Rattle.rd_state.specs.Edit as editing
+use Rattle.rd_state.specs.EditingView.{added, capacity_of, room_for}
+use Rattle.rd_state.specs.EditingView as editing
 use Rattle.rd_state.specs.Settled.{settled, rotated, IsSettled}
 use Rattle.rd_state.specs.PackedChanges.{IsPackable}
 use Rattle.rd_state.specs.Snapshot.{Snapshot, task_at, core_at}
@@ -174,14 +174,14 @@ pub record IsPlayed (app : Application) (s : Snapshot) (move : PlainMove) (s' : 
 
 -- The next move can be made here at once: the state is valid, and settled where nothing has called
 -- for settling.
-pub record CanPlay (app : Application) (edit : editing.Edit) : Type 0 where
+pub record CanPlay (app : Application) (edit : editing.EditingView) : Type 0 where
   pub valid : IsValid app edit.now
   pub calm : edit.calm ≡ true → IsSettled (priorities_of app) edit.now
 
 -- What a function answers that makes a move after others, and records it: it is made, and its
 -- record stands behind theirs and takes no more of the room than so much, or there is no memory for
 -- it, and nothing has changed. Either way the next move can be made.
-pub record Plays (app : Application) (move : PlainMove) (old new : editing.Edit)
+pub record Plays (app : Application) (move : PlainMove) (old new : editing.EditingView)
     (made : Result (Unit {0}) NoMemory) : Type 0 where
   pub before : OnOk made (take (length old.changes) new.changes ≡ old.changes)
   pub played : OnOk made (IsPlayed app old.now move new.now (added old.changes new.changes))

@@ -2,7 +2,7 @@
 
 ghost use Rattle.std.specs.Prelude.{◌≡◌, true, None, OnErr, OnOk};
 ghost use Rattle.rd_app.specs.Application.{priorities_of};
-ghost use Rattle.rd_state.specs.Edit.{GivesUp, Reaches};
+ghost use Rattle.rd_state.specs.EditingView.{GivesUp, Reaches};
 ghost use Rattle.rd_state.specs.Settled.{IsSettled};
 ghost use Rattle.rd_state.specs.Valid.{IsValid};
 ghost use Rattle.rd_moves.specs.Carried.{IsCarriedOf};

@@ -3,7 +3,7 @@
 ghost use Rattle.std.specs.Prelude.{◌≡◌, ◌+◌, ◌*◌, ◌<◌, length, true, Some, OnOk, OnErr};
 ghost use Rattle.rd_app.specs.declared.app.TheConstants.{MAX_CODE};
 ghost use Rattle.rd_app.specs.Application.{priorities_of};
-ghost use Rattle.rd_state.specs.Edit.{Reaches, GivesUp};
+ghost use Rattle.rd_state.specs.EditingView.{Reaches, GivesUp};
 ghost use Rattle.rd_state.specs.Settled.{IsSettled};
 ghost use Rattle.rd_state.specs.Snapshot.{core_at, task_at};
 ghost use Rattle.rd_state.specs.Valid.{IsValid};

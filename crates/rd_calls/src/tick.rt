@@ -1,7 +1,7 @@
 //! The move of a tick in the middle.
 ghost use Rattle.std.specs.Prelude.{◌≡◌, ◌+◌, ◌*◌, ◌<◌, length, true, OnOk, OnErr};
 ghost use Rattle.rd_app.specs.Application.{priorities_of};
-ghost use Rattle.rd_state.specs.Edit.{Reaches, GivesUp};
+ghost use Rattle.rd_state.specs.EditingView.{Reaches, GivesUp};
 ghost use Rattle.rd_state.specs.Settled.{IsSettled};
 ghost use Rattle.rd_state.specs.Valid.{IsValid};
 ghost use Rattle.rd_calls.specs.Step.{ticked, tick_step, last_tick};

@@ -34,14 +34,14 @@ use Rattle.rd_command.specs.declared.view.View.TheVariants.{Thing, Cores, Overvi
 use Rattle.rd_command.specs.declared.keyword.CommandParameter.{CommandParameter}
 use Rattle.rd_command.specs.declared.keyword.CommandParameter.TheVariants.{Core, Count, Register, Index, Number, Data, Operator, Phase, Action, Name}
 use Rattle.rd_command.specs.declared.keyword.CommandParameter.TheVariants as parameter
-use Rattle.rd_command.specs.Bindings.{IsBoundOf, IsWatch, Known, Reading, after_word, bound_by, bound_of, by_watch, condition_made, known_of, made_by, made_from, made_of, next_condition, next_keyword, next_value, number_below, number_named, value_of}
+use Rattle.rd_command.specs.Bindings.{IsBoundOf, IsWatch, KnownView, Reading, after_word, bound_by, bound_of, by_watch, condition_made, known_of, made_by, made_from, made_of, next_condition, next_keyword, next_value, number_below, number_named, value_of}
 use Rattle.rd_command.specs.Commands.{CommandView}
 use Rattle.rd_command.specs.Forms.{watch_number, watch_of}
-use Rattle.rd_command.specs.Keywords.{ConditionRow, Makes, MakesFrom, Operands, Plain, Row, Spelled, Value, WithCondition, Written, condition_keyword_of, condition_row, request_row, search_row, thing_row, unwatch_row, watch_row}
+use Rattle.rd_command.specs.Keywords.{ConditionRow, Makes, MakesFrom, Operands, Plain, CommandRow, Spelled, Value, WithCondition, Written, condition_keyword_of, condition_row, request_row, search_row, thing_row, unwatch_row, watch_row}
 use Rattle.rd_command.proofs.Steps.{mapped, option_if, some_if, then_some}
 
 -- what an operand of that kind may stand for
-abbrev IsValue : Known → (parameter : CommandParameter) → Value parameter → Type 0
+abbrev IsValue : KnownView → (parameter : CommandParameter) → Value parameter → Type 0
 IsValue known Core core = core < known.cores
 IsValue known Count count = Unit {0}
 IsValue known Register register = register < 8
@@ -68,12 +68,12 @@ watch_small : (word : List ℕ) (watch : ℕ) → watch_of word ≡ Some watch �
 watch_small [] watch e = absurd cc
 watch_small (first ∷ digits) watch e = watch_number_small digits watch (option_if (nat_eq first 119) (watch_number digits) watch e).1
 
-named_there : (known : Known) (kind : Kind) (word : List ℕ) (number : ℕ) → number_named known.names kind word ≡ Some number → number < length (names_of kind known.names)
+named_there : (known : KnownView) (kind : Kind) (word : List ℕ) (number : ℕ) → number_named known.names kind word ≡ Some number → number < length (names_of kind known.names)
 named_there known kind word number e =
     let name = then_some (λ name. position (bytes_eq name) (names_of kind known.names)) (name_of word) number e in
     (position-Some (bytes_eq name.0) (names_of kind known.names) number [] name.2).0
 
-value_there : (known : Known) (parameter : CommandParameter) (word : List ℕ) (value : Value parameter) → value_of known parameter word ≡ Some value
+value_there : (known : KnownView) (parameter : CommandParameter) (word : List ℕ) (value : Value parameter) → value_of known parameter word ≡ Some value
     → IsValue known parameter value
 value_there known Core word value e = below_small known.cores word value e
 value_there known Count word value e = tt
@@ -98,12 +98,12 @@ next_there parameter reading next e =
     (value_there reading.known parameter word.0 value.0 value.1, refl)
 
 -- Whatever the operands stand for, what they make is good.
-abbrev MakesGood : Known → (Made : Type 0) → (Made → Type 0) → (parameters : List CommandParameter) → Makes Made parameters → Type 0
+abbrev MakesGood : KnownView → (Made : Type 0) → (Made → Type 0) → (parameters : List CommandParameter) → Makes Made parameters → Type 0
 MakesGood known Made Good [] made = Good made
 MakesGood known Made Good (parameter ∷ others) make =
     (value : Value parameter) → IsValue known parameter value → MakesGood known Made Good others (make value)
 
-made_good : (known : Known) (Made : Type 0) (Good : Made → Type 0) (parameters : List CommandParameter) (make : Makes Made parameters) (reading : Reading)
+made_good : (known : KnownView) (Made : Type 0) (Good : Made → Type 0) (parameters : List CommandParameter) (make : Makes Made parameters) (reading : Reading)
     (made : Made × Reading) → known ≡ reading.known → MakesGood known Made Good parameters make → made_of Made parameters make reading ≡ Some made
     → Good made.0 × (known ≡ made.1.known)
 made_good known Made Good [] make reading made same good e =
@@ -111,7 +111,7 @@ made_good known Made Good [] make reading made same good e =
 made_good known Made Good (parameter ∷ others) make reading made same good e =
     let next = then_some (λ next. made_of Made others (make next.0) next.1) (next_value parameter reading) made e in
     let there = next_there parameter reading next.0 next.1 in
-    let value = subst (λ (known : Known). IsValue known parameter next.0.0) (sym same) there.0 in
+    let value = subst (λ (known : KnownView). IsValue known parameter next.0.0) (sym same) there.0 in
     made_good known Made Good others (make next.0.0) next.0.1 made (same ∙ there.1) (good next.0.0 value) next.2
 
 -- ---- conditions
@@ -175,7 +175,7 @@ OperandsGood app Made Good (Plain parameters) make = MakesGood (known_of app) Ma
 OperandsGood app Made Good (WithCondition parameters) make =
     (condition : Condition) → IsConditionOf app.runs condition → MakesGood (known_of app) Made Good parameters (make condition)
 
-abbrev RowGood : {Made : Type 0} → AppView → (Made → Type 0) → Row Made → Type 0
+abbrev RowGood : {Made : Type 0} → AppView → (Made → Type 0) → CommandRow Made → Type 0
 RowGood {Made} app Good (Spelled spelling make) = OperandsGood app Made Good spelling.operands make
 
 poke_good : (app : AppView) → AreThere app → (k : EditKeyword) → RowGood app (IsRequestOf app.runs) (request_row (asked.Poke k))
@@ -219,12 +219,12 @@ from_good app Made Good (WithCondition parameters) make reading made there same 
     let last = mapped (λ made. made.0) (made_of Made parameters (make found.0.0) found.0.1) made found.2 in
     subst Good last.2 (made_good (known_of app) Made Good parameters (make found.0.0) found.0.1 last.0 holds.1 (good found.0.0 holds.0) last.1).0
 
-row_made : {Made : Type 0} (app : AppView) (Good : Made → Type 0) (of : Row Made) (reading : Reading) (made : Made) → AreThere app → known_of app ≡ reading.known
+row_made : {Made : Type 0} (app : AppView) (Good : Made → Type 0) (of : CommandRow Made) (reading : Reading) (made : Made) → AreThere app → known_of app ≡ reading.known
     → RowGood app Good of → made_by of reading ≡ Some made → Good made
 row_made {Made} app Good (Spelled spelling make) reading made there same good e = from_good app Made Good spelling.operands make reading made there same good e
 
 -- What a row makes is good, and so is what is bound by it.
-effect_good : {Made : Type 0} (app : AppView) (Good : Made → Type 0) (does : Made → Bound) (of : Row Made) (reading : Reading) (made : Bound) → AreThere app
+effect_good : {Made : Type 0} (app : AppView) (Good : Made → Type 0) (does : Made → Bound) (of : CommandRow Made) (reading : Reading) (made : Bound) → AreThere app
     → known_of app ≡ reading.known → RowGood app Good of → ((found : Made) → Good found → IsBoundOf app (does found))
     → option_map does (made_by of reading) ≡ Some made → IsBoundOf app made
 effect_good app Good does of reading made there same good follows e =

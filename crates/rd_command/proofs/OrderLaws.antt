@@ -5,7 +5,7 @@ use Rattle.rd_text.specs.Words.{words_of}
 use Rattle.rd_command.specs.declared.binding.Bound.{Bound}
 use Rattle.rd_command.specs.declared.binding.Unknown.{Unknown}
 use Rattle.rd_command.specs.declared.keyword.CommandKeyword.TheVariants.{TakeWheel}
-use Rattle.rd_command.specs.Bindings.{IsOrder, Known, bound_in}
+use Rattle.rd_command.specs.Bindings.{IsOrder, KnownView, bound_in}
 use Rattle.rd_command.specs.Commands.{CommandView, command_in, command_of}
 use Rattle.rd_command.specs.Keywords.{needs_wheel}
 
@@ -15,7 +15,7 @@ unfolding command_in
 command_is line command e = ap (λ (found : Option CommandView). unwrap_or found (record { keyword = TakeWheel; operands = [] })) e
 
 -- what a line was found to be, of the same line
-pub order_is : (known : Known) (line again : List ℕ) (command : CommandView) (needs : Bool) (bound : Result Bound Unknown) → again ≡ line
+pub order_is : (known : KnownView) (line again : List ℕ) (command : CommandView) (needs : Bool) (bound : Result Bound Unknown) → again ≡ line
     → command_of (words_of line) ≡ Some command → needs ≡ needs_wheel command.keyword → result_ok bound ≡ bound_in known command → IsOrder known again needs bound
 order_is known line again command needs bound same spelled needed is =
     let spelled_again = subst (λ (l : List ℕ). command_of (words_of l) ≡ Some command) (sym same) spelled in

@@ -34,7 +34,7 @@ use Rattle.rd_command.specs.declared.view.View.TheVariants.{Thing, Cores, Overvi
 use Rattle.rd_command.specs.Commands.{CommandView, command_in, command_of}
 use Rattle.rd_command.specs.Forms.{count_of, operator_of, phase_of, watch_of}
 use Rattle.rd_command.specs.Keywords.{Makes, MakesFrom, Value, Written, ConditionRow}
-use Rattle.rd_command.specs.Keywords.{Operands, Plain, WithCondition, Row, Spelled}
+use Rattle.rd_command.specs.Keywords.{Operands, Plain, WithCondition, CommandRow, Spelled}
 use Rattle.rd_command.specs.Keywords.{condition_keyword_of, condition_row, needs_wheel}
 use Rattle.rd_command.specs.Keywords.{parameters_of}
 use Rattle.rd_command.specs.Keywords.{request_row, search_row, spelling_of, thing_row, unwatch_row}
@@ -75,15 +75,15 @@ wheel_for (bound.Looks view) = Free
 -- ---- what is known of an application when a command is bound
 
 -- its names, and how many cores there are, and notification entries of each task
-pub record Known : Type 0 where
+pub record KnownView : Type 0 where
   pub names : NamesView
   pub cores : ℕ
   pub entries : ℕ
 
-abbrev pub made_known : NamesView → ℕ → ℕ → Known
+abbrev pub made_known : NamesView → ℕ → ℕ → KnownView
 made_known names cores entries = record { names = names; cores = cores; entries = entries }
 
-abbrev pub known_of : AppView → Known
+abbrev pub known_of : AppView → KnownView
 known_of app = made_known app.names app.runs.cores app.runs.entries
 
 -- ---- what a word stands for
@@ -99,7 +99,7 @@ number_named names kind word =
     option_and_then (λ name. position (bytes_eq name) (names_of kind names)) (name_of word)
 
 -- in that application
-abbrev pub value_of : Known → (parameter : CommandParameter) → List ℕ → Option (Value parameter)
+abbrev pub value_of : KnownView → (parameter : CommandParameter) → List ℕ → Option (Value parameter)
 value_of known Core word = number_below known.cores word
 value_of known Count word = count_of word
 value_of known Register word = number_below REGISTERS word
@@ -116,7 +116,7 @@ value_of known (Name kind) word = number_named known.names kind word
 
 -- the words that are left, in that application
 pub record Reading : Type 0 where
-  pub known : Known
+  pub known : KnownView
   pub words : List (List ℕ)
 
 -- what is left behind the next word
@@ -171,7 +171,7 @@ made_from Made (WithCondition parameters) make reading =
     (λ found. option_map (λ made. made.0) (made_of Made parameters (make found.0) found.1))
     (next_condition reading)
 
-abbrev pub made_by : {Made : Type 0} → Row Made → Reading → Option Made
+abbrev pub made_by : {Made : Type 0} → CommandRow Made → Reading → Option Made
 made_by {Made} (Spelled spelling make) reading = made_from Made spelling.operands make reading
 
 -- what such a search asks for
@@ -194,7 +194,7 @@ bound_by keyword.Cores reading = Some (bound.Looks Cores)
 bound_by (Look of) reading = Some (bound.Looks (Overview of))
 
 -- what the command is bound to, if the application has all that it names
-abbrev pub bound_in : Known → CommandView → Option Bound
+abbrev pub bound_in : KnownView → CommandView → Option Bound
 bound_in known command =
     bound_by command.keyword (record { known = known; words = command.operands })
 
@@ -204,7 +204,7 @@ bound_of app command = bound_in (known_of app) command
 -- ---- what an application has
 
 -- Has the application what the word names? A word that names nothing is no matter.
-abbrev pub is_there : Known → CommandParameter → List ℕ → Bool
+abbrev pub is_there : KnownView → CommandParameter → List ℕ → Bool
 is_there known Core word = is_some (number_below known.cores word)
 is_there known Count word = true
 is_there known Register word = is_some (number_below REGISTERS word)
@@ -217,14 +217,14 @@ is_there known Action word = true
 is_there known Watch word = true
 is_there known (Name kind) word = is_some (position (bytes_eq word) (names_of kind known.names))
 
-abbrev pub are_there : Known → List CommandParameter → List (List ℕ) → Bool
+abbrev pub are_there : KnownView → List CommandParameter → List (List ℕ) → Bool
 are_there known [] words = true
 are_there known (parameter ∷ others) [] = true
 are_there known (parameter ∷ others) (word ∷ words) =
     is_there known parameter word && are_there known others words
 
 -- the same of a condition, after its keyword, and of what stands behind it
-abbrev pub are_there_with : Known → List CommandParameter → List (List ℕ) → Bool
+abbrev pub are_there_with : KnownView → List CommandParameter → List (List ℕ) → Bool
 are_there_with known parameters [] = true
 are_there_with known parameters (word ∷ words) =
     option_map_or
@@ -232,12 +232,12 @@ are_there_with known parameters (word ∷ words) =
     (condition_keyword_of word)
     true
 
-abbrev pub has_operands : Known → Operands → List (List ℕ) → Bool
+abbrev pub has_operands : KnownView → Operands → List (List ℕ) → Bool
 has_operands known (Plain parameters) words = are_there known parameters words
 has_operands known (WithCondition parameters) words = are_there_with known parameters words
 
 -- has the application all that the command names?
-abbrev pub has_all : Known → CommandView → Bool
+abbrev pub has_all : KnownView → CommandView → Bool
 has_all known command = has_operands known (spelling_of command.keyword).operands command.operands
 
 -- ---- a line that is a command, with what this is bound to
@@ -246,10 +246,10 @@ has_all known command = has_operands known (spelling_of command.keyword).operand
 pub record OrderView : Type 0 where
   pub line : List ℕ
   pub command : CommandView
-  pub known : Known
+  pub known : KnownView
 
 -- The line is a command, which needs the wheel or not, and is bound so in this application.
-pub record IsOrder (known : Known) (line : List ℕ) (needs : Bool) (bound : Result Bound Unknown)
+pub record IsOrder (known : KnownView) (line : List ℕ) (needs : Bool) (bound : Result Bound Unknown)
     : Type 0 where
   pub is_command : command_of (words_of line) ≡ Some (command_in line)
   pub needs_it : needs ≡ needs_wheel (command_in line).keyword

@@ -162,10 +162,10 @@ pub record Spelling : Type 0 where
   pub operands : Operands
 
 -- the same, with what the operands make
-pub data Row (Made : Type 0) : Type 0 where
-  Spelled : (spelling : Spelling) → MakesFrom Made spelling.operands → Row Made
+pub data CommandRow (Made : Type 0) : Type 0 where
+  Spelled : (spelling : Spelling) → MakesFrom Made spelling.operands → CommandRow Made
 
-abbrev pub spelling_in : {Made : Type 0} → Row Made → Spelling
+abbrev pub spelling_in : {Made : Type 0} → CommandRow Made → Spelling
 spelling_in (Spelled spelling make) = spelling
 
 abbrev spelled : List ℕ → List (List ℕ) → Operands → Spelling
@@ -189,7 +189,7 @@ poke edit = carrying (carried.Edit edit)
 abbrev pub raise : PlainInterrupt → PlainRequest
 raise interrupt = carrying (carried.Interrupt interrupt)
 
-abbrev pub edit_row : EditKeyword → Row PlainRequest
+abbrev pub edit_row : EditKeyword → CommandRow PlainRequest
 edit_row poked.Register =
     Spelled (poked_by (codes "reg") (task_name ∷ Register ∷ Number ∷ []))
     (λ task register value. poke (edit.Register task register value))
@@ -211,7 +211,7 @@ edit_row poked.Byte =
     Spelled (poked_by (codes "byte") (stream_name ∷ Number ∷ Number ∷ []))
     (λ stream index value. poke (edit.Byte stream index value))
 
-abbrev pub interrupt_row : InterruptKeyword → Row PlainRequest
+abbrev pub interrupt_row : InterruptKeyword → CommandRow PlainRequest
 interrupt_row raised.Send =
     Spelled (raised_by (codes "send") (queue_name ∷ Data ∷ []))
     (λ queue bytes. raise (interrupt.Send queue bytes))
@@ -220,7 +220,7 @@ interrupt_row raised.Notify =
     (λ task index value action. raise (interrupt.Notify task index value action))
 
 -- what asks the timeline
-abbrev pub request_row : RequestKeyword → Row PlainRequest
+abbrev pub request_row : RequestKeyword → CommandRow PlainRequest
 request_row asked.Step =
     Spelled (spelled (codes "step") [] (Plain (Core ∷ []))) (λ core. request.Go (move.Core core))
 request_row asked.Tick = Spelled (spelled (codes "tick") [] (Plain [])) (request.Go move.Tick)
@@ -242,7 +242,7 @@ request_row (asked.Poke of) = edit_row of
 request_row (asked.Interrupt of) = interrupt_row of
 
 -- what asks it by a watch: the watch, and what is looked for
-abbrev pub search_row : SearchKeyword → Row (ℕ × Search)
+abbrev pub search_row : SearchKeyword → CommandRow (ℕ × Search)
 search_row sought.Until =
     Spelled (spelled (codes "until") [] (Plain (parameter.Watch ∷ Count ∷ [])))
     (λ watch count. (watch, search.Until count))
@@ -251,10 +251,10 @@ search_row sought.BackUntil =
     (λ watch. (watch, search.BackUntil))
 
 -- the condition that is kept, and the number of the watch that is dropped
-abbrev pub watch_row : Row conditions.Condition
+abbrev pub watch_row : CommandRow conditions.Condition
 watch_row = Spelled (spelled (codes "watch") [] (WithCondition [])) (λ condition. condition)
 
-abbrev pub unwatch_row : Row ℕ
+abbrev pub unwatch_row : CommandRow ℕ
 unwatch_row = Spelled (spelled (codes "unwatch") [] (Plain (Number ∷ []))) (λ number. number)
 
 -- the word of a kind
@@ -267,7 +267,7 @@ word_of_kind kind.Group = codes "group"
 word_of_kind kind.Task = codes "task"
 
 -- a thing is shown by `show`, the word of its kind and its name: this is its number
-abbrev pub thing_row : Kind → Row ℕ
+abbrev pub thing_row : Kind → CommandRow ℕ
 thing_row kind =
     Spelled (spelled (codes "show") (word_of_kind kind ∷ []) (Plain (Name kind ∷ [])))
     (λ number. number)

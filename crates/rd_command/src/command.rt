@@ -76,7 +76,7 @@ impl<'w, 'l> Command<'w, 'l> {
 
     /// For contracts alone: what holds of every command: the words of its operands have the forms
     /// that its keyword asks for, that of a count the form of one.
-    pub fn keeps(&self)
+    pub fn by_invariant(&self)
         ensures { AreOperands (spelling_of self.now.keyword).operands self.now.operands }
     {
         let _ = &self.line;

@@ -18,9 +18,9 @@ pub struct Known {
 }
 
 impl Model for Known {
-    ghost use Rattle.rd_command.specs.Bindings.{Known, made_known};
+    ghost use Rattle.rd_command.specs.Bindings.{KnownView, made_known};
 
-    ghost Value = { Known };
+    ghost Value = { KnownView };
 
     ghost view = { λ k. made_known k.names k.cores k.entries };
 }

@@ -2,7 +2,7 @@
 
 ghost use Rattle.std.specs.Prelude.{◌≡◌, ◌<◌, IfSome, slice_set};
 ghost use Rattle.std.specs.Result.{result_ok};
-ghost use Rattle.rd_command.specs.Bindings.{bound_in};
+ghost use Rattle.rd_command.specs.Bindings.{KnownView, bound_in};
 ghost use Rattle.rd_command.specs.Recents.{IsRow};
 ghost use Rattle.rd_command.specs.declared.recent.TheConstants.{ROWS};
 
@@ -25,7 +25,7 @@ const ONE_OF: u8 = 16;
 
 // A line that is a command, with what this is bound to.
 #[derive(Drop)]
-struct Row {
+struct RecentRow {
     line: ArrayVec<u8, MAX_KEPT>,
     needs_wheel: bool,
     bound: Result<Bound<'static>, Unknown>,
@@ -37,16 +37,16 @@ struct Row {
 #[derive(Drop)]
 pub struct Recent<'n> {
     known: &'n Known,
-    rows: [Option<Row>; ROWS],
+    rows: [Option<RecentRow>; ROWS],
     // how many lines weren't found, up to a multiple of 256
     read: u8,
 }
 
 impl<'n> Model for Recent<'n> {
-    ghost use Rattle.rd_command.specs.Bindings.{Known};
+    ghost use Rattle.rd_command.specs.Bindings.{KnownView};
     ghost use Rattle.rd_command.specs.Recents.{AreRows};
 
-    ghost Value = { Known };
+    ghost Value = { KnownView };
 
     ghost view = { λ r. r.known.now };
 
@@ -91,10 +91,10 @@ fn put<T: Drop>(items: &mut [T; ROWS], place: usize, item: T)
     items[place] = item;
 }
 
-impl Row {
+impl RecentRow {
     // The row of a command that is bound so, if it can be kept.
-    fn of(command: &Command<'_, '_>, bound: Result<Bound<'_>, Unknown>) -> Option<Row>
-        ensures { IfSome result (λ row. (known : Known)
+    fn of(command: &Command<'_, '_>, bound: Result<Bound<'_>, Unknown>) -> Option<RecentRow>
+        ensures { IfSome result (λ row. (known : KnownView)
             → result_ok bound.entry ≡ bound_in known command.now → IsRow known row) }
     {
         let bound = match bound {
@@ -102,7 +102,7 @@ impl Row {
             Err(unknown) => Err(unknown),
         };
         let line = ArrayVec::try_from(command.line()).ok()?;
-        Some(Row {
+        Some(RecentRow {
             line,
             needs_wheel: command.needs_wheel(),
             bound,
@@ -150,7 +150,7 @@ impl<'n> Recent<'n> {
         requires { result_ok bound ≡ bound_in self.old command.now }
         ensures { self.new ≡ self.old }
     {
-        if let Some(row) = Row::of(command, bound) {
+        if let Some(row) = RecentRow::of(command, bound) {
             put(&mut self.rows, place_of(command.line()), Some(row));
         }
     }

@@ -72,21 +72,21 @@ opened_alike d e is = ap (λ (app : AppView). opening app e.most_moves) is.app �
 pub record Stay (d e : Debugger) : Type 0 where
   pub present : present_count e.sessions ≡ present_count d.sessions
   pub joins : length e.sessions ≡ length d.sessions
-  pub keeps : (other : ℕ) → IsPresent d.sessions other → IsPresent e.sessions other
+  pub others_stay : (other : ℕ) → IsPresent d.sessions other → IsPresent e.sessions other
 
 stays : (d : Debugger) → Stay d d
-stays d = record { present = refl; joins = refl; keeps = λ other there. there }
+stays d = record { present = refl; joins = refl; others_stay = λ other there. there }
 
 stay_watching : (d : Debugger) (who : ℕ) (watches : WatchesView) → IsPresent d.sessions who → Stay d (watching d who watches)
 stay_watching d who watches there = record {
   present = as_many_with d.sessions who watches there;
   joins = length-set d.sessions (who - 1) (Some watches);
-  keeps = λ other is. present_with d.sessions who watches other is;
+  others_stay = λ other is. present_with d.sessions who watches other is;
 }
 
 stay_search : (d : Debugger) (watch : Option Condition) (search : Search) → Stay d (after_search d watch search)
 stay_search d None search = stays d
-stay_search d (Some condition) search = record { present = refl; joins = refl; keeps = λ other there. there }
+stay_search d (Some condition) search = record { present = refl; joins = refl; others_stay = λ other there. there }
 
 stay_kept : (d : Debugger) (who : ℕ) (condition : Condition) (number : Option ℕ) → IsPresent d.sessions who → Stay d (after_kept d who condition number)
 stay_kept d who condition None there = stays d
@@ -97,10 +97,10 @@ stay_dropped d who number None there = stays d
 stay_dropped d who number (Some condition) there = stay_watching d who (slice_set (own_watches d who) number None) there
 
 stay_bound : (d : Debugger) (who : ℕ) (made : Bound) → IsPresent d.sessions who → Stay d (after_bound d who made)
-stay_bound d who (bound.Asks asked) there = record { present = refl; joins = refl; keeps = λ other there. there }
+stay_bound d who (bound.Asks asked) there = record { present = refl; joins = refl; others_stay = λ other there. there }
 stay_bound d who (bound.AsksByWatch watch search) there = stay_search d (watch_at (own_watches d who) watch) search
-stay_bound d who bound.TakesWheel there = record { present = refl; joins = refl; keeps = λ other there. there }
-stay_bound d who bound.GivesWheel there = record { present = refl; joins = refl; keeps = λ other there. there }
+stay_bound d who bound.TakesWheel there = record { present = refl; joins = refl; others_stay = λ other there. there }
+stay_bound d who bound.GivesWheel there = record { present = refl; joins = refl; others_stay = λ other there. there }
 stay_bound d who (bound.Keeps condition) there = stay_kept d who condition (position is_none (own_watches d who)) there
 stay_bound d who (bound.Drops number) there = stay_dropped d who number (watch_at (own_watches d who) number) there
 stay_bound d who (bound.Looks view) there = stays d
@@ -201,6 +201,6 @@ pub presence_stays : {E : Type 0} (old new : DeskView) (who : ℕ) (command : Co
     → IfOk result (Does old who (Ask command) new) → OnErr result (new ≡ old) → (other : ℕ) → IsPresent old.debugger.sessions other
     → IsPresent new.debugger.sessions other
 presence_stays old new who command (Ok receipt) does same other there =
-    subst (λ (d : Debugger). IsPresent d.sessions other) (sym does.debugger) ((sessions_stay old.debugger who command does.may).keeps other there)
+    subst (λ (d : Debugger). IsPresent d.sessions other) (sym does.debugger) ((sessions_stay old.debugger who command does.may).others_stay other there)
 presence_stays old new who command (Err error) does same other there =
     subst (λ (d : DeskView). IsPresent d.debugger.sessions other) (sym same) there

@@ -22,7 +22,7 @@ roomed_desk_of d = record {
 }
 
 -- The history is legal, and has room for each session's departure.
-pub record IsWhole (d : Inside) : Type 0 where
+pub record IsLegalDesk (d : Inside) : Type 0 where
   pub legal : IsLegal d.history.entries d.machine.debugger
   pub within : used (desk_of d) ≤ d.limit
   pub joins : length d.machine.debugger.sessions ≤ MAX_JOINS

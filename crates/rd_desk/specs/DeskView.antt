@@ -47,7 +47,7 @@ pub record LeadsBack (app : Application) (moves : Moves) (s : Snapshot)
 -- its departure. The moves done, and not undone, give the target from the start, and the
 -- records that are held, those of the last ones from the base on, lead back from it. There are as
 -- many names as things in it.
-pub record IsKept (d : DeskView) : Type 0 where
+pub record IsSound (d : DeskView) : Type 0 where
   pub legal : IsLegal d.history d.debugger
   pub within : used d ≤ d.most_entries
   pub joins : length d.debugger.sessions ≤ MAX_JOINS

@@ -25,13 +25,13 @@ pub record LetsIn (d : DeskView) : Type 0 where
 
 -- Why the desk lets nobody in: as many have entered as may; or else fewer than two places of the
 -- history are free; or else there is no memory, and one more might enter but for that.
-abbrev pub KeepsOut : DeskView → EnterError → Type 0
-KeepsOut d enter.Full = length d.debugger.sessions ≡ MAX_JOINS
-KeepsOut d (enter.HistoryFull tally) =
+abbrev pub IsWhyNotLetIn : DeskView → EnterError → Type 0
+IsWhyNotLetIn d enter.Full = length d.debugger.sessions ≡ MAX_JOINS
+IsWhyNotLetIn d (enter.HistoryFull tally) =
     (tally ≡ tally_of d)
     × (length d.debugger.sessions < MAX_JOINS)
     × (d.most_entries < used d + 2)
-KeepsOut d enter.NoMemory = LetsIn d
+IsWhyNotLetIn d enter.NoMemory = LetsIn d
 
 -- what is known of the tally of a refusal, if it has one
 abbrev pub IfEnterFull : EnterError → (TallyView → Type 0) → Type 0

@@ -82,5 +82,5 @@ rows_of r = record {
 }
 
 -- The rows are there with their bytes.
-abbrev pub AreKept : Inside → Type 0
-AreKept r = AreRows r.bytes.items 0 r.rows.items
+abbrev pub AreRowsWhole : Inside → Type 0
+AreRowsWhole r = AreRows r.bytes.items 0 r.rows.items

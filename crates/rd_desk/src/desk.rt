@@ -6,14 +6,14 @@ ghost use Rattle.rd_timeline.specs.Runs.{kept};
 ghost use Rattle.rd_command.specs.Bindings.{known_of};
 ghost use Rattle.rd_desk.specs.declared.entry.Event.TheVariants.{Enter, Ask, Leave};
 ghost use Rattle.rd_desk.specs.Debugger.{opening, target_of};
-ghost use Rattle.rd_desk.specs.DeskView.{entry_of, used, Does, IsKept};
+ghost use Rattle.rd_desk.specs.DeskView.{entry_of, used, Does, IsSound};
 ghost use Rattle.rd_desk.specs.HistoryView.{reply_bytes, IsView};
 ghost use Rattle.rd_desk.specs.Kept.{IsNarrow};
 ghost use Rattle.rd_desk.specs.Memory.{MayLackMemory, TakesAtMost};
 ghost use Rattle.rd_desk.specs.Rows.{HasNoLess};
 ghost use Rattle.rd_desk.specs.Serving.{entered};
 ghost use Rattle.rd_desk.specs.Refusals.{tally_of, IfEnterFull, IfServeFull, is_enter_full};
-ghost use Rattle.rd_desk.specs.Refusals.{is_serve_full, KeepsOut, LetsIn};
+ghost use Rattle.rd_desk.specs.Refusals.{is_serve_full, IsWhyNotLetIn, LetsIn};
 ghost use Rattle.rd_desk.specs.Sessions.{IsPresent, present_count, watch_count};
 
 use crate::asked::Asked;
@@ -87,11 +87,11 @@ impl Model for Desk {
 
     ghost Value = { RoomedDesk };
 
-    ghost use Rattle.rd_desk.specs.DeskInside.{roomed_desk_of, IsWhole};
+    ghost use Rattle.rd_desk.specs.DeskInside.{roomed_desk_of, IsLegalDesk};
 
     ghost view = { roomed_desk_of };
 
-    ghost invariant = { IsWhole };
+    ghost invariant = { IsLegalDesk };
 }
 
 // Lets the next session in, where there is room for its entry.
@@ -140,7 +140,7 @@ fn make_room_for(
     ensures rows { history.old.row_room ≤ history.new.row_room }
     ensures bytes { OnOk result
         (length line.now + length (reply_bytes reply.now) ≤ history.new.byte_room) }
-    ensures kept_bytes { history.old.byte_room ≤ history.new.byte_room }
+    ensures bytes_grow { history.old.byte_room ≤ history.new.byte_room }
     ensures receipts { HasNoLess receipts.old receipts.new }
     ensures receipt_bytes { OnOk result
         (length line.now + length (reply_bytes reply.now) ≤ receipts.new.byte_room) }
@@ -178,10 +178,10 @@ impl Desk {
     /// present has a place for its departure, and the moves done, and not undone, give the target
     /// from the start, from which the records that are held lead back. There are as many names as
     /// things in it.
-    pub fn keeps(&self)
-        ensures { IsKept self.now.desk }
+    pub fn by_invariant(&self)
+        ensures { IsSound self.now.desk }
     {
-        self.machine.keeps();
+        self.machine.by_invariant();
     }
 
     /// The target.
@@ -272,7 +272,7 @@ impl Desk {
     /// fewer than two places are free.
     pub fn may_enter(&self) -> Result<(), EnterError>
         ensures ok { OnOk result (LetsIn self.now.desk) }
-        ensures err { IfErr result (KeepsOut self.now.desk) }
+        ensures err { IfErr result (IsWhyNotLetIn self.now.desk) }
         ensures refusals { IfErr result (λ error. error ≢ EnterError.NoMemory) }
     {
         if self.machine.joins() == MAX_JOINS {
@@ -299,8 +299,8 @@ impl Desk {
         ensures history_full { IsTrue (is_enter_full result)
             ↔ ((length self.old.desk.debugger.sessions < MAX_JOINS)
             × (self.old.desk.most_entries < used self.old.desk + 2)) }
-        ensures room { OnOk result (used self.old.desk + 2 ≤ self.old.desk.most_entries) }
-        ensures refused { IfErr result (KeepsOut self.old.desk) }
+        ensures place { OnOk result (used self.old.desk + 2 ≤ self.old.desk.most_entries) }
+        ensures refused { IfErr result (IsWhyNotLetIn self.old.desk) }
         ensures tally { IfErr result (λ error. IfEnterFull error (λ tally.
             (tally ≡ tally_of self.old.desk)
             × (tally.limit < tally.entries + tally.present + 2))) }
@@ -338,7 +338,7 @@ impl Desk {
         ensures ok { IfOk result (Does self.old.desk who (Ask order.now.command) self.new.desk) }
         ensures history_full { IsTrue (is_serve_full result)
             ↔ (self.old.desk.most_entries ≡ used self.old.desk) }
-        ensures room { OnOk result (used self.old.desk < self.old.desk.most_entries) }
+        ensures place { OnOk result (used self.old.desk < self.old.desk.most_entries) }
         ensures tally { IfErr result (λ error. IfServeFull error (λ tally.
             (tally ≡ tally_of self.old.desk) × (tally.limit ≡ tally.entries + tally.present))) }
         ensures no_memory { IsErrOf result NotServed.NoMemory

@@ -65,8 +65,8 @@ impl History {
         ensures entries { self.new.entries ≡ self.old.entries }
         ensures ok_rows { OnOk result (rows ≤ self.new.row_room) }
         ensures ok_bytes { OnOk result (bytes ≤ self.new.byte_room) }
-        ensures kept_rows { self.old.row_room ≤ self.new.row_room }
-        ensures kept_bytes { self.old.byte_room ≤ self.new.byte_room }
+        ensures rows_grow { self.old.row_room ≤ self.new.row_room }
+        ensures bytes_grow { self.old.byte_room ≤ self.new.byte_room }
         ensures full { OnErr result
             ((self.old.row_room < rows) ⊎ (self.old.byte_room < bytes)) }
     {

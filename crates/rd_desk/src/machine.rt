@@ -131,7 +131,7 @@ impl DeskMachine {
     /// For contracts alone: the moves done, and not undone, give the target from the start, and the
     /// records that it holds, those of the last ones from the base on, lead back from it. There are
     /// as many names as things in it, and fewer than 4,294,967,296 moves, done and undone.
-    pub fn keeps(&self)
+    pub fn by_invariant(&self)
         ensures leads { state_after self.now.debugger.app.runs self.now.debugger.moves.done
             ≡ Ok (target_of self.now.debugger) }
         ensures leads_back { LeadsBack self.now.debugger.app.runs self.now.debugger.moves
@@ -140,14 +140,14 @@ impl DeskMachine {
         ensures few { IsShort
             (length self.now.debugger.moves.done + length self.now.debugger.moves.undone) }
     {
-        self.timeline.keeps();
+        self.timeline.by_invariant();
     }
 
     /// The target.
     pub fn target(&self) -> &State
         ensures { result.now ≡ target_of self.now.debugger }
     {
-        self.timeline.keeps();
+        self.timeline.by_invariant();
         self.timeline.target()
     }
 
@@ -204,7 +204,7 @@ impl DeskMachine {
     pub fn kept(&self) -> usize
         ensures { result ≡ kept self.now.debugger.moves }
     {
-        self.timeline.keeps();
+        self.timeline.by_invariant();
         self.timeline.kept()
     }
 
@@ -382,7 +382,7 @@ impl DeskMachine {
             IfSome (text_shown self.now.debugger.app.names (target_of self.now.debugger) view)
             (λ text. reply ≡ shown text)) }
     {
-        self.keeps();
+        self.by_invariant();
         let line = show(self.alloc, self.target(), self.names(), view)?;
         Ok(DeskReply::Shown {
             text: Text::new(line),
@@ -396,7 +396,7 @@ impl DeskMachine {
         ensures { IfOk result
             (λ reply. reply ≡ overview_of self.now.debugger who Overview.Watches) }
     {
-        self.timeline.keeps();
+        self.timeline.by_invariant();
         let watches = self.sessions.watches(who);
         let text = show_all_watches(&self.timeline, self.alloc, watches)?;
         Ok(DeskReply::Shown { text })
@@ -475,7 +475,7 @@ impl DeskMachine {
         ensures no_memory { IsErr result → NeedsMemory self.old.debugger who order.now.command }
         ensures err { OnErr result (self.new ≡ self.old) }
     {
-        self.keeps();
+        self.by_invariant();
         if let Some(holder) = self.held_by(who, order) {
             return Ok(refused(Refusal::Held { holder }));
         }

@@ -73,11 +73,11 @@ impl Model for Rows {
 
     ghost Value = { RowsView };
 
-    ghost use Rattle.rd_desk.specs.RowsInside.{rows_of, AreKept};
+    ghost use Rattle.rd_desk.specs.RowsInside.{rows_of, AreRowsWhole};
 
     ghost view = { rows_of };
 
-    ghost invariant = { AreKept };
+    ghost invariant = { AreRowsWhole };
 }
 
 /// The bytes of a reply: the line of a view, and else none.
@@ -357,8 +357,8 @@ impl Rows {
         ensures noted { self.new.noted ≡ self.old.noted }
         ensures ok_rows { OnOk result (rows ≤ self.new.row_room) }
         ensures ok_bytes { OnOk result (bytes ≤ self.new.byte_room) }
-        ensures kept_rows { self.old.row_room ≤ self.new.row_room }
-        ensures kept_bytes { self.old.byte_room ≤ self.new.byte_room }
+        ensures rows_grow { self.old.row_room ≤ self.new.row_room }
+        ensures bytes_grow { self.old.byte_room ≤ self.new.byte_room }
         ensures full { OnErr result
             ((self.new.row_room < rows) ⊎ (self.new.byte_room < bytes)) }
     {

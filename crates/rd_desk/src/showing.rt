@@ -114,7 +114,7 @@ fn append_shown(
     ensures { OnOk result (shown.new.items
         ≡ shown.old.items ++ shown_at timeline.now.target number watch) }
 {
-    timeline.keeps();
+    timeline.by_invariant();
     if let Some(condition) = watch {
         let holds = condition.holds(timeline.target());
         shown.push(WatchShown { number, holds })?;

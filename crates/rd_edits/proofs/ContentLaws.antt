@@ -18,7 +18,7 @@ use Rattle.rd_state.specs.declared.phase.Held.TheVariants.{Stream, Message}
 use Rattle.rd_state.specs.declared.phase.Listed.{Listed}
 use Rattle.rd_state.specs.declared.phase.Listed.TheVariants.{Queue, QueueSet, Group}
 use Rattle.rd_state.specs.Waiting.{holder_in, waiting_in, wishes_in}
-use Rattle.rd_kernel.proofs.Offered.{ContentsChange, map_kept, read_anyway}
+use Rattle.rd_kernel.proofs.Offered.{ContentsChange, map_same, read_anyway}
 
 -- what each of those who wait waits for
 abbrev pub WishesStay : ObjectsSnapshot → ObjectsSnapshot → Type 0
@@ -61,7 +61,7 @@ pub items_contents : (o : ObjectsSnapshot) (queue : ℕ) (items : List (List ℕ
 items_contents o queue items = record {
   waiting = waiting;
   holders = named;
-  shapes = ap (λ (qs : List QueueShape). record (shapes_in o) { queues = qs }) (map_kept shape_of o.queues queue now no_queue refl);
+  shapes = ap (λ (qs : List QueueShape). record (shapes_in o) { queues = qs }) (map_same shape_of o.queues queue now no_queue refl);
 }
   where
     now : QueueSnapshot
@@ -87,7 +87,7 @@ pub bytes_contents : (o : ObjectsSnapshot) (stream : ℕ) (bytes : List ℕ) →
 bytes_contents o stream bytes = record {
   waiting = waiting;
   holders = named;
-  shapes = ap (λ (sizes : List ℕ). record (shapes_in o) { streams = sizes }) (map_kept size_of_stream o.streams stream now no_stream refl);
+  shapes = ap (λ (sizes : List ℕ). record (shapes_in o) { streams = sizes }) (map_same size_of_stream o.streams stream now no_stream refl);
 }
   where
     now : StreamSnapshot

@@ -1,4 +1,4 @@
--- The sizes of a state, kept by an edit.
+-- The sizes of a state, which an edit preserves.
 use Rattle.std.proofs.Common.{◌<◌, ◌∙◌, ◌≡◌, ◌≤◌, ◌^◌, List, [], ap, arith, length, refl, set, subst, sym, true, ℕ}
 use Rattle.std.specs.Prelude.{All, nat_eq, nat_le, nat_lt}
 use Rattle.std.proofs.lemmas.Bool.Decides.{nat_tests}

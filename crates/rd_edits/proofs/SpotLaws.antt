@@ -18,7 +18,7 @@ use Rattle.rd_state.specs.Snapshot.{Snapshot, TaskSnapshot, group_at, items_at, 
 use Rattle.rd_kernel.specs.Tasks.{entry_at}
 use Rattle.rd_kernel.proofs.Offered.{EachStays-task, both, task_now}
 use Rattle.rd_moves.specs.declared.edit.Edit.TheVariants.{Register, Data, Pc, Value, Bits, Item, Byte}
-use Rattle.rd_edits.specs.EditLaws.{EditsWriteOneSpot, OfBits, OfByte, OfData, OfItem, OfPc, OfRegister, OfValue, Spot, read_at}
+use Rattle.rd_edits.specs.EditLaws.{EditsWriteOneSpot, OfBits, OfByte, OfData, OfItem, OfPc, OfRegister, OfValue, EditSpot, read_at}
 use Rattle.rd_edits.specs.Edits.{edited}
 use Rattle.rd_edits.proofs.SizedLaws.{below}
 use Rattle.rd_edits.proofs.ValidityLaws.{IsEditAt-valid}
@@ -45,19 +45,19 @@ read_within list f xs number other now d i j y e is apart = elim (cases_eq other
 ]
 
 -- A spot of two numbers is another one where both are not the same.
-apart_by : (spot : ℕ → ℕ → Spot) (a b c d : ℕ) → spot a b ≢ spot c d → a ≡ c → b ≡ d → ⊥
+apart_by : (spot : ℕ → ℕ → EditSpot) (a b c d : ℕ) → spot a b ≢ spot c d → a ≡ c → b ≡ d → ⊥
 apart_by spot a b c d apart first second = apart (ap (λ n. spot n b) first ∙ ap (spot c) second)
 
 -- ---- the others
 
-of_register : (s : Snapshot) (task register value : ℕ) (spot : Spot) → spot ≢ OfRegister task register
+of_register : (s : Snapshot) (task register value : ℕ) (spot : EditSpot) → spot ≢ OfRegister task register
     → read_at (edited s (Register task register value)) spot ≡ read_at s spot
 of_register s task register value spot = at spot
   where
     x : TaskSnapshot
     x = record (task_at s task) { registers = set (task_at s task).registers register value }
 
-    at : (spot : Spot) → spot ≢ OfRegister task register → read_at (with_task s task x) spot ≡ read_at s spot
+    at : (spot : EditSpot) → spot ≢ OfRegister task register → read_at (with_task s task x) spot ≡ read_at s spot
     at (OfRegister other r) apart =
         read_within (λ (t : TaskSnapshot). t.registers) (λ n. n ∷ []) s.tasks task other x no_task register r value 0 refl
         (apart_by OfRegister other r task register apart)
@@ -68,13 +68,13 @@ of_register s task register value spot = at spot
     at (OfItem queue index) apart = refl
     at (OfByte stream index) apart = refl
 
-of_data : (s : Snapshot) (task : ℕ) (bytes : List ℕ) (spot : Spot) → spot ≢ OfData task → read_at (edited s (Data task bytes)) spot ≡ read_at s spot
+of_data : (s : Snapshot) (task : ℕ) (bytes : List ℕ) (spot : EditSpot) → spot ≢ OfData task → read_at (edited s (Data task bytes)) spot ≡ read_at s spot
 of_data s task bytes spot = at spot
   where
     x : TaskSnapshot
     x = record (task_at s task) { bytes = bytes }
 
-    at : (spot : Spot) → spot ≢ OfData task → read_at (with_task s task x) spot ≡ read_at s spot
+    at : (spot : EditSpot) → spot ≢ OfData task → read_at (with_task s task x) spot ≡ read_at s spot
     at (OfRegister other r) apart = EachStays-task (λ (t : TaskSnapshot). get_or t.registers r 0 ∷ []) s task x refl other
     at (OfData other) apart = read_other (λ (t : TaskSnapshot). t.bytes) s.tasks task other x no_task (λ same. apart (ap OfData same))
     at (OfPc other) apart = EachStays-task (λ (t : TaskSnapshot). t.pc ∷ []) s task x refl other
@@ -83,13 +83,13 @@ of_data s task bytes spot = at spot
     at (OfItem queue index) apart = refl
     at (OfByte stream index) apart = refl
 
-of_pc : (s : Snapshot) (task pc : ℕ) (spot : Spot) → spot ≢ OfPc task → read_at (edited s (Pc task pc)) spot ≡ read_at s spot
+of_pc : (s : Snapshot) (task pc : ℕ) (spot : EditSpot) → spot ≢ OfPc task → read_at (edited s (Pc task pc)) spot ≡ read_at s spot
 of_pc s task pc spot = at spot
   where
     x : TaskSnapshot
     x = record (task_at s task) { pc = pc }
 
-    at : (spot : Spot) → spot ≢ OfPc task → read_at (with_task s task x) spot ≡ read_at s spot
+    at : (spot : EditSpot) → spot ≢ OfPc task → read_at (with_task s task x) spot ≡ read_at s spot
     at (OfRegister other r) apart = EachStays-task (λ (t : TaskSnapshot). get_or t.registers r 0 ∷ []) s task x refl other
     at (OfData other) apart = EachStays-task (λ (t : TaskSnapshot). t.bytes) s task x refl other
     at (OfPc other) apart = read_other (λ (t : TaskSnapshot). t.pc ∷ []) s.tasks task other x no_task (λ same. apart (ap OfPc same))
@@ -98,7 +98,7 @@ of_pc s task pc spot = at spot
     at (OfItem queue index) apart = refl
     at (OfByte stream index) apart = refl
 
-of_value : (s : Snapshot) (task index value : ℕ) (spot : Spot) → spot ≢ OfValue task index → read_at (edited s (Value task index value)) spot ≡ read_at s spot
+of_value : (s : Snapshot) (task index value : ℕ) (spot : EditSpot) → spot ≢ OfValue task index → read_at (edited s (Value task index value)) spot ≡ read_at s spot
 of_value s task index value spot = at spot
   where
     entry : Entry
@@ -107,7 +107,7 @@ of_value s task index value spot = at spot
     x : TaskSnapshot
     x = record (task_at s task) { entries = set (task_at s task).entries index entry }
 
-    at : (spot : Spot) → spot ≢ OfValue task index → read_at (with_task s task x) spot ≡ read_at s spot
+    at : (spot : EditSpot) → spot ≢ OfValue task index → read_at (with_task s task x) spot ≡ read_at s spot
     at (OfRegister other r) apart = EachStays-task (λ (t : TaskSnapshot). get_or t.registers r 0 ∷ []) s task x refl other
     at (OfData other) apart = EachStays-task (λ (t : TaskSnapshot). t.bytes) s task x refl other
     at (OfPc other) apart = EachStays-task (λ (t : TaskSnapshot). t.pc ∷ []) s task x refl other
@@ -118,7 +118,7 @@ of_value s task index value spot = at spot
     at (OfItem queue i) apart = refl
     at (OfByte stream i) apart = refl
 
-of_bits : (s : Snapshot) (group bits : ℕ) (spot : Spot) → spot ≢ OfBits group → read_at (edited s (Bits group bits)) spot ≡ read_at s spot
+of_bits : (s : Snapshot) (group bits : ℕ) (spot : EditSpot) → spot ≢ OfBits group → read_at (edited s (Bits group bits)) spot ≡ read_at s spot
 of_bits s group bits (OfRegister task r) apart = refl
 of_bits s group bits (OfData task) apart = refl
 of_bits s group bits (OfPc task) apart = refl
@@ -128,7 +128,7 @@ of_bits s group bits (OfBits other) apart =
 of_bits s group bits (OfItem queue index) apart = refl
 of_bits s group bits (OfByte stream index) apart = refl
 
-of_item : (s : Snapshot) (queue index : ℕ) (bytes : List ℕ) (spot : Spot) → spot ≢ OfItem queue index
+of_item : (s : Snapshot) (queue index : ℕ) (bytes : List ℕ) (spot : EditSpot) → spot ≢ OfItem queue index
     → read_at (edited s (Item queue index bytes)) spot ≡ read_at s spot
 of_item s queue index bytes (OfRegister task r) apart = refl
 of_item s queue index bytes (OfData task) apart = refl
@@ -140,7 +140,7 @@ of_item s queue index bytes (OfItem other i) apart =
     (with_items (queue_at s queue) (set (items_at s queue) index bytes)) no_queue index i bytes [] refl (apart_by OfItem other i queue index apart)
 of_item s queue index bytes (OfByte stream i) apart = refl
 
-of_byte : (s : Snapshot) (stream index value : ℕ) (spot : Spot) → spot ≢ OfByte stream index
+of_byte : (s : Snapshot) (stream index value : ℕ) (spot : EditSpot) → spot ≢ OfByte stream index
     → read_at (edited s (Byte stream index value)) spot ≡ read_at s spot
 of_byte s stream index value (OfRegister task r) apart = refl
 of_byte s stream index value (OfData task) apart = refl

@@ -4,7 +4,7 @@ use Rattle.std.specs.Prelude.{true}
 use Rattle.rd_app.specs.Application.{Application}
 use Rattle.rd_state.specs.declared.phase.Held.{Held}
 use Rattle.rd_state.specs.declared.phase.Listed.{Listed}
-use Rattle.rd_state.specs.Edit.{SameShape}
+use Rattle.rd_state.specs.EditingView.{SameShape}
 use Rattle.rd_state.specs.Settled.{IsSettled}
 use Rattle.rd_state.specs.Snapshot.{Snapshot, group_at, items_at, queue_at, stream_at, task_at}
 use Rattle.rd_state.specs.Valid.{IsValid}
@@ -75,17 +75,17 @@ EditsChangeOneThing = (s : Snapshot) (edit : PlainEdit) → ChangesOneThing s ed
 
 -- a spot that edits can write: a register, the data, the next instruction and the value of an entry
 -- of a task, the bits of an event group, an item of a queue, a byte of a stream buffer
-pub data Spot : Type 0 where
-  OfRegister : ℕ → ℕ → Spot
-  OfData : ℕ → Spot
-  OfPc : ℕ → Spot
-  OfValue : ℕ → ℕ → Spot
-  OfBits : ℕ → Spot
-  OfItem : ℕ → ℕ → Spot
-  OfByte : ℕ → ℕ → Spot
+pub data EditSpot : Type 0 where
+  OfRegister : ℕ → ℕ → EditSpot
+  OfData : ℕ → EditSpot
+  OfPc : ℕ → EditSpot
+  OfValue : ℕ → ℕ → EditSpot
+  OfBits : ℕ → EditSpot
+  OfItem : ℕ → ℕ → EditSpot
+  OfByte : ℕ → ℕ → EditSpot
 
 -- what stands there: bytes, or a number by itself
-abbrev pub read_at : Snapshot → Spot → List ℕ
+abbrev pub read_at : Snapshot → EditSpot → List ℕ
 read_at s (OfRegister task register) = register_at s task register ∷ []
 read_at s (OfData task) = (task_at s task).bytes
 read_at s (OfPc task) = (task_at s task).pc ∷ []
@@ -95,7 +95,7 @@ read_at s (OfItem queue index) = slice_index_or (items_at s queue) index []
 read_at s (OfByte stream index) = slice_index (stream_at s stream).bytes index ∷ []
 
 -- the spot that an edit writes, and what it writes there
-abbrev pub spot_of : PlainEdit → Spot
+abbrev pub spot_of : PlainEdit → EditSpot
 spot_of (Register task register value) = OfRegister task register
 spot_of (Data task bytes) = OfData task
 spot_of (Pc task pc) = OfPc task
@@ -116,7 +116,7 @@ written_by (Byte stream index value) = value ∷ []
 -- What the edit says stands at its spot, and at each other what stood there.
 pub record WritesOneSpot (s : Snapshot) (edit : PlainEdit) : Type 0 where
   pub written : read_at (edited s edit) (spot_of edit) ≡ written_by edit
-  pub others : (spot : Spot) → spot ≢ spot_of edit → read_at (edited s edit) spot ≡ read_at s spot
+  pub others : (spot : EditSpot) → spot ≢ spot_of edit → read_at (edited s edit) spot ≡ read_at s spot
 
 -- whichever edit of an application can be made, at whichever valid state
 abbrev pub EditsWriteOneSpot : Type 0

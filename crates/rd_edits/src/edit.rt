@@ -5,7 +5,7 @@ ghost use Rattle.std.specs.Prelude.{slice_index_or, IsOk, IsTrue, OnErr, OnOk};
 ghost use Rattle.rd_bytes.specs.declared.bytes.TheConstants.{MAX_BYTES};
 ghost use Rattle.rd_group.specs.declared.wish.TheConstants.{MAX_BITS};
 ghost use Rattle.rd_app.specs.declared.app.TheConstants.{MAX_CODE};
-ghost use Rattle.rd_state.specs.Edit.{GivesUp, Reaches};
+ghost use Rattle.rd_state.specs.EditingView.{GivesUp, Reaches};
 ghost use Rattle.rd_state.specs.Snapshot.{group_at, items_at, queue_at, stream_at, task_at};
 ghost use Rattle.rd_state.specs.Snapshot.{with_bits_at};
 ghost use Rattle.rd_state.specs.Valid.{IsValid};

@@ -11,7 +11,7 @@ use rd_moves::edit::Edit;
 use rd_state::state::State;
 
 /// A law: a valid state stays valid after an edit that can be made, whichever it is.
-pub fn edits_keep_validity(app: &Program, state: &State, edit: &Edit)
+pub fn edits_preserve_validity(app: &Program, state: &State, edit: &Edit)
     requires valid { IsValid app.now state.now }
     requires named { IsEditOf app.now edit.now }
     requires good { is_good_edit app.now state.now edit.now ≡ true }

@@ -29,19 +29,19 @@ Consumes-append (Some a) (Some b) None xs ys one two = absurd two
 Consumes-append (Some a) (Some b) (Some c) xs ys one two =
     one ∙ ap (λ l. xs ++ l) two ∙ sym (append_assoc xs ys c)
 
-pub Consumes-kept : (old between new : Option (List ℕ)) (xs : List ℕ) → Consumes old between xs
+pub Consumes-same : (old between new : Option (List ℕ)) (xs : List ℕ) → Consumes old between xs
     → Keeps between new → Consumes old new xs
-Consumes-kept None between new xs one two = tt
-Consumes-kept (Some a) None new xs one two = absurd one
-Consumes-kept (Some a) (Some b) None xs one two = absurd two
-Consumes-kept (Some a) (Some b) (Some c) xs one two = one ∙ ap (λ l. xs ++ l) (sym two)
+Consumes-same None between new xs one two = tt
+Consumes-same (Some a) None new xs one two = absurd one
+Consumes-same (Some a) (Some b) None xs one two = absurd two
+Consumes-same (Some a) (Some b) (Some c) xs one two = one ∙ ap (λ l. xs ++ l) (sym two)
 
-pub kept-Consumes : (old between new : Option (List ℕ)) (xs : List ℕ) → Keeps old between
+pub same-Consumes : (old between new : Option (List ℕ)) (xs : List ℕ) → Keeps old between
     → Consumes between new xs → Consumes old new xs
-kept-Consumes None between new xs one two = tt
-kept-Consumes (Some a) None new xs one two = absurd one
-kept-Consumes (Some a) (Some b) None xs one two = absurd two
-kept-Consumes (Some a) (Some b) (Some c) xs one two = sym one ∙ two
+same-Consumes None between new xs one two = tt
+same-Consumes (Some a) None new xs one two = absurd one
+same-Consumes (Some a) (Some b) None xs one two = absurd two
+same-Consumes (Some a) (Some b) (Some c) xs one two = sym one ∙ two
 
 pub Appends-none : (old : Option (List ℕ)) → Appends old old []
 Appends-none None = tt
@@ -55,12 +55,12 @@ Appends-append (Some a) (Some b) None xs ys one two = absurd two
 Appends-append (Some a) (Some b) (Some c) xs ys one two =
     two ∙ ap (λ l. l ++ ys) one ∙ append_assoc a xs ys
 
-pub Appends-kept : (old between new : Option (List ℕ)) (xs : List ℕ) → Appends old between xs
+pub Appends-same : (old between new : Option (List ℕ)) (xs : List ℕ) → Appends old between xs
     → Keeps between new → Appends old new xs
-Appends-kept None between new xs one two = tt
-Appends-kept (Some a) None new xs one two = absurd one
-Appends-kept (Some a) (Some b) None xs one two = absurd two
-Appends-kept (Some a) (Some b) (Some c) xs one two = two ∙ one
+Appends-same None between new xs one two = tt
+Appends-same (Some a) None new xs one two = absurd one
+Appends-same (Some a) (Some b) None xs one two = absurd two
+Appends-same (Some a) (Some b) (Some c) xs one two = two ∙ one
 
 -- what was taken is a front
 pub taken_front : (old between new : Option (List ℕ)) (bytes : List ℕ) (sent : ℕ)
@@ -69,7 +69,7 @@ pub taken_front : (old between new : Option (List ℕ)) (bytes : List ℕ) (sent
 taken_front old between new bytes sent one two = (
   take sent bytes,
   (drop sent bytes, sym (take-append-drop sent bytes)),
-  Appends-kept old between new (take sent bytes) one two,
+  Appends-same old between new (take sent bytes) one two,
 )
 
 -- more is taken

@@ -2,7 +2,7 @@
 use Rattle.std.proofs.Common.{◌≡◌, ℕ, ◌<◌, ◌≤◌, get_or, refl, ap, arith}
 use Rattle.std.proofs.lemmas.List.Elements.{All-get_or}
 use Rattle.rd_bytes.proofs.Offered.{ComesBack, laid_read}
-use Rattle.rd_bytes.specs.Layouts.{HasRoom, EachRowIsReadBack}
+use Rattle.rd_bytes.specs.Layouts.{FitsLayout, EachRowIsReadBack}
 use Rattle.rd_group.specs.declared.group_change.GroupChange.{GroupChange}
 use Rattle.rd_group.specs.declared.group_change.GroupChange.TheVariants.{InsWait, DelWait, SetBits}
 use Rattle.rd_group.specs.declared.wish.TheConstants.{MAX_BITS}
@@ -29,22 +29,22 @@ wish_fits Any Clear = omega arith
 wish_fits All Keep = omega arith
 wish_fits All Clear = omega arith
 
-laid : (group : ℕ) (change : GroupChange) → HasRoom group_layout group change → ComesBack group_layout group change
-laid group (InsWait index task wish) room = record {
+laid : (group : ℕ) (change : GroupChange) → FitsLayout group_layout group change → ComesBack group_layout group change
+laid group (InsWait index task wish) fits = record {
   again = ap (λ w. (group, InsWait index task w)) (wish_again wish.bits wish.wait_for wish.on_met);
   count = refl;
   tag = omega arith;
   kind = λ bytes is fields. rw is refl;
 }
-laid group (DelWait index) room = record { again = refl; count = refl; tag = omega arith; kind = λ bytes is fields. rw is refl }
-laid group (SetBits bits) room = record { again = refl; count = refl; tag = omega arith; kind = λ bytes is fields. rw is refl }
+laid group (DelWait index) fits = record { again = refl; count = refl; tag = omega arith; kind = λ bytes is fields. rw is refl }
+laid group (SetBits bits) fits = record { again = refl; count = refl; tag = omega arith; kind = λ bytes is fields. rw is refl }
 
 pub group_change_is_read_back : EachRowIsReadBack group_layout
 group_change_is_read_back = laid_read group_layout laid
 
--- What undoes a change of a group has room in its bytes.
+-- What undoes a change of a group fits in its bytes.
 pub group_inverse_has_bytes : (n : ℕ) (group : GroupSnapshot) (change : GroupChange) → n < 256 → IsSizedGroup group → GroupFits group change
-    → HasRoom group_layout n (group_inverse_of group change)
+    → FitsLayout group_layout n (group_inverse_of group change)
 group_inverse_has_bytes n group (InsWait index task wish) few sized fits = (few, (few, (omega (arith, fits.0, fits.1, sized.few), tt)), tt)
 group_inverse_has_bytes n group (DelWait index) few sized fits =
     let task : get_or group.waiting index 0 < group.task_count = All-get_or (λ t. t < group.task_count) group.waiting index 0 fits sized.waiting.0 in

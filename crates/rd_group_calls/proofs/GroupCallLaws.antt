@@ -23,7 +23,7 @@ use Rattle.rd_state.specs.declared.phase.Held.{Held}
 use Rattle.rd_state.specs.declared.phase.Held.TheVariants.{Stream, Message}
 use Rattle.rd_state.specs.declared.phase.Listed.{Listed}
 use Rattle.rd_state.specs.declared.phase.Listed.TheVariants.{Group, Queue, QueueSet}
-use Rattle.rd_state.specs.Edit.{Edit}
+use Rattle.rd_state.specs.EditingView.{EditingView}
 use Rattle.rd_state.specs.Objects.{ObjectsSnapshot, group_in, no_group, objects_with_group, shapes_in}
 use Rattle.rd_state.specs.Phases.{can_run, given_bits, is_first}
 use Rattle.rd_state.specs.Snapshot.{Snapshot, TaskSnapshot, group_at, task_at, with_bits_at, with_group}
@@ -36,13 +36,13 @@ use Rattle.rd_kernel.specs.declared.outcome.Outcome.{Outcome}
 use Rattle.rd_kernel.specs.declared.outcome.Outcome.TheVariants.{Fails, Returns, ReturnsBoth, Waits}
 use Rattle.rd_kernel.specs.declared.waking.Waking.TheVariants.{IsGiven}
 use Rattle.rd_kernel.specs.Outcomes.{Called, DoesCall, IsCalling, call_returns, concluded}
-use Rattle.rd_kernel.specs.Tasks.{KeepsPc}
+use Rattle.rd_kernel.specs.Tasks.{PcStays}
 use Rattle.rd_kernel.specs.Telling.{waits_once}
 use Rattle.rd_kernel.specs.Waking.{deadline_of, may_wait, operand_value, woken_all}
 use Rattle.rd_kernel.proofs.Offered.{AfterWaking, IsConsistent-contents, IsConsistent-given, IsConsistent-valid, true_if_one, room_for_all, room_in_list, runner_waits_nowhere}
 use Rattle.rd_kernel.proofs.Offered.{AfterWaking-woken_all, ContentsChange, EachStays-woken_all, EntriesStay, EntriesStay-woken_all, IsConsistent, IsOn, IsOn-contents}
 use Rattle.rd_kernel.proofs.Offered.{IsOn-fails, IsOn-given, IsOn-outside, IsOn-returns, IsOn-waits_in_group, IsSleeper, NamesTasks-sized, PcsStay, RunsInstr}
-use Rattle.rd_kernel.proofs.Offered.{Sleeps, Sleeps-woken_all, all_have_time_left, both, read_kept, waits_is_task}
+use Rattle.rd_kernel.proofs.Offered.{Sleeps, Sleeps-woken_all, all_have_time_left, both, read_same, waits_is_task}
 use Rattle.rd_group_calls.specs.GroupCalls.{are_bad_bits, bits_at, bits_given, bits_set, clear_outcome, fails_for_bits, given_or, group_outcome, is_bad_wish}
 use Rattle.rd_group_calls.specs.GroupCalls.{meeting_wish, met_or_waits, set_outcome, sync_outcome, sync_tried, wait_outcome, waits_or_returns, waits_with_wish, wished}
 
@@ -89,7 +89,7 @@ group_contents o group now there same = record {
     waiting : (place : Listed) → waiting_in (objects_with_group o group now) place ≡ waiting_in o place
     waiting (Queue queue list) = refl
     waiting (QueueSet queue_set) = refl
-    waiting (Group other) = read_kept (λ (g : GroupSnapshot). g.waiting) o.groups group other now no_group there same
+    waiting (Group other) = read_same (λ (g : GroupSnapshot). g.waiting) o.groups group other now no_group there same
 
     named : (held : Held) → holder_in (objects_with_group o group now) held ≡ holder_in o held
     named (Stream stream side) = refl
@@ -182,10 +182,10 @@ group_call-pcs priorities s task group call =
     }) (λ t. refl)
 
 -- A call that leaves each task where it stands leaves its caller there.
-pub keeps_pc : (r : Result Outcome NoMemory) (old new : Edit) (called : Called) (cost task : ℕ) → IfOk r (DoesCall old new called cost) → PcsStay old.now called.state
-    → OnOk r (KeepsPc old.now new.now task)
-keeps_pc (Ok outcome) old new called cost task does stays = ap (λ (p : Snapshot). (task_at p task).pc) does.comes.now ∙ stays task
-keeps_pc (Err e) old new called cost task does stays = tt
+pub pc_stays : (r : Result Outcome NoMemory) (old new : EditingView) (called : Called) (cost task : ℕ) → IfOk r (DoesCall old new called cost) → PcsStay old.now called.state
+    → OnOk r (PcStays old.now new.now task)
+pc_stays (Ok outcome) old new called cost task does stays = ap (λ (p : Snapshot). (task_at p task).pc) does.comes.now ∙ stays task
+pc_stays (Err e) old new called cost task does stays = tt
 
 -- the tick
 concluded-tick : (s : Snapshot) (outcome : Outcome) (core task : ℕ) → (concluded (record { state = s; outcome = outcome }) core task).tick ≡ s.tick

@@ -37,13 +37,13 @@ use Rattle.rd_group_calls.proofs.GroupCallLaws.{times_met}
 
 -- ---- clearing
 
-abbrev keeps : ℕ → ℕ
-keeps wanted = bit_not w32 wanted
+abbrev other_bits : ℕ → ℕ
+other_bits wanted = bit_not w32 wanted
 
 -- Bits are cleared in any order.
 without_swaps : (bits one other : ℕ) → without_bits (without_bits bits one) other ≡ without_bits (without_bits bits other) one
 without_swaps bits one other =
-    and_assoc (keeps other) bits (keeps one) ∙ ap (bit_and bits) (and_comm (keeps one) (keeps other)) ∙ sym (and_assoc (keeps one) bits (keeps other))
+    and_assoc (other_bits other) bits (other_bits one) ∙ ap (bit_and bits) (and_comm (other_bits one) (other_bits other)) ∙ sym (and_assoc (other_bits one) bits (other_bits other))
 
 left_swaps : (bits one other : ℕ) (on_one on_other : OnMet)
     → left_when_met on_other other (left_when_met on_one one bits) ≡ left_when_met on_one one (left_when_met on_other other bits)

@@ -6,11 +6,11 @@ ghost use Rattle.rd_app.specs.Application.{IsGroupCall, IsOperand, priorities_of
 ghost use Rattle.rd_group.specs.Groups.{bits_left, met_by};
 ghost use Rattle.rd_group.specs.Wishes.{is_met};
 ghost use Rattle.rd_group.specs.declared.wish.TheConstants.{MAX_BITS};
-ghost use Rattle.rd_state.specs.Edit.{GivesUp, Reaches};
+ghost use Rattle.rd_state.specs.EditingView.{GivesUp, Reaches};
 ghost use Rattle.rd_state.specs.Phases.{given_bits, is_first, was_given};
 ghost use Rattle.rd_state.specs.Snapshot.{group_at, task_at, with_bits_at};
 ghost use Rattle.rd_kernel.specs.Outcomes.{DoesCall, IsCalling};
-ghost use Rattle.rd_kernel.specs.Tasks.{KeepsPc};
+ghost use Rattle.rd_kernel.specs.Tasks.{PcStays};
 ghost use Rattle.rd_kernel.specs.Telling.{waits_once};
 ghost use Rattle.rd_group_calls.specs.GroupCalls.{are_bad_bits, bits_at, bits_given, bits_set};
 ghost use Rattle.rd_group_calls.specs.GroupCalls.{clear_outcome, fails_for_bits, given_or};
@@ -332,7 +332,7 @@ pub fn call_group(
         (group_outcome (priorities_of app.now) editing.old.now task group call)
         (group_call_cost editing.old.now call)) }
     ensures nothing { GroupCallChangesNothing editing.old.now task group call → IsOk result }
-    ensures stays { OnOk result (KeepsPc editing.old.now editing.new.now task) }
+    ensures stays { OnOk result (PcStays editing.old.now editing.new.now task) }
     ensures err { OnErr result
         (GivesUp editing.old editing.new (group_call_cost editing.old.now call)) }
 {

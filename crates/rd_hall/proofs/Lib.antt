@@ -1,5 +1,5 @@
 -- The lemmas of this crate.
 pub mod SeatLaws
-pub mod RoomLaws
+pub mod SharedLaws
 pub mod Totals
 pub mod AccountLaws

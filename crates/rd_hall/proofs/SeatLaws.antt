@@ -30,9 +30,9 @@ last_push receipts longer r is =
 -- receipts with one more, behind them
 pub AreReceipts-push : (who : ℕ) (receipts longer : List Receipt) (behind behind' : ℕ) (r : Receipt) → AreReceipts who receipts behind
     → r.entry.who ≡ who → next_place 0 receipts ≤ r.place → longer ≡ receipts ++ r ∷ [] → behind' ≡ r.place + 1 → AreReceipts who longer behind'
-AreReceipts-push who receipts longer behind behind' r kept by place is n = record {
+AreReceipts-push who receipts longer behind behind' r before by place is n = record {
   some = omega (arith, ap length is, length_push receipts r);
-  series = subst (IsSeries who 0) (sym is) (IsSeries-push who 0 receipts r kept.series by place);
+  series = subst (IsSeries who 0) (sym is) (IsSeries-push who 0 receipts r before.series by place);
   next = n ∙ sym (ap (next_place 0) is ∙ next_place-push 0 receipts r);
 }
 
@@ -40,22 +40,22 @@ AreReceipts-push who receipts longer behind behind' r kept by place is n = recor
 pub receipts-push : (who : ℕ) (receipts longer : List Receipt) (behind behind' : ℕ) (r : Receipt) → AreReceipts who receipts behind
     → r.entry.who ≡ who → next_place 0 receipts ≤ r.place → longer ≡ receipts ++ r ∷ [] → behind' ≡ r.place + 1
     → AreReceipts who longer behind' × (slice_get longer (length longer - 1) ≡ Some r)
-receipts-push who receipts longer behind behind' r kept by place is n =
-    (AreReceipts-push who receipts longer behind behind' r kept by place is n, last_push receipts longer r is)
+receipts-push who receipts longer behind behind' r before by place is n =
+    (AreReceipts-push who receipts longer behind behind' r before by place is n, last_push receipts longer r is)
 
--- a seat that keeps these
+-- a seat whose fields are these
 pub IsSeat-of : (who : ℕ) (receipts : List Receipt) (behind parts amount : ℕ) → AreReceipts who receipts behind → parts ≡ 1 → amount ≡ length receipts
     → IsSeat (record { who = who; receipts = receipts; share = amount }) behind parts amount
-IsSeat-of who receipts behind parts amount kept part all = record { receipts = kept; parts = part; amount = all }
+IsSeat-of who receipts behind parts amount are part all = record { receipts = are; parts = part; amount = all }
 
 -- a seat with the receipt of what was done for it
 pub IsSeat-push : (seat : SeatView) (next parts amount : ℕ) (r : Receipt) (receipts : List Receipt) (next' parts' amount' : ℕ) → IsSeat seat next parts amount
     → r.entry.who ≡ seat.who → next ≤ r.place → receipts ≡ seat.receipts ++ r ∷ [] → next' ≡ r.place + 1 → parts' ≡ parts → amount' ≡ amount + 1
     → IsSeat (record { who = seat.who; receipts = receipts; share = amount' }) next' parts' amount'
-IsSeat-push seat next parts amount r receipts next' parts' amount' kept by behind is n p a = record {
-  receipts = AreReceipts-push seat.who seat.receipts receipts next next' r kept.receipts by (omega (arith, behind, kept.receipts.next)) is n;
-  parts = p ∙ kept.parts;
-  amount = omega (arith, a, kept.amount, ap length is, length_push seat.receipts r);
+IsSeat-push seat next parts amount r receipts next' parts' amount' before by behind is n p a = record {
+  receipts = AreReceipts-push seat.who seat.receipts receipts next next' r before.receipts by (omega (arith, behind, before.receipts.next)) is n;
+  parts = p ∙ before.parts;
+  amount = omega (arith, a, before.amount, ap length is, length_push seat.receipts r);
 }
 
 -- ---- receipts as they are kept

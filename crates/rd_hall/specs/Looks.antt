@@ -1,4 +1,4 @@
--- What is told of a room at one moment.
+-- What is told of a debugger at one moment.
 use Rattle.std.specs.Prelude.{length}
 use Rattle.rd_timeline.specs.Runs.{kept}
 use Rattle.rd_desk.specs.DeskView.{DeskView}

@@ -61,7 +61,7 @@ with_receipt seat receipt = record {
   share = seat.share + 1;
 }
 
--- What receipts keep: there are some, of this session, and they rise in place; what else is kept is
+-- What receipts are: there are some, of this session, and they rise in place; what else is kept is
 -- the place behind them.
 pub record AreReceipts (who : ℕ) (receipts : List Receipt) (behind : ℕ) : Type 0 where
   pub some : 0 < length receipts
@@ -87,7 +87,7 @@ pub record StayWithRoom (old new : ReceiptsView) : Type 0 where
   pub rows : old.room ≤ new.room
   pub bytes : old.byte_room ≤ new.byte_room
 
--- What the fields of who has left keep: it has receipts, the place behind them, one part of the
+-- What the fields of who has left say: it has receipts, the place behind them, one part of the
 -- ledger, and as much of the amount as receipts.
 pub record IsSeat (seat : SeatView) (behind part total : ℕ) : Type 0 where
   pub receipts : AreReceipts seat.who seat.receipts behind

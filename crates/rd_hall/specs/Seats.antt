@@ -1,4 +1,4 @@
--- What a call does to a room and to a seat.
+-- What a call does to what is shared and to a seat.
 use Rattle.std.specs.Prelude.{ℕ, ◌≡◌, ◌+◌, ◌<◌, ◌≤◌, ◌⊎◌, List, [], ◌∷◌, length}
 use Rattle.rd_names.specs.Apps.{AppView}
 use Rattle.rd_command.specs.Commands.{CommandView}
@@ -7,22 +7,22 @@ use Rattle.rd_desk.specs.declared.desk.NotServed.TheVariants as serve
 use Rattle.rd_desk.specs.declared.entry.Event.{Event}
 use Rattle.rd_desk.specs.declared.entry.Event.TheVariants.{Enter, Leave}
 use Rattle.rd_desk.specs.declared.entry.Receipt.{Receipt}
-use Rattle.rd_desk.specs.DeskView.{used, DeskView, Does, IsKept}
+use Rattle.rd_desk.specs.DeskView.{used, DeskView, Does, IsSound}
 use Rattle.rd_desk.specs.Memory.{MayLackMemory}
 use Rattle.rd_desk.specs.Refusals.{tally_of}
 use Rattle.rd_desk.specs.Sessions.{IsPresent}
 use Rattle.rd_hall.specs.SeatView.{ReceiptsView, RoomedSeat, SeatView, next_place, with_receipt}
 
--- what a contract sees of a room: the desk, the total of the ledger, for how many entries more the
+-- the view of what is shared: the desk, the total of the ledger, for how many entries more the
 -- history has room, and for how many bytes of theirs
-pub record RoomView : Type 0 where
+pub record SharedView : Type 0 where
   pub desk : DeskView
   pub total : ℕ
   pub row_room : ℕ
   pub byte_room : ℕ
 
 -- The desk stands there as it did, and the ledger has the same total.
-pub record IsUnchanged (old new : RoomView) : Type 0 where
+pub record IsUnchanged (old new : SharedView) : Type 0 where
   pub desk : new.desk ≡ old.desk
   pub total : new.total ≡ old.total
 
@@ -52,14 +52,14 @@ LacksRoomFor rows bytes line = (rows < 2) ⊎ (bytes < length line)
 
 -- Where a session has room for so many receipts and bytes, a command of its may be refused for want
 -- of memory: that isn't enough, or else a place is free, and the desk may lack memory.
-abbrev pub MayBeShort : RoomView → ℕ → ℕ → ℕ → List ℕ → CommandView → Type 0
-MayBeShort room who rows bytes line command =
+abbrev pub MayBeShort : SharedView → ℕ → ℕ → ℕ → List ℕ → CommandView → Type 0
+MayBeShort shared who rows bytes line command =
     LacksRoomFor rows bytes line
-    ⊎ ((used room.desk < room.desk.most_entries)
+    ⊎ ((used shared.desk < shared.desk.most_entries)
     × MayLackMemory (record {
-      desk = room.desk;
-      row_room = room.row_room;
-      byte_room = room.byte_room;
+      desk = shared.desk;
+      row_room = shared.row_room;
+      byte_room = shared.byte_room;
     }) who line command)
 
 -- the seat of who enters next, without receipts yet
@@ -96,7 +96,7 @@ Joined seat =
 -- The desk can have been found: its history is one of the sequential debugger, it is of this
 -- application and has these limits, and it has no fewer entries than the seat has of the ledger.
 pub record IsFound (used_app : AppView) (moves entries share : ℕ) (d : DeskView) : Type 0 where
-  pub kept : IsKept d
+  pub sound : IsSound d
   pub set_up : IsOf d used_app moves entries
   pub backed : share ≤ length d.history
 

@@ -29,7 +29,7 @@ fn next_behind<L: Setup>(gone: &Gone<L>, who: u32, next: usize) -> usize
     ensures { result
         ≡ (if nat_eq gone.now.who who then next_place next gone.now.receipts else next) }
 {
-    gone.keeps();
+    gone.by_invariant();
     if gone.who() == who { gone.next() } else { next }
 }
 
@@ -74,7 +74,7 @@ fn all_fit<L: Setup>(history: &History, gones: &[Gone<L>]) -> bool
         → All (λ gone. IsSeries gone.who 0 gone.receipts) gones.now }
 {
     for place in 0..gones.len() {
-        gones[place].keeps();
+        gones[place].by_invariant();
         if !fits(history, &gones[..place], &gones[place]) {
             return false;
         }

@@ -5,7 +5,7 @@ ghost use Rattle.rd_command.specs.Bindings.{known_of};
 ghost use Rattle.rd_desk.specs.Debugger.{Debugger, opening};
 ghost use Rattle.rd_desk.specs.Legal.{Leads};
 ghost use Rattle.rd_desk.specs.DeskView.{used};
-ghost use Rattle.rd_desk.specs.Refusals.{IfEnterFull, IfServeFull, KeepsOut, LetsIn};
+ghost use Rattle.rd_desk.specs.Refusals.{IfEnterFull, IfServeFull, IsWhyNotLetIn, LetsIn};
 ghost use Rattle.rd_desk.specs.declared.entry.Event.TheVariants.{Enter, Ask, Leave};
 ghost use Rattle.rd_desk.specs.declared.sessions.TheConstants.{MAX_JOINS};
 ghost use Rattle.rd_hall.specs.Account.{IsAccounted};
@@ -14,9 +14,9 @@ ghost use Rattle.rd_hall.specs.Seats.{newcomer};
 
 use crate::account::{Broken, Closed};
 use crate::look::Look;
-use crate::room::Room;
 use crate::seat::{Gone, Pass, Seat};
 use crate::setup::Setup;
+use crate::shared::Shared;
 use rd_bytes::no_memory::NoMemory;
 use rd_command::known::Known;
 use rd_command::order::Order;
@@ -43,10 +43,10 @@ fn step_aside() {
     }
 }
 
-/// A room behind one lock, and outside of it what commands are bound by. It can't be dropped: it
-/// ends in `finish`.
+/// What sessions share, behind one lock, and outside of it what commands are bound by. It can't be
+/// dropped: it ends in `finish`.
 pub struct Hall<L: Setup> {
-    room: Mutex<Room<L>>,
+    shared: Mutex<Shared<L>>,
     known: Known,
     limit: usize,
     ghost application: { known ≡ known_of L.app },
@@ -71,9 +71,9 @@ impl<L: Setup> Hall<L> {
         ensures { IfOk result (λ opened. vec_len opened.1 ≡ MAX_JOINS) }
     {
         let known = Known::of(alloc, &app)?;
-        let (room, passes) = Room::open(alloc, blank, app, limits)?;
+        let (shared, passes) = Shared::open(alloc, blank, app, limits)?;
         let hall = Hall {
-            room: Mutex::new(room),
+            shared: Mutex::new(shared),
             known,
             limit: limits.history as usize,
         };
@@ -83,14 +83,14 @@ impl<L: Setup> Hall<L> {
     // Gets the lock. Whoever finds it taken steps aside for some lines of another, and sleeps only
     // after some such turns. (Where it changes hands at each line, all that stands behind it goes
     // from processor to processor, and to be woken takes as long as a hundred lines.)
-    fn enter(&self, rt: &impl Wait) -> MutexGuard<'_, Room<L>> {
+    fn enter(&self, rt: &impl Wait) -> MutexGuard<'_, Shared<L>> {
         for _look in 0..LOOKS {
-            if let Some(room) = self.room.try_lock() {
-                return room;
+            if let Some(shared) = self.shared.try_lock() {
+                return shared;
             }
             step_aside();
         }
-        self.room.lock(rt)
+        self.shared.lock(rt)
     }
 
     /// For tests alone: how many entries the history may have.
@@ -110,22 +110,22 @@ impl<L: Setup> Hall<L> {
     /// For tests alone: what stands behind the lock now, beside the target itself. It takes no
     /// memory.
     pub fn look(&self, rt: &impl Wait) -> Look {
-        let room = self.enter(rt);
-        room.look()
+        let shared = self.enter(rt);
+        shared.look()
     }
 
     /// For tests alone: a copy of the target behind the lock. `NoMemory` where a growth was
     /// refused.
     pub fn copy_target(&self, rt: &impl Wait, alloc: Global) -> Result<State, NoMemory> {
-        let room = self.enter(rt);
-        room.target().copy(alloc)
+        let shared = self.enter(rt);
+        shared.target().copy(alloc)
     }
 
     /// For tests alone: whether the target behind the lock is this state, to the last field. It
     /// takes no memory.
     pub fn is_target(&self, rt: &impl Wait, state: &State) -> bool {
-        let room = self.enter(rt);
-        room.target().same(state)
+        let shared = self.enter(rt);
+        shared.target().same(state)
     }
 
     /// A session joins, under the lock: it has the receipt of that. `Full` where 64 have joined,
@@ -140,11 +140,11 @@ impl<L: Setup> Hall<L> {
             Finds L.app L.most_moves L.most_entries 0 (λ d.
             LetsIn d × Serves d (newcomer d) Enter seat.session)) }
         ensures refused { IfErr result (λ error.
-            Finds L.app L.most_moves L.most_entries 0 (λ d. KeepsOut d error.1)) }
+            Finds L.app L.most_moves L.most_entries 0 (λ d. IsWhyNotLetIn d error.1)) }
     {
-        let mut room = self.enter(rt);
-        room.keeps();
-        room.join(pass)
+        let mut shared = self.enter(rt);
+        shared.by_invariant();
+        shared.join(pass)
     }
 
     /// Serves a command, under the lock; what it names was looked up before, in the application of
@@ -165,8 +165,8 @@ impl<L: Setup> Hall<L> {
             (tally.limit ≡ L.most_entries)
             × (tally.limit ≡ tally.entries + tally.present))) }
         ensures err { OnErr result (seat.new.session ≡ seat.old.session) }
-        ensures room_kept { OnErr result (seat.old.room ≤ seat.new.room) }
-        ensures bytes_kept { OnErr result (seat.old.byte_room ≤ seat.new.byte_room) }
+        ensures room_grows { OnErr result (seat.old.room ≤ seat.new.room) }
+        ensures bytes_grow { OnErr result (seat.old.byte_room ≤ seat.new.byte_room) }
         ensures served { OnOk result
             (Finds L.app L.most_moves L.most_entries seat.old.session.share (λ d.
             (used d < d.most_entries)
@@ -179,10 +179,10 @@ impl<L: Setup> Hall<L> {
         // it is known whether the history is the seat's own.
         let made = seat.make_room(order.line().len());
         let receipt = {
-            let mut room = self.enter(rt);
-            room.keeps();
-            room.backs(&mut seat.share);
-            room.serve(&mut seat.share, &mut seat.receipts, made, order)?
+            let mut shared = self.enter(rt);
+            shared.by_invariant();
+            shared.backs(&mut seat.share);
+            shared.serve(&mut seat.share, &mut seat.receipts, made, order)?
         };
         // Nobody else sees what a seat keeps, so its receipt is put there behind the lock.
         seat.receipts.put(receipt, order);
@@ -203,8 +203,8 @@ impl<L: Setup> Hall<L> {
             (tally.limit ≡ L.most_entries)
             × (tally.limit ≡ tally.entries + tally.present))) }
         ensures err { OnErr result.1 (result.0.session ≡ seat.session) }
-        ensures room_kept { OnErr result.1 (seat.room ≤ result.0.room) }
-        ensures bytes_kept { OnErr result.1 (seat.byte_room ≤ result.0.byte_room) }
+        ensures room_grows { OnErr result.1 (seat.room ≤ result.0.room) }
+        ensures bytes_grow { OnErr result.1 (seat.byte_room ≤ result.0.byte_room) }
         ensures served { OnOk result.1
             (Finds L.app L.most_moves L.most_entries seat.session.share (λ d.
             (used d < d.most_entries)
@@ -226,10 +226,10 @@ impl<L: Setup> Hall<L> {
             LetsGo d seat.session result) }
     {
         let mut seat = seat;
-        let mut room = self.enter(rt);
-        room.keeps();
-        room.backs(&mut seat.share);
-        room.leave(seat)
+        let mut shared = self.enter(rt);
+        shared.by_invariant();
+        shared.backs(&mut seat.share);
+        shared.leave(seat)
     }
 
     /// Ends the debugger. `Broken` where the receipts that are handed in aren't those of the
@@ -242,12 +242,12 @@ impl<L: Setup> Hall<L> {
         ensures gones { IfOk result (λ closed. closed.gones ≡ gones.items) }
     {
         let Hall {
-            room,
+            shared,
             known: _known,
             limit: _,
         } = self;
-        let room = room.into_inner();
-        room.keeps();
-        room.finish(gones)
+        let shared = shared.into_inner();
+        shared.by_invariant();
+        shared.finish(gones)
     }
 }

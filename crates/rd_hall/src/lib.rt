@@ -8,6 +8,6 @@ pub mod account;
 pub mod hall;
 pub mod look;
 mod receipts;
-pub mod room;
 pub mod seat;
 pub mod setup;
+pub mod shared;

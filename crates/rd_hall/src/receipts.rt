@@ -60,7 +60,7 @@ impl Receipts {
     }
 
     /// For contracts alone: there are receipts, all name the session, and they rise in place.
-    pub(crate) fn keeps(&self)
+    pub(crate) fn by_invariant(&self)
         ensures some { 0 < length self.now.receipts }
         ensures series { IsSeries self.now.who 0 self.now.receipts }
     {
@@ -75,8 +75,8 @@ impl Receipts {
         ensures receipts { self.new.receipts ≡ self.old.receipts }
         ensures room { OnOk result (2 ≤ self.new.room) }
         ensures bytes { OnOk result (bytes ≤ self.new.byte_room) }
-        ensures kept { self.old.room ≤ self.new.room }
-        ensures kept_bytes { self.old.byte_room ≤ self.new.byte_room }
+        ensures room_grows { self.old.room ≤ self.new.room }
+        ensures bytes_grow { self.old.byte_room ≤ self.new.byte_room }
         ensures short { OnErr result ((self.new.room < 2) ⊎ (self.new.byte_room < bytes)) }
     {
         self.rows.make_room(2, bytes)

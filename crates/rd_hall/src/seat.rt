@@ -106,13 +106,13 @@ impl<L: Setup> Seat<L> {
 
     /// For contracts alone: there are receipts, all name the session, and they rise in place. The
     /// session has as much of the ledger as receipts, and room for the receipt of its leave.
-    pub fn keeps(&self)
+    pub fn by_invariant(&self)
         ensures some { 0 < length self.now.session.receipts }
         ensures series { IsSeries self.now.session.who 0 self.now.session.receipts }
         ensures share { self.now.session.share ≡ length self.now.session.receipts }
         ensures room { 0 < self.now.room }
     {
-        self.receipts.keeps();
+        self.receipts.by_invariant();
     }
 }
 
@@ -124,8 +124,8 @@ impl<L: Setup> Seat<L> {
         ensures session { self.new.session ≡ self.old.session }
         ensures room { OnOk result (2 ≤ self.new.room) }
         ensures bytes { OnOk result (bytes ≤ self.new.byte_room) }
-        ensures kept { self.old.room ≤ self.new.room }
-        ensures kept_bytes { self.old.byte_room ≤ self.new.byte_room }
+        ensures room_grows { self.old.room ≤ self.new.room }
+        ensures bytes_grow { self.old.byte_room ≤ self.new.byte_room }
         ensures short { OnErr result ((self.new.room < 2) ⊎ (self.new.byte_room < bytes)) }
     {
         self.receipts.make_room(bytes)
@@ -216,7 +216,7 @@ impl<L: Setup> Gone<L> {
 
     /// For contracts alone: there are receipts, all name the session, and they rise in place. The
     /// session has as much of the ledger as receipts.
-    pub fn keeps(&self)
+    pub fn by_invariant(&self)
         ensures some { 0 < length self.now.receipts }
         ensures series { IsSeries self.now.who 0 self.now.receipts }
         ensures share { self.now.share ≡ length self.now.receipts }

@@ -22,7 +22,7 @@ use Rattle.rd_notify.specs.Entries.{entry_notified, is_left_alone}
 use Rattle.rd_kernel.specs.Telling.{told}
 use Rattle.rd_queue_calls.specs.Posts.{list_posted_to, membership_of, posted}
 use Rattle.rd_queue_calls.proofs.Offered.{IsConsistent-posted, post_wakes_the_first, posted-tick, queue_set_there, waiting-put}
-use Rattle.rd_interrupts.specs.Interrupts.{IsInterruptAt, after_interrupt, has_no_room, interrupted, isr_answer, with_item_put}
+use Rattle.rd_interrupts.specs.Interrupts.{IsInterruptAt, after_interrupt, has_no_space, interrupted, isr_answer, with_item_put}
 use Rattle.rd_interrupts.specs.InterruptLaws.{NotificationsArriveByInterrupt, RefusedInterruptsChangeNothing, SendsWakeTheFirst}
 
 -- ---- what it names is there
@@ -64,7 +64,7 @@ IsConsistent-interrupted app s (Send queue bytes) valid named =
     let sized = valid.in_limits.sized in
     let D = all_have_time_left s.tick in
     let after = (posted (priorities_of app) (with_item_put s queue bytes) queue (membership_of s queue)).state in
-    elim (has_no_room s queue) as (λ b. IsConsistent app D (cond b s after)) [
+    elim (has_no_space s queue) as (λ b. IsConsistent app D (cond b s after)) [
       | true ↦ IsConsistent-valid app s valid
       | false ↦ IsConsistent-posted app D s queue (membership_of s queue) (items_and s queue bytes) (λ t deadline. tt) sized there (queue_set_there s queue sized there)
           (IsConsistent-valid app s valid)
@@ -74,7 +74,7 @@ IsConsistent-interrupted app s (Notify task index value action) valid named =
 
 interrupted-tick : (priorities : List ℕ) (s : Snapshot) (interrupt : PlainInterrupt) → (interrupted priorities s interrupt).tick ≡ s.tick
 interrupted-tick priorities s (Send queue bytes) =
-    elim (has_no_room s queue) as (λ b. (cond b s (posted priorities (with_item_put s queue bytes) queue (membership_of s queue)).state).tick ≡ s.tick) [
+    elim (has_no_space s queue) as (λ b. (cond b s (posted priorities (with_item_put s queue bytes) queue (membership_of s queue)).state).tick ≡ s.tick) [
       | true ↦ refl
       | false ↦ posted-tick priorities (with_item_put s queue bytes) queue (membership_of s queue)
     ]
@@ -88,8 +88,8 @@ IsValid-interrupt app s s' interrupt limits valid named same sized =
     let z = after_interrupt priorities s interrupt in
     let at = IsConsistent-interrupted app s interrupt valid named in
     let some : 0 < length p.cores = omega (arith, limits.some_cores, at.cores) in
-    let kept : Rescheduled priorities (lineup_of p) (lineup_of z) = Rescheduled-settled priorities p some in
-    let consistent_z = IsConsistent-rescheduled app (all_have_time_left s.tick) p z kept refl refl at in
+    let rescheduled : Rescheduled priorities (lineup_of p) (lineup_of z) = Rescheduled-settled priorities p some in
+    let consistent_z = IsConsistent-rescheduled app (all_have_time_left s.tick) p z rescheduled refl refl at in
     let tick : s.tick ≡ z.tick = sym (interrupted-tick priorities s interrupt) in
     subst (λ (t : Snapshot). IsSized t → IsValid app t) (sym same)
     (IsValid-consistent app z (subst (λ t. IsConsistent app (all_have_time_left t) z) tick consistent_z)) sized
@@ -116,7 +116,7 @@ refused false is = absurd (omega (arith, is))
 
 nothing_done : (priorities : List ℕ) (s : Snapshot) (interrupt : PlainInterrupt) → isr_answer s interrupt ≡ 0 → interrupted priorities s interrupt ≡ s
 nothing_done priorities s (Send queue bytes) is =
-    ap (λ b. cond b s (posted priorities (with_item_put s queue bytes) queue (membership_of s queue)).state) (refused (has_no_room s queue) is)
+    ap (λ b. cond b s (posted priorities (with_item_put s queue bytes) queue (membership_of s queue)).state) (refused (has_no_space s queue) is)
 nothing_done priorities s (Notify task index value action) is =
     let entry = entry_at s task index in
     ap (λ b. cond b s (told priorities s task index (entry_notified action value entry))) (refused (is_left_alone action entry.state) is)
@@ -135,7 +135,7 @@ sends_wake_the_first app s queue task bytes valid there none is first =
     let priorities = priorities_of app in
     let after : Option ℕ → Snapshot = λ member. (posted priorities (with_item_put s queue bytes) queue member).state in
     let put : interrupted priorities s (Send queue bytes) ≡ after None =
-    ap (λ b. cond b s (after (membership_of s queue))) (done (has_no_room s queue) is) ∙ ap after none in
+    ap (λ b. cond b s (after (membership_of s queue))) (done (has_no_space s queue) is) ∙ ap after none in
     ap (λ (t : Snapshot). waits_at (task_at t task).phase) put
     ∙ post_wakes_the_first priorities s queue task (items_and s queue bytes) valid.in_limits.sized there first
 

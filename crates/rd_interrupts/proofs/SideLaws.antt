@@ -19,7 +19,7 @@ use Rattle.rd_notify_calls.proofs.Offered.{notified-received}
 use Rattle.rd_queue_calls.specs.Posts.{membership_of, posted}
 use Rattle.rd_queue_calls.specs.QueueSetLaws.{handles_in, handles_posted}
 use Rattle.rd_queue_calls.proofs.Offered.{Lies-items, handles_of_posts, handles_woken_all, posted_sleeps, posted_stays}
-use Rattle.rd_interrupts.specs.Interrupts.{after_interrupt, handles_interrupted, has_no_room, interrupt_notifies_first, with_item_put}
+use Rattle.rd_interrupts.specs.Interrupts.{after_interrupt, handles_interrupted, has_no_space, interrupt_notifies_first, with_item_put}
 
 -- ---- handles
 
@@ -32,7 +32,7 @@ pub interrupt-handles : (priorities : List ℕ) (s : Snapshot) (interrupt : Plai
     → handles_in (after_interrupt priorities s interrupt) ≡ handles_interrupted s interrupt
 interrupt-handles priorities s (Send queue bytes) =
     let after = (posted priorities (with_item_put s queue bytes) queue (membership_of s queue)).state in
-    elim (has_no_room s queue) as (λ b. handles_in (cond b s after) ≡ cond b (handles_in s) (handles_posted s queue (membership_of s queue))) [
+    elim (has_no_space s queue) as (λ b. handles_in (cond b s after) ≡ cond b (handles_in s) (handles_posted s queue (membership_of s queue))) [
       | true ↦ refl
       | false ↦ handles_put priorities s queue bytes (membership_of s queue)
     ]
@@ -49,7 +49,7 @@ pub interrupt-received : (priorities : List ℕ) (s : Snapshot) (interrupt : Pla
     → (entry_at (after_interrupt priorities s interrupt) target index).state ≡ Received
 interrupt-received priorities s (Send queue bytes) target index come =
     let after = (posted priorities (with_item_put s queue bytes) queue (membership_of s queue)).state in
-    elim (has_no_room s queue) as (λ b. (entry_at (cond b s after) target index).state ≡ Received) [
+    elim (has_no_space s queue) as (λ b. (entry_at (cond b s after) target index).state ≡ Received) [
       | true ↦ come
       | false ↦ ap (λ (es : List Entry). (get_or es index idle_entry).state) (posted_stays priorities (with_item_put s queue bytes) queue (membership_of s queue) target) ∙ come
     ]
@@ -68,7 +68,7 @@ pub interrupt-sleeps : (priorities : List ℕ) (s : Snapshot) (interrupt : Plain
 interrupt-sleeps priorities s (Send queue bytes) task own sleeper apart =
     let items = (queue_at s queue).items ++ fitted (queue_at s queue).item_size bytes ∷ [] in
     let after = (posted priorities (with_item_put s queue bytes) queue (membership_of s queue)).state in
-    elim (has_no_room s queue) as (λ b. Sleeps task s (cond b s after)) [
+    elim (has_no_space s queue) as (λ b. Sleeps task s (cond b s after)) [
       | true ↦ refl
       | false ↦ posted_sleeps priorities s (with_item_put s queue bytes) task queue (membership_of s queue)
           (Lies-items s s task queue items (record { sleeps = refl; unlisted = sleeper.unlisted }))

@@ -21,9 +21,9 @@ abbrev pub IsInterruptAt : Snapshot → PlainInterrupt → Type 0
 IsInterruptAt s (Send queue bytes) = queue < length s.objects.queues
 IsInterruptAt s (Notify task index value action) = HasEntry s task index
 
--- Does an item find no room? The queue is full, or the set that it is a member of is.
-abbrev pub has_no_room : Snapshot → ℕ → Bool
-has_no_room s queue =
+-- Does an item find no space? The queue is full, or the set that it is a member of is.
+abbrev pub has_no_space : Snapshot → ℕ → Bool
+has_no_space s queue =
     is_full (queue_at s queue) || is_in_full_queue_set s (membership_of s queue)
 
 -- the item at the back of the queue: the bytes, at its item size
@@ -34,14 +34,14 @@ with_item_put s queue bytes =
 
 -- what it answers: pdPASS, or errQUEUE_FULL; pdFAIL where the entry is left alone
 abbrev pub isr_answer : Snapshot → PlainInterrupt → ℕ
-isr_answer s (Send queue bytes) = if has_no_room s queue then 0 else 1
+isr_answer s (Send queue bytes) = if has_no_space s queue then 0 else 1
 isr_answer s (Notify task index value action) = answer_to action (entry_at s task index).state
 
--- xQueueSendFromISR: where there is room, the item is put, and what it makes known is that of any
+-- xQueueSendFromISR: where there is space, the item is put, and what it makes known is that of any
 -- send. xTaskNotifyIndexedFromISR: the notification comes to the entry.
 abbrev pub interrupted : List ℕ → Snapshot → PlainInterrupt → Snapshot
 interrupted priorities s (Send queue bytes) =
-    if has_no_room s queue then s
+    if has_no_space s queue then s
     else (posted priorities (with_item_put s queue bytes) queue (membership_of s queue)).state
 interrupted priorities s (Notify task index value action) =
     notified priorities s task index action value
@@ -58,7 +58,7 @@ interrupt_cost = 2 + waking_cost
 -- the handles of queue sets after it: one more where it has put an item into a member of one
 abbrev pub handles_interrupted : Snapshot → PlainInterrupt → List (List ℕ)
 handles_interrupted s (Send queue bytes) =
-    if has_no_room s queue then handles_in s else handles_posted s queue (membership_of s queue)
+    if has_no_space s queue then handles_in s else handles_posted s queue (membership_of s queue)
 handles_interrupted s (Notify task index value action) = handles_in s
 
 -- Does it notify that task through its entry 0?

@@ -5,10 +5,10 @@ ghost use Rattle.rd_app.specs.Application.{priorities_of};
 ghost use Rattle.rd_kernel.specs.Costs.{waking_cost};
 ghost use Rattle.rd_moves.specs.Interrupts.{IsInterruptOf};
 ghost use Rattle.rd_queue_calls.specs.Posts.{membership_of, posted};
-ghost use Rattle.rd_state.specs.Edit.{GivesUp, Reaches};
+ghost use Rattle.rd_state.specs.EditingView.{GivesUp, Reaches};
 ghost use Rattle.rd_state.specs.Settled.{IsSettled};
 ghost use Rattle.rd_state.specs.Valid.{IsValid};
-ghost use Rattle.rd_interrupts.specs.Interrupts.{after_interrupt, has_no_room, interrupt_cost};
+ghost use Rattle.rd_interrupts.specs.Interrupts.{after_interrupt, has_no_space, interrupt_cost};
 ghost use Rattle.rd_interrupts.specs.Interrupts.{interrupted, isr_answer, with_item_put};
 ghost use Rattle.rd_interrupts.specs.Interrupts.{IsInterruptAt};
 
@@ -23,24 +23,24 @@ use rd_state::editing::Editing;
 use rd_state::objects::ObjectChange;
 use rd_state::state::State;
 
-// Whether an item that an interrupt sends finds no room: the queue is full, or its set is.
-fn has_no_room(state: &State, queue: usize) -> bool
+// Whether an item that an interrupt sends finds no space: the queue is full, or its set is.
+fn has_no_space(state: &State, queue: usize) -> bool
     requires { queue < length state.now.objects.queues }
-    ensures { result ≡ has_no_room state.now queue }
+    ensures { result ≡ has_no_space state.now queue }
 {
     let queue = state.queue(queue);
     queue.spaces() == 0 || is_in_full_queue_set(state, queue.set_of())
 }
 
 /// What the interrupt will answer, if it is made now: 1 (`pdPASS`), or 0 where its item finds no
-/// room (`errQUEUE_FULL`) or its notification leaves the entry alone (`pdFAIL`). It takes no
+/// space (`errQUEUE_FULL`) or its notification leaves the entry alone (`pdFAIL`). It takes no
 /// memory.
 pub fn isr_answer(state: &State, interrupt: &Interrupt) -> u32
     requires { IsInterruptAt state.now interrupt.now }
     ensures { result ≡ isr_answer state.now interrupt.now }
 {
     match interrupt {
-        Interrupt::Send { queue, .. } if has_no_room(state, *queue) => 0,
+        Interrupt::Send { queue, .. } if has_no_space(state, *queue) => 0,
         Interrupt::Send { .. } => 1,
         Interrupt::Notify {
             task,
@@ -58,11 +58,11 @@ pub fn isr_answer(state: &State, interrupt: &Interrupt) -> u32
     }
 }
 
-// Puts an item at the back of a queue where there is room for it, and makes it known.
+// Puts an item at the back of a queue where there is space for it, and makes it known.
 fn put(app: &Program, editing: &mut Editing, queue: usize, bytes: &[u8]) -> Result<(), NoMemory>
     requires valid { IsValid app.now editing.old.now }
     requires queue { queue < length editing.old.now.objects.queues }
-    requires room { has_no_room editing.old.now queue ≡ false }
+    requires space { has_no_space editing.old.now queue ≡ false }
     ensures ok { OnOk result (Reaches editing.old editing.new
         (posted (priorities_of app.now) (with_item_put editing.old.now queue bytes.now) queue
         (membership_of editing.old.now queue)).state (2 + waking_cost)) }
@@ -89,7 +89,7 @@ fn deliver(app: &Program, editing: &mut Editing, interrupt: &Interrupt) -> Resul
     ensures err { OnErr result (GivesUp editing.old editing.new interrupt_cost) }
 {
     match interrupt {
-        Interrupt::Send { queue, .. } if has_no_room(editing.state(), *queue) => Ok(()),
+        Interrupt::Send { queue, .. } if has_no_space(editing.state(), *queue) => Ok(()),
         Interrupt::Send { queue, bytes } => put(app, editing, *queue, bytes.as_slice()),
         &Interrupt::Notify {
             task,

@@ -284,7 +284,7 @@ free_at app s core task instr calls none =
     (subst (HoldersFitCall s.objects task (task_at s task).phase) calls.at_instr (at.holders task calls.there))
 
 -- A call that was done: what stands then, its caller, and who waits for what it left.
-pub record IsDone (app : Application) (s p : Snapshot) (task : ℕ) (waiting : Listed) : Type 0 where
+pub record IsCallDone (app : Application) (s p : Snapshot) (task : ℕ) (waiting : Listed) : Type 0 where
   pub consistent : IsConsistent app (all_have_time_left s.tick) p
   pub there : task < length p.tasks
   pub runs : 1 ≤ times_to_run (task_at p task).phase
@@ -301,7 +301,7 @@ IsConsistent-failed app s core task cause instr calls none =
     (IsConsistent-valid app s calls.valid)
 
 -- It wakes the first who waits for what it left.
-pub IsConsistent-done : (app : Application) (s p : Snapshot) (core task : ℕ) (waiting : Listed) → IsDone app s p task waiting
+pub IsConsistent-done : (app : Application) (s p : Snapshot) (core task : ℕ) (waiting : Listed) → IsCallDone app s p task waiting
     → IsConsistent app (all_have_time_left s.tick) (concluded (passed (priorities_of app) p waiting) core task)
 IsConsistent-done app s p core task waiting done =
     let first = option_to_list (slice_get (waiting_at p waiting) 0) in

@@ -126,19 +126,19 @@ read_changed f xs number other now d there = elim (cases_eq other number) [
 ]
 
 -- of what the change left as it was
-pub read_kept : {A X : Type 0} (f : X → A) (xs : List X) (number other : ℕ) (now d : X) → number < length xs → f now ≡ f (get_or xs number d)
+pub read_same : {A X : Type 0} (f : X → A) (xs : List X) (number other : ℕ) (now d : X) → number < length xs → f now ≡ f (get_or xs number d)
     → f (get_or (set xs number now) other d) ≡ f (get_or xs other d)
-read_kept f xs number other now d there kept = elim (cases_eq other number) [
+read_same f xs number other now d there same = elim (cases_eq other number) [
   | inl e ↦
-      ap (λ n. f (get_or (set xs number now) n d)) e ∙ ap f (get_or-set_same xs number now d there) ∙ kept ∙ sym (ap (λ n. f (get_or xs n d)) e)
+      ap (λ n. f (get_or (set xs number now) n d)) e ∙ ap f (get_or-set_same xs number now d there) ∙ same ∙ sym (ap (λ n. f (get_or xs n d)) e)
   | inr ne ↦ ap f (get_or-set_other xs number other now d ne)
 ]
 
 -- of all members
-pub map_kept : {A X : Type 0} (f : X → A) (xs : List X) (number : ℕ) (now d : X) → f now ≡ f (get_or xs number d) → map f (set xs number now) ≡ map f xs
-map_kept f [] number now d kept = refl
-map_kept f (x ∷ xs) zero now d kept = ap (λ y. y ∷ map f xs) kept
-map_kept f (x ∷ xs) (suc number) now d kept = ap (λ rest. f x ∷ rest) (map_kept f xs number now d kept)
+pub map_same : {A X : Type 0} (f : X → A) (xs : List X) (number : ℕ) (now d : X) → f now ≡ f (get_or xs number d) → map f (set xs number now) ≡ map f xs
+map_same f [] number now d same = refl
+map_same f (x ∷ xs) zero now d same = ap (λ y. y ∷ map f xs) same
+map_same f (x ∷ xs) (suc number) now d same = ap (λ rest. f x ∷ rest) (map_same f xs number now d same)
 
 -- a queue with other tasks in one of its lists
 tasks_in_list-with : (list other : WaitingList) (tasks : List ℕ) (queue : QueueSnapshot)
@@ -183,10 +183,10 @@ pub record ContentsChange (o n : ObjectsSnapshot) : Type 0 where
 -- Who waits where is none of an object's shape.
 pub shapes_then : (o : ObjectsSnapshot) (place : Listed) (tasks : List ℕ) (wishes : List Wish) → shapes_in (objects_then o place tasks wishes) ≡ shapes_in o
 shapes_then o (Queue queue list) tasks wishes =
-    ap (λ (qs : List QueueShape). record (shapes_in o) { queues = qs }) (map_kept shape_of o.queues queue (with_waiting list tasks (get_or o.queues queue no_queue)) no_queue refl)
+    ap (λ (qs : List QueueShape). record (shapes_in o) { queues = qs }) (map_same shape_of o.queues queue (with_waiting list tasks (get_or o.queues queue no_queue)) no_queue refl)
 shapes_then o (QueueSet queue_set) tasks wishes =
     ap (λ (rooms : List ℕ). record (shapes_in o) { queue_sets = rooms })
-    (map_kept capacity_of o.queue_sets queue_set (with_waiting_tasks (get_or o.queue_sets queue_set no_queue_set) tasks) no_queue_set refl)
+    (map_same capacity_of o.queue_sets queue_set (with_waiting_tasks (get_or o.queue_sets queue_set no_queue_set) tasks) no_queue_set refl)
 shapes_then o (Group group) tasks wishes =
     ap (λ (count : ℕ). record (shapes_in o) { groups = count }) (length-set o.groups group (with_waiters (get_or o.groups group no_group) tasks wishes))
 
@@ -305,17 +305,17 @@ IsConsistent-contents app D s n change at = record {
 -- The line-up changes as scheduling changes it.
 pub IsConsistent-rescheduled : (app : Application) (D : ℕ → Phase → Type 0) (s z : Snapshot) → Rescheduled (priorities_of app) (lineup_of s) (lineup_of z)
     → z.tasks ≡ s.tasks → z.objects ≡ s.objects → IsConsistent app D s → IsConsistent app D z
-IsConsistent-rescheduled app D s z kept tasks objects at =
+IsConsistent-rescheduled app D s z rescheduled tasks objects at =
     let is : (t : ℕ) → task_at z t ≡ task_at s t = λ t. ap (λ (ts : List TaskSnapshot). get_or ts t no_task) tasks in
     let in_s : (t : ℕ) → t < length z.tasks → t < length s.tasks = λ t h. omega (arith, h, ap length tasks) in
     record {
-      cores = kept.cores ∙ at.cores;
+      cores = rescheduled.cores ∙ at.cores;
       tasks = ap length tasks ∙ at.tasks;
       each = λ t h. subst (IsConsistentTask app D t) (sym (is t)) (at.each t (in_s t h));
       shapes = subst (AreShaped app) (sym objects) at.shapes;
-      lined_up_once = λ t h. kept.lined_up t ∙ at.lined_up_once t (in_s t h) ∙ ap (λ (x : TaskSnapshot). times_to_run x.phase) (sym (is t));
+      lined_up_once = λ t h. rescheduled.lined_up t ∙ at.lined_up_once t (in_s t h) ∙ ap (λ (x : TaskSnapshot). times_to_run x.phase) (sym (is t));
       waiting_lists = record {
-        ready = kept.order at.waiting_lists.ready;
+        ready = rescheduled.order at.waiting_lists.ready;
         waiting = λ place by. subst (λ o. IsInOrder (priorities_of app) (waiting_in o place)) (sym objects) (at.waiting_lists.waiting place by);
       };
       places =

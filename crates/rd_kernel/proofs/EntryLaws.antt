@@ -18,7 +18,7 @@ use Rattle.rd_state.proofs.Offered.{times_in_list-cons}
 use Rattle.rd_state.specs.declared.phase.Place.{Place}
 use Rattle.rd_state.specs.declared.phase.Phase.TheVariants.{Again, Failed, Run, Wait}
 use Rattle.rd_state.specs.Phases.{can_run, waits_at}
-use Rattle.rd_kernel.proofs.ConsistentLaws.{IsConsistent, read_kept, task_now}
+use Rattle.rd_kernel.proofs.ConsistentLaws.{IsConsistent, read_same, task_now}
 use Rattle.rd_kernel.proofs.TaskListLaws.{same_one}
 use Rattle.std.specs.Option.{option_and_then}
 use Rattle.rd_app.specs.declared.instr.Instr.{Instr}
@@ -136,8 +136,8 @@ StaysThere-told priorities s caller task index entry there runs =
     let in_q : task < length q.tasks = omega (arith, there, after.same_length) in
     record {
       same_length = length-set q.tasks task x ∙ after.same_length;
-      pc = read_kept (λ (t : TaskSnapshot). t.pc) q.tasks task caller x no_task in_q refl ∙ ap (λ (t : TaskSnapshot). t.pc) same;
-      phase = read_kept (λ (t : TaskSnapshot). t.phase) q.tasks task caller x no_task in_q refl ∙ ap (λ (t : TaskSnapshot). t.phase) same;
+      pc = read_same (λ (t : TaskSnapshot). t.pc) q.tasks task caller x no_task in_q refl ∙ ap (λ (t : TaskSnapshot). t.pc) same;
+      phase = read_same (λ (t : TaskSnapshot). t.phase) q.tasks task caller x no_task in_q refl ∙ ap (λ (t : TaskSnapshot). t.phase) same;
     }
 
 -- An entry of its own changes.
@@ -229,7 +229,7 @@ EachStays f s p = (t : ℕ) → f (task_at p t) ≡ f (task_at s t)
 pub EachStays-task : {A : Type 0} (f : TaskSnapshot → A) (s : Snapshot) (task : ℕ) (x : TaskSnapshot) → f x ≡ f (task_at s task)
     → EachStays f s (with_task s task x)
 EachStays-task f s task x same t = elim (cases_lt task (length s.tasks)) [
-  | inl there ↦ read_kept f s.tasks task t x no_task there same
+  | inl there ↦ read_same f s.tasks task t x no_task there same
   | inr past ↦ ap (λ (ts : List TaskSnapshot). f (get_or ts t no_task)) (set_past s.tasks task x past)
 ]
 

@@ -16,7 +16,7 @@ use Rattle.rd_state.specs.declared.phase.Listed.{Listed}
 use Rattle.rd_state.specs.declared.phase.Listed.TheVariants.{Queue, QueueSet, Group}
 use Rattle.rd_state.specs.Objects.{ObjectsSnapshot, no_message_buffer, no_stream, numbers_in, shapes_in, size_of_message_buffer, size_of_stream}
 use Rattle.rd_state.specs.Waiting.{IsHeld, held_kind, held_object, held_side, holder_in, objects_naming, same_held, side_number, waiting_in}
-use Rattle.rd_kernel.proofs.ConsistentLaws.{both, by_number, map_kept, read_changed, same_number}
+use Rattle.rd_kernel.proofs.ConsistentLaws.{both, by_number, map_same, read_changed, same_number}
 
 waiting_naming : (o : ObjectsSnapshot) (held : Held) (who : Option ℕ) (place : Listed) → waiting_in (objects_naming o held who) place ≡ waiting_in o place
 waiting_naming o (Stream stream side) who (Queue queue list) = refl
@@ -30,11 +30,11 @@ shapes_naming : (o : ObjectsSnapshot) (held : Held) (who : Option ℕ) → shape
 shapes_naming o (Stream stream side) who =
     let was = get_or o.streams stream no_stream in
     ap (λ (sizes : List ℕ). record (shapes_in o) { streams = sizes })
-    (map_kept size_of_stream o.streams stream (with_stream_holders was (with_holder_of side who was.holders)) no_stream refl)
+    (map_same size_of_stream o.streams stream (with_stream_holders was (with_holder_of side who was.holders)) no_stream refl)
 shapes_naming o (Message message side) who =
     let was = get_or o.messages message no_message_buffer in
     ap (λ (sizes : List ℕ). record (shapes_in o) { messages = sizes })
-    (map_kept size_of_message_buffer o.messages message (with_message_holders was (with_holder_of side who was.holders)) no_message_buffer refl)
+    (map_same size_of_message_buffer o.messages message (with_message_holders was (with_holder_of side who was.holders)) no_message_buffer refl)
 
 holder_of-with : (side other : Side) (who : Option ℕ) (holders : HoldersView)
     → holder_of other (with_holder_of side who holders) ≡ cond (nat_eq (side_number other) (side_number side)) who (holder_of other holders)

@@ -1,10 +1,10 @@
 -- The laws of rd_kernel that crates above stand on. No other of its proofs is used there.
 pub use Rattle.rd_kernel.proofs.ConsistentLaws.{ContentsChange, HoldersFitCall-objects, IsConsistent, IsConsistent-contents, IsConsistent-deadlines, IsConsistent-rescheduled}
-pub use Rattle.rd_kernel.proofs.ConsistentLaws.{IsConsistent-valid, IsValid-consistent, all_have_time_left, both, map_kept, place_there, read_kept, task_now}
+pub use Rattle.rd_kernel.proofs.ConsistentLaws.{IsConsistent-valid, IsValid-consistent, all_have_time_left, both, map_same, place_there, read_same, task_now}
 pub use Rattle.rd_kernel.proofs.WakingLaws.{AfterWaking, AfterWaking-woken_all, TimedOut, TimedOut-so_far, all_looked_at, any_deadline, first_tries_wait, timed_out-next}
 pub use Rattle.rd_kernel.proofs.CallLaws.{IsConsistent-advanced, IsConsistent-returned_alone, IsConsistent-done, IsConsistent-failed}
 pub use Rattle.rd_kernel.proofs.CallLaws.{IsConsistent-or_blocked, IsConsistent-returned, IsConsistent-stopped, IsConsistent-with_pc}
-pub use Rattle.rd_kernel.proofs.CallLaws.{IsConsistent-with_values, IsDone, RunsInstr, due_idle, is_task_on_core, or_blocked-tick}
+pub use Rattle.rd_kernel.proofs.CallLaws.{IsConsistent-with_values, IsCallDone, RunsInstr, due_idle, is_task_on_core, or_blocked-tick}
 pub use Rattle.rd_kernel.proofs.CallLaws.{room_in_ready, runs_on_core, runs_outside_calls, waits_is_task, woken_first-tick}
 pub use Rattle.rd_kernel.proofs.TaskListLaws.{first_is_listed, first_waits, other_none, same_one}
 pub use Rattle.rd_kernel.proofs.CallLaws.{free_at}

@@ -11,7 +11,7 @@ use Rattle.rd_app.specs.Application.{Application, instr_at}
 use Rattle.rd_app.specs.declared.instr.Operand.{Operand}
 use Rattle.rd_notify.specs.Entries.{entry_idle, entry_notified, entry_waiting, is_left_alone}
 use Rattle.rd_notify.specs.declared.action.Action.{Action}
-use Rattle.rd_notify.specs.declared.action.Action.TheVariants.{KeepValue}
+use Rattle.rd_notify.specs.declared.action.Action.TheVariants.{NoAction}
 use Rattle.rd_notify.specs.declared.entries.Entry.{Entry}
 use Rattle.rd_stream.specs.Holders.{HoldersView, holder_of, no_holders, with_holder_of}
 use Rattle.rd_stream.specs.MessageSnapshot.{MessageSnapshot}
@@ -42,7 +42,7 @@ use Rattle.rd_kernel.specs.declared.outcome.Outcome.TheVariants.{Fails, Returns,
 use Rattle.rd_kernel.specs.declared.waking.Waking.{Waking}
 use Rattle.rd_kernel.specs.declared.waking.Waking.TheVariants.{TriesAgain}
 use Rattle.rd_kernel.proofs.CallLaws.{runs_on_core}
-use Rattle.rd_kernel.proofs.ConsistentLaws.{read_kept}
+use Rattle.rd_kernel.proofs.ConsistentLaws.{read_same}
 use Rattle.rd_kernel.proofs.EntryLaws.{EachStays-task}
 use Rattle.rd_kernel.proofs.HeldStepLaws.{IsBeside}
 use Rattle.rd_kernel.proofs.HolderLaws.{HolderGoes-naming, by_held}
@@ -178,7 +178,7 @@ Sleeps-completed priorities s task held unnamed = by_name (holder_at s held) ref
     by_name : (o : Option ℕ) → holder_at s held ≡ o → Sleeps task s (completed_for o priorities s held)
     by_name None e = refl
     by_name (Some other) e =
-        Sleeps-told priorities s task other 0 (entry_notified KeepValue 0 (entry_at s other 0)) (λ same. absurd (unnamed (e ∙ ap Some (sym same))))
+        Sleeps-told priorities s task other 0 (entry_notified NoAction 0 (entry_at s other 0)) (λ same. absurd (unnamed (e ∙ ap Some (sym same))))
 
 -- ---- who waits at a place of a buffer
 
@@ -225,8 +225,8 @@ Sleeps-timed_out priorities s task there early =
 -- What is read of each member is what it was, whichever member was replaced, if any.
 pub read_anyway : {A X : Type 0} (f : X → A) (xs : List X) (number other : ℕ) (now d : X) → f now ≡ f (get_or xs number d)
     → f (get_or (set xs number now) other d) ≡ f (get_or xs other d)
-read_anyway f xs number other now d kept = elim (cases_lt number (length xs)) [
-  | inl there ↦ read_kept f xs number other now d there kept
+read_anyway f xs number other now d same = elim (cases_lt number (length xs)) [
+  | inl there ↦ read_same f xs number other now d there same
   | inr past ↦ ap (λ ys. f (get_or ys other d)) (set_past xs number now past)
 ]
 

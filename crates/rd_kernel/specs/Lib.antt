@@ -9,7 +9,7 @@ pub use Rattle.rd_state.specs.Snapshot
 pub use Rattle.rd_state.specs.Waiting
 pub use Rattle.rd_state.specs.Change
 pub use Rattle.rd_state.specs.Undoing
-pub use Rattle.rd_state.specs.Edit
+pub use Rattle.rd_state.specs.EditingView
 pub use Rattle.rd_state.specs.Settled
 pub use Rattle.rd_state.specs.Boot
 pub use Rattle.rd_state.specs.Valid

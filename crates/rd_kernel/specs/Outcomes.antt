@@ -6,7 +6,7 @@ use Rattle.rd_state.specs.declared.phase.Phase.{Phase}
 use Rattle.rd_state.specs.declared.phase.Phase.TheVariants.{Run, Wait, Failed}
 use Rattle.rd_state.specs.declared.phase.Listed.{Listed}
 use Rattle.rd_state.specs.declared.phase.Place.TheVariants as sort
-use Rattle.rd_state.specs.Edit.{Edit, Reaches}
+use Rattle.rd_state.specs.EditingView.{EditingView, Reaches}
 use Rattle.rd_state.specs.Sizes.{IsSizedPhase}
 use Rattle.rd_state.specs.Snapshot.{Snapshot, numbers_of, task_at}
 use Rattle.rd_state.specs.Objects.{Numbers}
@@ -90,7 +90,7 @@ IsSizedOutcome numbers (Waits place deadline) = IsSizedPhase numbers (Wait place
 IsSizedOutcome numbers (Fails cause) = Unit {0}
 
 -- The call has been done, at that cost at the most, and this became of the caller.
-pub record DoesCall (old new : Edit) (called : Called) (cost : ℕ) (outcome : Outcome) : Type 0 where
+pub record DoesCall (old new : EditingView) (called : Called) (cost : ℕ) (outcome : Outcome) : Type 0 where
   pub comes : Reaches old new called.state cost
   pub becomes : outcome ≡ called.outcome
   pub sized : IsSizedOutcome (numbers_of new.now) outcome

@@ -37,8 +37,8 @@ abbrev pub HasEntry : Snapshot → ℕ → ℕ → Type 0
 HasEntry s task index = (task < length s.tasks) × (index < length (task_at s task).entries)
 
 -- The task stands at the same instruction.
-abbrev pub KeepsPc : Snapshot → Snapshot → ℕ → Type 0
-KeepsPc old new task = (task_at new task).pc ≡ (task_at old task).pc
+abbrev pub PcStays : Snapshot → Snapshot → ℕ → Type 0
+PcStays old new task = (task_at new task).pc ≡ (task_at old task).pc
 
 -- the task stands at its next instruction
 abbrev pub advanced : Snapshot → ℕ → Snapshot

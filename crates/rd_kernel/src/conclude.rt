@@ -2,7 +2,7 @@
 
 ghost use Rattle.std.specs.Prelude.{◌≡◌, ◌<◌, length, OnOk, OnErr};
 ghost use Rattle.rd_app.specs.declared.app.TheConstants.{MAX_CODE};
-ghost use Rattle.rd_state.specs.Edit.{Reaches, GivesUp};
+ghost use Rattle.rd_state.specs.EditingView.{Reaches, GivesUp};
 ghost use Rattle.rd_state.specs.Sizes.{IsSizedPhase};
 ghost use Rattle.rd_state.specs.Snapshot.{numbers_of, task_at};
 ghost use Rattle.rd_kernel.specs.Costs.{ending_cost};

@@ -2,7 +2,7 @@
 
 ghost use Rattle.std.specs.Prelude.{◌≡◌, ◌<◌, false, length, IfOk, IsOk, IsSome, None, OnErr, OnOk};
 ghost use Rattle.rd_app.specs.Application.{IsOperand};
-ghost use Rattle.rd_state.specs.Edit.{GivesUp, Reaches};
+ghost use Rattle.rd_state.specs.EditingView.{GivesUp, Reaches};
 ghost use Rattle.rd_state.specs.Snapshot.{task_at};
 ghost use Rattle.rd_state.specs.Phases.{tries_again};
 ghost use Rattle.rd_state.specs.Waiting.{held_side, holder_at, HasHeld};

@@ -3,7 +3,7 @@ ghost use Rattle.std.specs.Prelude.{◌≡◌, ◌+◌, ◌*◌, ◌<◌, ◌≤
 ghost use Rattle.std.specs.Prelude.{All, IfSome, position};
 ghost use Rattle.std.specs.Prelude.{IfOk, IsOk, OnOk, OnErr, IsTrue};
 ghost use Rattle.rd_app.specs.Application.{IsOperand, priorities_of};
-ghost use Rattle.rd_state.specs.Edit.{Reaches, GivesUp};
+ghost use Rattle.rd_state.specs.EditingView.{Reaches, GivesUp};
 ghost use Rattle.rd_state.specs.Sizes.{IsDeadline};
 ghost use Rattle.rd_state.specs.Snapshot.{numbers_of, task_at};
 ghost use Rattle.rd_state.specs.Valid.{is_ahead, times_to_run};

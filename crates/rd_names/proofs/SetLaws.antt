@@ -43,8 +43,8 @@ pub left_out : (names : List (List ℕ)) (text : List ℕ) → is_name text ≡ 
 left_out names text none = rw none refl
 
 -- names stay names, no two of which are equal
-pub with_name-kept : (names : List (List ℕ)) (text : List ℕ) → AreDistinctNames names → AreDistinctNames (with_name names text)
-with_name-kept names text are = by (is_name text) (list_any (bytes_eq text) names) refl refl
+pub with_name-distinct : (names : List (List ℕ)) (text : List ℕ) → AreDistinctNames names → AreDistinctNames (with_name names text)
+with_name-distinct names text are = by (is_name text) (list_any (bytes_eq text) names) refl refl
   where
     by : (n b : Bool) → is_name text ≡ n → list_any (bytes_eq text) names ≡ b → AreDistinctNames (with_name names text)
     by false b none e = rw none are

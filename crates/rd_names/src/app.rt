@@ -103,7 +103,7 @@ impl App {
         ensures { IsApp self.now }
     {
         self.program.limits();
-        self.names.keeps();
+        self.names.by_invariant();
     }
 
     /// The profile.

@@ -51,7 +51,7 @@ impl NameSet {
 
     /// For contracts alone: what holds of every set: its texts are names, no two of which are
     /// equal.
-    pub fn keeps(&self)
+    pub fn by_invariant(&self)
         ensures { AreDistinctNames self.now }
     {
         let _ = &self.ordered;
@@ -98,7 +98,7 @@ impl NameSet {
     pub fn copy(&self, alloc: Global) -> Result<NameSet, AllocError>
         ensures { IfOk result (λ copy. copy ≡ self.now) }
     {
-        self.keeps();
+        self.by_invariant();
         NameSet::new(alloc, self.texts(alloc)?.as_slice())
     }
 }

@@ -114,15 +114,15 @@ impl Names {
     }
 
     /// What holds of all names: in each kind they are names, no two of which are equal.
-    pub fn keeps(&self)
+    pub fn by_invariant(&self)
         ensures { AreNames self.now }
     {
-        self.queues.keeps();
-        self.queue_sets.keeps();
-        self.streams.keeps();
-        self.messages.keeps();
-        self.groups.keeps();
-        self.tasks.keeps();
+        self.queues.by_invariant();
+        self.queue_sets.by_invariant();
+        self.streams.by_invariant();
+        self.messages.by_invariant();
+        self.groups.by_invariant();
+        self.tasks.by_invariant();
     }
 
     /// How many things of each kind have names.

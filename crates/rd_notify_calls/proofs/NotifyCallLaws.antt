@@ -12,7 +12,7 @@ use Rattle.rd_app.specs.declared.instr.Operand.{Operand}
 use Rattle.rd_kernel.proofs.Offered.{IsConsistent, IsConsistent-returned, IsConsistent-returned_alone, IsConsistent-told, IsConsistent-valid}
 use Rattle.rd_kernel.proofs.Offered.{IsConsistent-waiting_for_entry, IsConsistent-with_entry, IsConsistent-with_values, IsFree, RunsInstr, StaysThere}
 use Rattle.rd_kernel.proofs.Offered.{StaysThere-told, StaysThere-with_entry, all_have_time_left, free_in_call, free_in_run, free_of_entry, true_if_one}
-use Rattle.rd_kernel.proofs.Offered.{none_is_some, read_kept, runner_waits_nowhere, task_now, told-tick}
+use Rattle.rd_kernel.proofs.Offered.{none_is_some, read_same, runner_waits_nowhere, task_now, told-tick}
 use Rattle.rd_kernel.specs.Outcomes.{Called, call_fails, call_gives, call_passes, call_returns, concluded}
 use Rattle.rd_kernel.specs.Tasks.{HasEntry, entry_at, with_entry, with_register}
 use Rattle.rd_kernel.specs.Telling.{if_waiting_for, notified, told, waits_for_entry, waits_once}
@@ -61,12 +61,12 @@ gives_there app s p core task value second instr calls none stays at =
     let registers = set (task_at p task).registers 1 second in
     let x = record (task_at p task) { registers = registers } in
     let now = task_now p task x there in
-    let kept : StaysThere s (with_register p task 1 second) task = record {
+    let still_there : StaysThere s (with_register p task 1 second) task = record {
       same_length = length-set p.tasks task x ∙ stays.same_length;
       pc = ap (λ (t : TaskSnapshot). t.pc) now ∙ stays.pc;
       phase = ap (λ (t : TaskSnapshot). t.phase) now ∙ stays.phase;
     } in
-    returns_there app s (with_register p task 1 second) core task value instr calls none kept
+    returns_there app s (with_register p task 1 second) core task value instr calls none still_there
     (IsConsistent-with_values app (all_have_time_left s.tick) p task registers (task_at p task).bytes there at)
 
 -- ---- those who are notified
@@ -131,8 +131,8 @@ IsNotified-with_entry app s core task target index entry instr calls has not_new
           (λ is. still ((at.each target has.0).entries.while_waiting index is)) at;
       stays = record {
         same_length = length-set s.tasks target x;
-        pc = read_kept (λ (t : TaskSnapshot). t.pc) s.tasks target task x no_task has.0 refl;
-        phase = read_kept (λ (t : TaskSnapshot). t.phase) s.tasks target task x no_task has.0 refl;
+        pc = read_same (λ (t : TaskSnapshot). t.pc) s.tasks target task x no_task has.0 refl;
+        phase = read_same (λ (t : TaskSnapshot). t.phase) s.tasks target task x no_task has.0 refl;
       };
     }
 

@@ -5,12 +5,12 @@ ghost use Rattle.std.specs.Prelude.{IsOk, IsSome, OnErr, OnOk};
 ghost use Rattle.rd_app.specs.Application.{IsNotifyCall, IsOperand, priorities_of};
 ghost use Rattle.rd_notify.specs.Entries.{entry_cleared, entry_taken, has_received, is_left_alone};
 ghost use Rattle.rd_notify.specs.declared.entries.TheConstants.{MAX_ENTRIES};
-ghost use Rattle.rd_state.specs.Edit.{GivesUp, Reaches};
+ghost use Rattle.rd_state.specs.EditingView.{GivesUp, Reaches};
 ghost use Rattle.rd_state.specs.Phases.{waits_at};
 ghost use Rattle.rd_state.specs.Snapshot.{task_at};
 ghost use Rattle.rd_kernel.specs.Costs.{telling_cost};
 ghost use Rattle.rd_kernel.specs.Outcomes.{DoesCall, IsCalling};
-ghost use Rattle.rd_kernel.specs.Tasks.{entry_at, HasEntry, KeepsPc};
+ghost use Rattle.rd_kernel.specs.Tasks.{entry_at, HasEntry, PcStays};
 ghost use Rattle.rd_kernel.specs.Telling.{notified, waits_once};
 ghost use Rattle.rd_kernel.specs.Waking.{ReadyHasRoom};
 ghost use Rattle.rd_notify_calls.specs.NotifyCalls.{answer_to, clear_state_outcome};
@@ -60,7 +60,7 @@ pub fn notify(
         answer ≡ answer_to action (entry_at editing.old.now target index).state) }
     ensures left_alone { is_left_alone action (entry_at editing.old.now target index).state ≡ true
         → IsOk result }
-    ensures stays { OnOk result ((task : ℕ) → KeepsPc editing.old.now editing.new.now task) }
+    ensures stays { OnOk result ((task : ℕ) → PcStays editing.old.now editing.new.now task) }
     ensures err { OnErr result (GivesUp editing.old editing.new telling_cost) }
 {
     let entry = entry_of(editing, target, index);
@@ -89,7 +89,7 @@ fn take(
         && waits_once editing.old.now task wait) ≡ false
         → entry_taken exit (entry_at editing.old.now task index)
         ≡ entry_at editing.old.now task index → IsOk result }
-    ensures stays { OnOk result (KeepsPc editing.old.now editing.new.now task) }
+    ensures stays { OnOk result (PcStays editing.old.now editing.new.now task) }
     ensures err { OnErr result (GivesUp editing.old editing.new 1) }
 {
     let entry = entry_of(editing, task, index);
@@ -127,7 +127,7 @@ fn close_entry(
     requires value { entry.value < 2 ^ 32 }
     ensures ok { IfOk result (DoesCall editing.old editing.new
         (entry_closed editing.old.now task index entry bits) 1) }
-    ensures stays { OnOk result (KeepsPc editing.old.now editing.new.now task) }
+    ensures stays { OnOk result (PcStays editing.old.now editing.new.now task) }
     ensures err { OnErr result (GivesUp editing.old editing.new 1) }
 {
     let second = entry.value;
@@ -155,7 +155,7 @@ fn wait_notified(
     requires register { IsOperand wait }
     ensures ok { IfOk result (DoesCall editing.old editing.new
         (notify_wait_outcome editing.old.now task index entry_bits exit_bits wait) 1) }
-    ensures stays { OnOk result (KeepsPc editing.old.now editing.new.now task) }
+    ensures stays { OnOk result (PcStays editing.old.now editing.new.now task) }
     ensures err { OnErr result (GivesUp editing.old editing.new 1) }
 {
     let has_received = entry_of(editing, task, index).state == EntryState::Received;
@@ -180,7 +180,7 @@ fn clear_state(
         (clear_state_outcome editing.old.now target index) 1) }
     ensures nothing { has_received (entry_at editing.old.now target index).state ≡ false
         → IsOk result }
-    ensures stays { OnOk result (KeepsPc editing.old.now editing.new.now task) }
+    ensures stays { OnOk result (PcStays editing.old.now editing.new.now task) }
     ensures err { OnErr result (GivesUp editing.old editing.new 1) }
 {
     let _ = task;
@@ -205,7 +205,7 @@ fn clear_value(
         (clear_value_outcome editing.old.now target index bits) 1) }
     ensures nothing { entry_cleared bits (entry_at editing.old.now target index)
         ≡ entry_at editing.old.now target index → IsOk result }
-    ensures stays { OnOk result (KeepsPc editing.old.now editing.new.now task) }
+    ensures stays { OnOk result (PcStays editing.old.now editing.new.now task) }
     ensures err { OnErr result (GivesUp editing.old editing.new 1) }
 {
     let _ = task;
@@ -228,7 +228,7 @@ pub fn call_notify(
         (notify_call_outcome (priorities_of app.now) editing.old.now task call)
         (notify_call_cost call)) }
     ensures nothing { NotifyCallChangesNothing editing.old.now task call → IsOk result }
-    ensures stays { OnOk result (KeepsPc editing.old.now editing.new.now task) }
+    ensures stays { OnOk result (PcStays editing.old.now editing.new.now task) }
     ensures err { OnErr result (GivesUp editing.old editing.new (notify_call_cost call)) }
 {
     app.limits();

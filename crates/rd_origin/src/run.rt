@@ -70,7 +70,7 @@ impl Run {
             timeline.close();
             return Err(cause);
         }
-        timeline.keeps();
+        timeline.by_invariant();
         let places = timeline.at();
         Ok(Run { timeline, places })
     }
@@ -80,7 +80,7 @@ impl Run {
         ensures places { result ≡ length self.now.moves }
         ensures first { self.now.first ≤ result }
     {
-        self.timeline.keeps();
+        self.timeline.by_invariant();
         self.places
     }
 
@@ -89,7 +89,7 @@ impl Run {
     pub fn first(&self) -> usize
         ensures { result ≡ self.now.first }
     {
-        self.timeline.keeps();
+        self.timeline.by_invariant();
         self.timeline.at() - self.timeline.kept()
     }
 
@@ -97,7 +97,7 @@ impl Run {
     pub fn state(&self) -> &State
         ensures { IsStateAfter self.now.app (take self.now.at self.now.moves) result.now }
     {
-        self.timeline.keeps();
+        self.timeline.by_invariant();
         self.timeline.target()
     }
 
@@ -107,7 +107,7 @@ impl Run {
         requires back { place ≤ self.old.at }
         ensures { self.new ≡ record self.old { at = place } }
     {
-        self.timeline.keeps();
+        self.timeline.by_invariant();
         let at = self.timeline.at();
         self.timeline.back(at - place).unwrap();
     }
@@ -119,7 +119,7 @@ impl Run {
         ensures ok { OnOk result (self.new ≡ record self.old { at = place }) }
         ensures err { OnErr result (self.new ≡ self.old) }
     {
-        self.timeline.keeps();
+        self.timeline.by_invariant();
         let at = self.timeline.at();
         match self.timeline.redo(place - at) {
             Ok(_) => Ok(()),

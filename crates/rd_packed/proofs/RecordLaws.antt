@@ -164,7 +164,7 @@ front_is front last =
     ap (λ k. take k (front ++ last ∷ [])) e ∙ take-append_seam front (last ∷ [])
 
 -- What going back by the last record reads, and what it leaves.
-pub record Plan (n : ℕ) (bytes : List ℕ) (records : List (List Change)) (end size : ℕ) : Type 0 where
+pub record LastRecordRead (n : ℕ) (bytes : List ℕ) (records : List (List Change)) (end size : ℕ) : Type 0 where
   pub whole : take end bytes ≡ bytes
   pub ends : EndsInRecord bytes
   pub rest : AreRecords (n - 1) (before_record bytes)
@@ -175,9 +175,9 @@ pub record Plan (n : ℕ) (bytes : List ℕ) (records : List (List Change)) (end
   pub last : last_of_all records ≡ last_record bytes
   pub front : take (length records - 1) records ≡ records_in (n - 1) (before_record bytes)
 
-pub plan : (n : ℕ) (bytes : List ℕ) (records : List (List Change)) (end size : ℕ) → records_in n bytes ≡ records → 0 < length records
-    → AreRecords n bytes → end ≡ length bytes → size ≡ body_size (take end bytes) → Plan n bytes records end size
-plan n bytes records end size view some are all at_end =
+pub last_record_read : (n : ℕ) (bytes : List ℕ) (records : List (List Change)) (end size : ℕ) → records_in n bytes ≡ records → 0 < length records
+    → AreRecords n bytes → end ≡ length bytes → size ≡ body_size (take end bytes) → LastRecordRead n bytes records end size
+last_record_read n bytes records end size view some are all at_end =
     let whole : take end bytes ≡ bytes = take_all end bytes (omega arith) in
     let is : size ≡ body_size bytes = at_end ∙ ap body_size whole in
     let peel : PeeledRecord n bytes = peeled_record n bytes (omega (arith, some, length-records_in n bytes, ap length view)) are in

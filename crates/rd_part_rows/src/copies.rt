@@ -13,7 +13,7 @@ use std::test::Fail;
 // A run: its name, the application, and which cores move, in order, up to the last state of the
 // worked run of that name.
 #[derive(Clone, Copy)]
-struct Run {
+struct WorkedRun {
     name: &'static str,
     app: &'static str,
     cores: &'static [usize],
@@ -27,8 +27,8 @@ const FOREIGN_NOTIFICATION: &str = concat!(
     r#""swrite b0 0","end"]}]}"#,
 );
 
-const RUNS: [Run; 11] = [
-    Run {
+const RUNS: [WorkedRun; 11] = [
+    WorkedRun {
         name: "undo_to_boot",
         app: concat!(
             r#"{"profile":1,"cores":1,"queues":[{"name":"q0","length":2,"item":1}],"#,
@@ -37,7 +37,7 @@ const RUNS: [Run; 11] = [
         ),
         cores: &[0, 0, 0, 0],
     },
-    Run {
+    WorkedRun {
         name: "overwrite_in_a_set",
         app: concat!(
             r#"{"profile":1,"cores":1,"queues":[{"name":"q0","length":1,"item":1}],"#,
@@ -47,7 +47,7 @@ const RUNS: [Run; 11] = [
         ),
         cores: &[0, 0, 0, 0, 0, 0, 0],
     },
-    Run {
+    WorkedRun {
         name: "full_set",
         app: concat!(
             r#"{"profile":1,"cores":1,"queues":[{"name":"q0","length":2,"item":1}],"#,
@@ -56,17 +56,17 @@ const RUNS: [Run; 11] = [
         ),
         cores: &[0, 0],
     },
-    Run {
+    WorkedRun {
         name: "foreign_notification_ends_a_read",
         app: FOREIGN_NOTIFICATION,
         cores: &[0, 1, 1, 1, 0],
     },
-    Run {
+    WorkedRun {
         name: "foreign_notification_ends_a_read, where it runs before the write",
         app: FOREIGN_NOTIFICATION,
         cores: &[0, 1, 0],
     },
-    Run {
+    WorkedRun {
         name: "trigger_level",
         app: concat!(
             r#"{"profile":1,"cores":1,"streams":[{"name":"b0","size":8,"trigger":4}],"#,
@@ -76,7 +76,7 @@ const RUNS: [Run; 11] = [
         ),
         cores: &[0, 0, 0, 0, 0, 0],
     },
-    Run {
+    WorkedRun {
         name: "message_too_long_for_its_reader",
         app: concat!(
             r#"{"profile":1,"cores":1,"messages":[{"name":"m0","size":10}],"#,
@@ -86,7 +86,7 @@ const RUNS: [Run; 11] = [
         ),
         cores: &[0, 0, 0, 0, 0, 0],
     },
-    Run {
+    WorkedRun {
         name: "one_set_wakes_two",
         app: concat!(
             r#"{"profile":1,"cores":3,"groups":[{"name":"g0"}],"#,
@@ -96,7 +96,7 @@ const RUNS: [Run; 11] = [
         ),
         cores: &[0, 1, 2],
     },
-    Run {
+    WorkedRun {
         name: "one_set_wakes_fifteen_on_sixteen_cores",
         app: concat!(
             r#"{"profile":2,"cores":16,"groups":[{"name":"g0"}],"tasks":["#,
@@ -119,7 +119,7 @@ const RUNS: [Run; 11] = [
         ),
         cores: &[0, 1, 2, 3, 4, 5, 6, 7, 8, 9, 10, 11, 12, 13, 14, 15],
     },
-    Run {
+    WorkedRun {
         name: "set_without_overwrite",
         app: concat!(
             r#"{"profile":1,"cores":1,"tasks":[{"name":"t0","priority":1,"#,
@@ -128,7 +128,7 @@ const RUNS: [Run; 11] = [
         ),
         cores: &[0, 0, 0, 0],
     },
-    Run {
+    WorkedRun {
         name: "take_counts_down",
         app: concat!(
             r#"{"profile":1,"cores":1,"tasks":[{"name":"t0","priority":1,"#,
@@ -153,7 +153,7 @@ fn compares_states(
     rt: &impl Abort,
     alloc: Global,
     timeline: &mut Timeline,
-    run: Run,
+    run: WorkedRun,
 ) -> Result<(), Fail> {
     let boot = copy_of(rt, alloc, timeline)?;
     let mut before = timeline.target().copy(alloc)?;

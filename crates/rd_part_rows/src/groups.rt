@@ -2,7 +2,7 @@
 //! tasks wait at one.
 
 ghost use Rattle.std.specs.Prelude.{◌<◌, length, OnOk};
-ghost use Rattle.rd_state.specs.Edit.{SameShape};
+ghost use Rattle.rd_state.specs.EditingView.{SameShape};
 
 use crate::asserts::assert_same;
 use crate::files::read;

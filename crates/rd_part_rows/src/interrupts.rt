@@ -17,7 +17,7 @@ use std::process::Abort;
 use std::test::Fail;
 
 // Whether all went well.
-type Passed = Result<(), Fail>;
+type CheckResult = Result<(), Fail>;
 
 // An item is longer than a byte; the set has room for one handle, its member for two items.
 const ONE_TASK: &str = concat!(
@@ -148,7 +148,7 @@ fn answers(rt: HostRuntime) -> Result<(), Fail> {
 
 // In profile 1 each is refused, and leaves the moves undone. Where the moves done are at their
 // limit, that comes first.
-fn refuses_in_profile_1(rt: &impl Abort, alloc: Global, timeline: &mut Timeline) -> Passed {
+fn refuses_in_profile_1(rt: &impl Abort, alloc: Global, timeline: &mut Timeline) -> CheckResult {
     let boot = timeline.target().copy(alloc)?;
     send(rt, timeline, 0, &[1], Err(Refusal::NoIsr));
     notify(rt, timeline, 1, Action::Increment, Err(Refusal::NoIsr));
@@ -174,7 +174,7 @@ fn none_in_profile_1(rt: HostRuntime) -> Result<(), Fail> {
 }
 
 // The limit comes before what the interrupt would do or answer.
-fn refuses_at_the_limit(rt: &impl Abort, alloc: Global, timeline: &mut Timeline) -> Passed {
+fn refuses_at_the_limit(rt: &impl Abort, alloc: Global, timeline: &mut Timeline) -> CheckResult {
     send(rt, timeline, 0, &[1], Ok(1));
     let full = timeline.target().copy(alloc)?;
     send(rt, timeline, 0, &[1], Err(Refusal::MovesFull));
@@ -294,7 +294,7 @@ fn assert_state(rt: &impl Abort, timeline: &Timeline, state: &State) {
 
 // An interrupt in the middle of moves: each way it leads to the same states, of which no two are
 // the same. One that answers 0 leads from a state to the same.
-fn goes_both_ways(rt: &impl Abort, alloc: Global, timeline: &mut Timeline) -> Passed {
+fn goes_both_ways(rt: &impl Abort, alloc: Global, timeline: &mut Timeline) -> CheckResult {
     let boot = timeline.target().copy(alloc)?;
     step(rt, timeline, 1);
     let waiting = timeline.target().copy(alloc)?;

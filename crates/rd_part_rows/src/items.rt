@@ -7,7 +7,7 @@ use rd_queue::queue::{Empty, Full, Queue};
 use std::process::Abort;
 use std::test::Fail;
 
-// There is room for the item. (What becomes of the queue is seen by what it shows.)
+// There is space for the item. (What becomes of the queue is seen by what it shows.)
 fn put_back(rt: &impl Abort, queue: &mut Queue, item: &[u8])
     requires { length item.now ≡ queue.old.item_size }
     ensures { queue.new.item_size ≡ queue.old.item_size }
@@ -44,7 +44,7 @@ fn peeks(rt: HostRuntime) -> Result<(), Fail> {
     Ok(())
 }
 
-// A queue with room gets an item before the others, and a full one refuses and stays as it was.
+// A queue with space gets an item before the others, and a full one refuses and stays as it was.
 #[test]
 fn puts_at_the_front(rt: HostRuntime) -> Result<(), Fail> {
     let alloc = rt.alloc();

@@ -8,7 +8,7 @@
 //! 31, with 64 rounds of one item each, whose first bytes are 0, 1, 2, 3, 0 and so on, and sees by
 //! an answer of 0 that they are full: after 16 times its 134 instructions, and 133 more. Then it
 //! takes handles. Each other task waits for a handle of set 30, for one tick, counts queue 31, and
-//! waits for room in it.
+//! waits for space in it.
 
 use crate::asserts::assert_same;
 use crate::files::read;
@@ -20,8 +20,8 @@ use std::fmt::Write;
 use std::process::Abort;
 use std::test::Fail;
 
-// Whether all went well.
-type Passed = Result<(), Fail>;
+// Whether all went well within the limits.
+type Within = Result<(), Fail>;
 
 // So many moves of core 7 fill the queues.
 const FILLING: usize = 2277;
@@ -163,7 +163,7 @@ fn copy_of(rt: &impl Abort, alloc: Global, timeline: &Timeline) -> Result<State,
 
 // The states are the same once the moves between them are taken back, and not before: a handle
 // taken, and r0 as it was, is the only difference.
-fn compares_full_queue_sets(rt: &impl Abort, alloc: Global, timeline: &mut Timeline) -> Passed {
+fn compares_full_queue_sets(rt: &impl Abort, alloc: Global, timeline: &mut Timeline) -> Within {
     let full = copy_of(rt, alloc, timeline)?;
     go(rt, timeline, &[7, 7, 7]);
     assert!(rt; !full.same(timeline.target()));
@@ -175,15 +175,15 @@ fn compares_full_queue_sets(rt: &impl Abort, alloc: Global, timeline: &mut Timel
 }
 
 // Makes the moves of these cores, and copies what they leave.
-fn go_and_copy(rt: &impl Abort, alloc: Global, timeline: &mut Timeline, cores: &[usize]) -> Passed {
+fn go_and_copy(rt: &impl Abort, alloc: Global, timeline: &mut Timeline, cores: &[usize]) -> Within {
     go(rt, timeline, cores);
     copy_of(rt, alloc, timeline)?;
     Ok(())
 }
 
 // All moves: the others wait, the queues fill, handles are taken and put back, and after the last
-// tick the others wait for room.
-fn make_all_moves(rt: &impl Abort, alloc: Global, timeline: &mut Timeline) -> Passed {
+// tick the others wait for space.
+fn make_all_moves(rt: &impl Abort, alloc: Global, timeline: &mut Timeline) -> Within {
     let cores = timeline.app().cores();
     go_and_copy(rt, alloc, timeline, all_wait(alloc, cores, 2)?.as_slice())?;
     go(rt, timeline, vec![in alloc; 7; FILLING]?.as_slice());
@@ -193,7 +193,7 @@ fn make_all_moves(rt: &impl Abort, alloc: Global, timeline: &mut Timeline) -> Pa
     go_and_copy(rt, alloc, timeline, all_wait(alloc, cores, 4)?.as_slice())
 }
 
-fn compares_states(rt: &impl Abort, alloc: Global, timeline: &mut Timeline) -> Passed {
+fn compares_states(rt: &impl Abort, alloc: Global, timeline: &mut Timeline) -> Within {
     let boot = State::boot(alloc, timeline.app())?;
     assert!(rt; timeline.target().same(&boot));
     let boot = copy_of(rt, alloc, timeline)?;

@@ -100,7 +100,7 @@ fn is_kept(alloc: Global, app: &Program, state: &mut State, log: &mut Packed) ->
 
 // With ample memory it is.
 fn keeps_a_record(rt: &impl Abort, alloc: Global, timeline: &Timeline) -> Result<(), Fail> {
-    timeline.keeps();
+    timeline.by_invariant();
     let app = timeline.app();
     assert!(rt; app.cores() > 0);
     let mut state = timeline.target().copy(alloc)?;

@@ -124,7 +124,7 @@ fn weighs_on_sixteen(rt: &impl Abort, alloc: Global, app: &Program, state: &mut 
 
 // The moves are played on a copy of the target, and the timeline keeps none of them.
 fn weighs_moves(rt: &impl Abort, alloc: Global, timeline: &Timeline) -> Passed {
-    timeline.keeps();
+    timeline.by_invariant();
     let app = timeline.app();
     assert!(rt; app.cores() == 1);
     let mut state = timeline.target().copy(alloc)?;
@@ -136,7 +136,7 @@ fn weighs_moves(rt: &impl Abort, alloc: Global, timeline: &Timeline) -> Passed {
 
 // The same on sixteen cores.
 fn weighs_moves_on_sixteen(rt: &impl Abort, alloc: Global, timeline: &Timeline) -> Passed {
-    timeline.keeps();
+    timeline.by_invariant();
     let app = timeline.app();
     assert!(rt; app.cores() == 16);
     let mut state = timeline.target().copy(alloc)?;
@@ -251,7 +251,7 @@ fn weighs_interrupts(rt: &impl Abort, alloc: Global, app: &Program, state: &mut 
 
 // The moves are played on a copy of the target.
 fn weighs_moves_and_interrupts(rt: &impl Abort, alloc: Global, timeline: &Timeline) -> Passed {
-    timeline.keeps();
+    timeline.by_invariant();
     let app = timeline.app();
     assert!(rt; app.cores() == 1);
     assert!(rt; 0 < app.objects().queues().len());

@@ -30,14 +30,14 @@ abbrev pub operand_of : List ℕ → List ℕ
 operand_of text = trim (after_first is_blank text)
 
 -- the number, if it is one of these
-abbrev pub kept_within : ℕ → ℕ → Option ℕ → Option ℕ
-kept_within least most None = None
-kept_within least most (Some number) =
+abbrev pub if_within : ℕ → ℕ → Option ℕ → Option ℕ
+if_within least most None = None
+if_within least most (Some number) =
     if nat_le least number && nat_le number most then Some number else None
 
 -- the number that the word writes, if it is one of these
 abbrev pub number_within : ℕ → ℕ → List ℕ → Option ℕ
-number_within least most word = kept_within least most (number_of word)
+number_within least most word = if_within least most (number_of word)
 
 -- The word writes the pace, or there is none and the word says so.
 abbrev pub IsPaceSaid : List ℕ → Pace → Type 0

@@ -7,7 +7,7 @@ ghost use Rattle.rd_question.specs.Said.{IsLineWithinLimits};
 use crate::engine::Engine;
 use crate::engine_line::{EngineLine, line_of};
 use crate::fault::ReachFault;
-use crate::input::{Heard, Input};
+use crate::input::{HeardInput, Input};
 use crate::options::Question;
 use std::alloc::AllocGlobal;
 use std::io::{BufWriter, Read, Write};
@@ -91,14 +91,17 @@ fn reply<H: Files + AllocGlobal, W: Write, E: Write>(
 }
 
 // What was heard, as a line, or why it is none. (Behind the end there is nothing to do.)
-fn said_by<'a, R: Read>(input: &'a Input<'_, R>, heard: Heard) -> Result<EngineLine<'a>, ReachFault>
+fn said_by<'a, R: Read>(
+    input: &'a Input<'_, R>,
+    heard: HeardInput,
+) -> Result<EngineLine<'a>, ReachFault>
     ensures { IfOk result IsLineWithinLimits }
 {
     match heard {
-        Heard::Line => line_heard(input),
-        Heard::TooLong => Err(ReachFault::LongLine),
-        Heard::NoMemory => Err(ReachFault::NoMemory),
-        Heard::End => Ok(EngineLine::Quit),
+        HeardInput::Line => line_heard(input),
+        HeardInput::TooLong => Err(ReachFault::LongLine),
+        HeardInput::NoMemory => Err(ReachFault::NoMemory),
+        HeardInput::End => Ok(EngineLine::Quit),
     }
 }
 
@@ -112,7 +115,7 @@ fn reply_next<H: Files + AllocGlobal, R: Read, W: Write, E: Write>(
     errors: &mut E,
 ) -> Result<bool, ReachFault> {
     let heard = input.hear()?;
-    if matches!(heard, Heard::End) {
+    if matches!(heard, HeardInput::End) {
         return Ok(false);
     }
     let said = said_by(input, heard);

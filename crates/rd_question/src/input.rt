@@ -10,7 +10,7 @@ pub(crate) const MAX_LINE: usize = 1_000_000;
 
 /// What was heard.
 #[derive(Clone, Copy)]
-pub(crate) enum Heard {
+pub(crate) enum HeardInput {
     /// A line.
     Line,
     /// The beginning of a line that is too long. The rest of it is passed over.
@@ -36,18 +36,18 @@ fn read_line<B: BufRead>(reader: &mut B, line: &mut Vec<u8>) -> io::Result<usize
 }
 
 // What was heard, by the bytes that were read: a line without its LF, unless it is too long.
-fn heard_in(line: &mut Vec<u8>) -> Heard {
+fn heard_in(line: &mut Vec<u8>) -> HeardInput {
     if line.last() == Some(&b'\n') {
         line.pop();
-        return Heard::Line;
+        return HeardInput::Line;
     }
     if line.len() > MAX_LINE {
-        return Heard::TooLong;
+        return HeardInput::TooLong;
     }
     if line.is_empty() {
-        Heard::End
+        HeardInput::End
     } else {
-        Heard::Line
+        HeardInput::Line
     }
 }
 
@@ -74,19 +74,19 @@ impl<'a, R: Read> Input<'a, R> {
     }
 
     /// Hears the next line. The last one needs no LF. `Unread` where the input can't be read.
-    pub(crate) fn hear(&mut self) -> Result<Heard, ReachFault> {
+    pub(crate) fn hear(&mut self) -> Result<HeardInput, ReachFault> {
         if self.pass_rest().is_err() {
             return Err(ReachFault::Unread);
         }
         self.line.clear();
         let heard = match read_line(&mut self.reader, &mut self.line) {
             Ok(_) => heard_in(&mut self.line),
-            Err(error) if error.kind() == ErrorKind::OutOfMemory => Heard::NoMemory,
+            Err(error) if error.kind() == ErrorKind::OutOfMemory => HeardInput::NoMemory,
             Err(_) => return Err(ReachFault::Unread),
         };
         self.is_amid = match heard {
-            Heard::TooLong | Heard::NoMemory => true,
-            Heard::Line | Heard::End => false,
+            HeardInput::TooLong | HeardInput::NoMemory => true,
+            HeardInput::Line | HeardInput::End => false,
         };
         Ok(heard)
     }

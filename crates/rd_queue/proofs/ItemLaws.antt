@@ -130,13 +130,13 @@ items_in-parts size count more front item back some whole is back_whole =
     ∙ ap (λ (items : List (List ℕ)). items_in size front ++ items) (items_in-push_front size more item back some is back_whole)
 
 -- The bytes before an item, its own, and those behind it: so many items are before it, and `more` behind it.
-record Parts (size at count more : ℕ) (bytes : List ℕ) : Type 0 where
+record ItemParts (size at count more : ℕ) (bytes : List ℕ) : Type 0 where
   front : length (take at bytes) ≡ count * size
   item : length (take size (drop at bytes)) ≡ size
   back : length (drop (at + size) bytes) ≡ more * size
   joined : take at bytes ++ (take size (drop at bytes) ++ drop (at + size) bytes) ≡ bytes
 
-parts_at : (size at count more : ℕ) (bytes : List ℕ) → at ≡ count * size → length bytes ≡ (count + suc more) * size → Parts size at count more bytes
+parts_at : (size at count more : ℕ) (bytes : List ℕ) → at ≡ count * size → length bytes ≡ (count + suc more) * size → ItemParts size at count more bytes
 parts_at size at count more bytes is whole = record {
   front = length-take-le at bytes (omega (arith, is, whole)) ∙ is;
   item = length-take-le size (drop at bytes) (omega (arith, length-drop at bytes, is, whole));

@@ -32,13 +32,13 @@ is_item ring capacity size index holds there =
 whole_item : (size : ℕ) → size % size ≡ 0
 whole_item size = ap (λ n. n % size) (omega arith) ∙ mul-mod_left 1 size
 
--- there is room for items that are put at the back, or for one at the front
+-- there is space for items that are put at the back, or for one at the front
 pub held_back : (ring : RingView) (capacity size more : ℕ) (bytes : List ℕ) → HoldsItems ring capacity size → length bytes ≡ more * size
     → length (items_in size ring.bytes) + more ≤ capacity
     → (length ring.bytes + length bytes ≤ ring.capacity) × HoldsItems (with_back ring bytes) capacity size
-held_back ring capacity size more bytes holds whole room =
+held_back ring capacity size more bytes holds whole space =
     let count = count_in size ring.bytes in
-    let fits : count + more ≤ capacity = omega (arith, room, length-items_in size ring.bytes) in (
+    let fits : count + more ≤ capacity = omega (arith, space, length-items_in size ring.bytes) in (
       omega (arith, mul-le-mul_right size fits, holds.whole, whole, holds.reserved),
       held (with_back ring bytes) capacity size (count + more) ((whole_pieces_stay_whole size).changed ring (ring.bytes ++ bytes) holds.pieces) holds.reserved
           (whole-append size count more ring.bytes bytes holds.whole whole) fits,
@@ -47,9 +47,9 @@ held_back ring capacity size more bytes holds whole room =
 pub held_front : (ring : RingView) (capacity size : ℕ) (item : List ℕ) → HoldsItems ring capacity size → length item ≡ size
     → length (items_in size ring.bytes) < capacity
     → (length ring.bytes + length item ≤ ring.capacity) × HoldsItems (with_front ring item) capacity size
-held_front ring capacity size item holds is room =
+held_front ring capacity size item holds is space =
     let count = count_in size ring.bytes in
-    let fits : 1 + count ≤ capacity = omega (arith, room, length-items_in size ring.bytes) in (
+    let fits : 1 + count ≤ capacity = omega (arith, space, length-items_in size ring.bytes) in (
       omega (arith, mul-le-mul_right size fits, holds.whole, is, holds.reserved),
       held (with_front ring item) capacity size (1 + count)
           ((whole_pieces_stay_whole size).put_front ring item holds.pieces (ap (λ n. n % size) is ∙ whole_item size)) holds.reserved

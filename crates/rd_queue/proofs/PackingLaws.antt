@@ -6,7 +6,7 @@ use Rattle.std.specs.List.{concat}
 use Rattle.std.specs.Prelude.{slice_index}
 use Rattle.rd_bytes.proofs.Offered.{number_again, ComesBack, laid_read}
 use Rattle.rd_bytes.specs.Ends.{byte_of_number}
-use Rattle.rd_bytes.specs.Layouts.{HasRoom, EachRowIsReadBack}
+use Rattle.rd_bytes.specs.Layouts.{FitsLayout, EachRowIsReadBack}
 use Rattle.rd_bytes.specs.Tags as tags
 use Rattle.rd_bytes.specs.declared.tag.TheConstants.{OF_QUEUE}
 use Rattle.rd_queue.specs.declared.waiting_list.WaitingList.{WaitingList}
@@ -26,28 +26,28 @@ kind_of_list : (list : WaitingList) → tags.kind_of_list (byte_of_list list) �
 kind_of_list Receiving = refl
 kind_of_list Sending = refl
 
-laid : (queue : ℕ) (change : QueueChange) → HasRoom queue_layout queue change → ComesBack queue_layout queue change
-laid queue (InsWait list index task) room = record {
+laid : (queue : ℕ) (change : QueueChange) → FitsLayout queue_layout queue change → ComesBack queue_layout queue change
+laid queue (InsWait list index task) fits = record {
   again = ap (λ l. (queue, InsWait l index task)) (list_again list);
   count = refl;
   tag = omega arith;
   kind = λ bytes is fields. rw is (ap (λ (f : List ℕ). tags.kind_of_list (slice_index f 0)) fields ∙ kind_of_list list);
 }
-laid queue (DelWait list index) room = record {
+laid queue (DelWait list index) fits = record {
   again = ap (λ l. (queue, DelWait l index)) (list_again list);
   count = refl;
   tag = omega arith;
   kind = λ bytes is fields. rw is (ap (λ (f : List ℕ). tags.kind_of_list (slice_index f 0)) fields ∙ kind_of_list list);
 }
-laid queue (PutBack item) room = record { again = refl; count = refl; tag = omega arith; kind = λ bytes is fields. rw is refl }
-laid queue TakeBack room = record { again = refl; count = refl; tag = omega arith; kind = λ bytes is fields. rw is refl }
-laid queue (PutFront item) room = record { again = refl; count = refl; tag = omega arith; kind = λ bytes is fields. rw is refl }
-laid queue TakeFront room = record { again = refl; count = refl; tag = omega arith; kind = λ bytes is fields. rw is refl }
-laid queue (SetItem index item) room = record { again = refl; count = refl; tag = omega arith; kind = λ bytes is fields. rw is refl }
-laid queue Clear room = record { again = refl; count = refl; tag = omega arith; kind = λ bytes is fields. rw is refl }
-laid queue (Fill bytes) room = record { again = refl; count = refl; tag = omega arith; kind = λ b is fields. rw is refl }
-laid queue (SetMember queue_set) room = record {
-  again = ap (λ s. (queue, SetMember s)) (number_again queue_set room.2);
+laid queue (PutBack item) fits = record { again = refl; count = refl; tag = omega arith; kind = λ bytes is fields. rw is refl }
+laid queue TakeBack fits = record { again = refl; count = refl; tag = omega arith; kind = λ bytes is fields. rw is refl }
+laid queue (PutFront item) fits = record { again = refl; count = refl; tag = omega arith; kind = λ bytes is fields. rw is refl }
+laid queue TakeFront fits = record { again = refl; count = refl; tag = omega arith; kind = λ bytes is fields. rw is refl }
+laid queue (SetItem index item) fits = record { again = refl; count = refl; tag = omega arith; kind = λ bytes is fields. rw is refl }
+laid queue Clear fits = record { again = refl; count = refl; tag = omega arith; kind = λ bytes is fields. rw is refl }
+laid queue (Fill bytes) fits = record { again = refl; count = refl; tag = omega arith; kind = λ b is fields. rw is refl }
+laid queue (SetMember queue_set) fits = record {
+  again = ap (λ s. (queue, SetMember s)) (number_again queue_set fits.2);
   count = refl;
   tag = omega arith;
   kind = λ bytes is fields. rw is refl;
@@ -56,7 +56,7 @@ laid queue (SetMember queue_set) room = record {
 pub queue_change_is_read_back : EachRowIsReadBack queue_layout
 queue_change_is_read_back = laid_read queue_layout laid
 
--- ---- What undoes a change of a queue has room in its bytes, where there are few tasks and few sets.
+-- ---- What undoes a change of a queue fits in its bytes, where there are few tasks and few sets.
 
 -- an index in a list, and the task there
 waits_fit : (task_count : ℕ) (waiting : List ℕ) (index : ℕ) → IsSizedList task_count waiting → index < length waiting → task_count ≤ 255
@@ -88,7 +88,7 @@ number_fits None fits = omega arith
 number_fits (Some n) fits = omega (arith, fits)
 
 pub queue_inverse_has_bytes : (n : ℕ) (queue : QueueSnapshot) (change : QueueChange) → n < 256 → IsSizedQueue queue → QueueFits queue change → queue.task_count ≤ 255
-    → queue.queue_set_count ≤ 255 → HasRoom queue_layout n (queue_inverse_of queue change)
+    → queue.queue_set_count ≤ 255 → FitsLayout queue_layout n (queue_inverse_of queue change)
 queue_inverse_has_bytes n queue (InsWait list index task) small sized fits few few_sets = (small, (list_fits list, (small, (omega (arith, fits.0, fits.1, few), tt))), tt)
 queue_inverse_has_bytes n queue (DelWait Receiving index) small sized fits few few_sets =
     let here = waits_fit queue.task_count queue.receiving index sized.receiving fits few in

@@ -131,7 +131,7 @@ inverse_fits queue Clear sized fits =
     record {
       empty = refl;
       whole = length-concat queue.item_size queue.items sized.items ∙ ap (λ n. n * queue.item_size) (sym count);
-      room = omega (arith, count, sized.room);
+      space = omega (arith, count, sized.room);
     }
 inverse_fits queue (Fill bytes) sized fits = tt
 inverse_fits queue (SetMember queue_set) sized fits = sized.queue_set

@@ -3,7 +3,7 @@ use Rattle.std.proofs.Common.{◌-◌, ℕ, ◌<◌, ◌≤◌, List, length, ge
 use Rattle.std.proofs.lemmas.List.Elements.{All-get_or}
 use Rattle.std.specs.Prelude.{slice_index}
 use Rattle.rd_bytes.proofs.Offered.{ComesBack, laid_read}
-use Rattle.rd_bytes.specs.Layouts.{HasRoom, EachRowIsReadBack}
+use Rattle.rd_bytes.specs.Layouts.{FitsLayout, EachRowIsReadBack}
 use Rattle.rd_bytes.specs.Tags.{kind_of_list}
 use Rattle.rd_queue.specs.declared.queue_set_change.QueueSetChange.{QueueSetChange}
 use Rattle.rd_queue.specs.declared.queue_set_change.QueueSetChange.TheVariants.{InsWait, DelWait, PushHandle, DropHandle, TakeHandle, UntakeHandle}
@@ -12,31 +12,31 @@ use Rattle.rd_queue.specs.QueueSetChanges.{queue_set_inverse_of, QueueSetFits}
 use Rattle.rd_queue.specs.QueueSetSnapshot.{QueueSetSnapshot}
 use Rattle.rd_queue.specs.Sizes.{IsSizedQueueSet}
 
-laid : (queue_set : ℕ) (change : QueueSetChange) → HasRoom queue_set_layout queue_set change → ComesBack queue_set_layout queue_set change
-laid queue_set (InsWait index task) room = record {
+laid : (queue_set : ℕ) (change : QueueSetChange) → FitsLayout queue_set_layout queue_set change → ComesBack queue_set_layout queue_set change
+laid queue_set (InsWait index task) fits = record {
   again = refl;
   count = refl;
   tag = omega arith;
   kind = λ bytes is fields. rw is (ap (λ (f : List ℕ). kind_of_list (slice_index f 0)) fields);
 }
-laid queue_set (DelWait index) room = record {
+laid queue_set (DelWait index) fits = record {
   again = refl;
   count = refl;
   tag = omega arith;
   kind = λ bytes is fields. rw is (ap (λ (f : List ℕ). kind_of_list (slice_index f 0)) fields);
 }
-laid queue_set (PushHandle queue) room = record { again = refl; count = refl; tag = omega arith; kind = λ bytes is fields. rw is refl }
-laid queue_set DropHandle room = record { again = refl; count = refl; tag = omega arith; kind = λ bytes is fields. rw is refl }
-laid queue_set TakeHandle room = record { again = refl; count = refl; tag = omega arith; kind = λ bytes is fields. rw is refl }
-laid queue_set (UntakeHandle queue) room = record { again = refl; count = refl; tag = omega arith; kind = λ bytes is fields. rw is refl }
+laid queue_set (PushHandle queue) fits = record { again = refl; count = refl; tag = omega arith; kind = λ bytes is fields. rw is refl }
+laid queue_set DropHandle fits = record { again = refl; count = refl; tag = omega arith; kind = λ bytes is fields. rw is refl }
+laid queue_set TakeHandle fits = record { again = refl; count = refl; tag = omega arith; kind = λ bytes is fields. rw is refl }
+laid queue_set (UntakeHandle queue) fits = record { again = refl; count = refl; tag = omega arith; kind = λ bytes is fields. rw is refl }
 
 pub queue_set_change_is_read_back : EachRowIsReadBack queue_set_layout
 queue_set_change_is_read_back = laid_read queue_set_layout laid
 
--- What undoes a change of a set has room in its bytes, where there are few tasks and few queues.
+-- What undoes a change of a set fits in its bytes, where there are few tasks and few queues.
 pub queue_set_inverse_has_bytes : (n : ℕ) (queue_set : QueueSetSnapshot) (change : QueueSetChange) → n < 256 → IsSizedQueueSet queue_set
     → QueueSetFits queue_set change → queue_set.task_count ≤ 255 → queue_set.queue_count ≤ 255
-    → HasRoom queue_set_layout n (queue_set_inverse_of queue_set change)
+    → FitsLayout queue_set_layout n (queue_set_inverse_of queue_set change)
 queue_set_inverse_has_bytes n queue_set (InsWait index task) small sized fits few few_queues =
     (small, (omega arith, (small, (omega (arith, fits.0, fits.1, few), tt))), tt)
 queue_set_inverse_has_bytes n queue_set (DelWait index) small sized fits few few_queues =

@@ -80,31 +80,31 @@ put_at Back item = PutBack item
 put_at Front item = PutFront item
 
 -- The queue takes one more item, this one.
-abbrev pub HasRoomFor : QueueSnapshot → List ℕ → Type 0
-HasRoomFor queue item =
+abbrev pub HasSpaceFor : QueueSnapshot → List ℕ → Type 0
+HasSpaceFor queue item =
     (length queue.items < queue.capacity) × (length item ≡ queue.item_size)
 
--- The bytes are whole items, one after the other, and the queue has room for them all.
-pub record HasRoomForAll (queue : QueueSnapshot) (bytes : List ℕ) : Type 0 where
+-- The bytes are whole items, one after the other, and the queue has space for them all.
+pub record HasSpaceForAll (queue : QueueSnapshot) (bytes : List ℕ) : Type 0 where
   pub empty : queue.items ≡ []
   pub whole : length bytes ≡ count_in queue.item_size bytes * queue.item_size
-  pub room : count_in queue.item_size bytes ≤ queue.capacity
+  pub space : count_in queue.item_size bytes ≤ queue.capacity
 
--- The change names what is there, and there is room.
+-- The change names what is there, and there is space.
 abbrev pub QueueFits : QueueSnapshot → QueueChange → Type 0
 QueueFits queue (InsWait list index task) =
     (index ≤ length (tasks_in_list list queue))
     × (length (tasks_in_list list queue) < queue.task_count)
     × (task < queue.task_count)
 QueueFits queue (DelWait list index) = index < length (tasks_in_list list queue)
-QueueFits queue (PutBack item) = HasRoomFor queue item
+QueueFits queue (PutBack item) = HasSpaceFor queue item
 QueueFits queue TakeBack = 0 < length queue.items
-QueueFits queue (PutFront item) = HasRoomFor queue item
+QueueFits queue (PutFront item) = HasSpaceFor queue item
 QueueFits queue TakeFront = 0 < length queue.items
 QueueFits queue (SetItem index item) =
     (index < length queue.items) × (length item ≡ queue.item_size)
 QueueFits queue Clear = Unit {0}
-QueueFits queue (Fill bytes) = HasRoomForAll queue bytes
+QueueFits queue (Fill bytes) = HasSpaceForAll queue bytes
 QueueFits queue (SetMember queue_set) = IfSome queue_set (λ s. s < queue.queue_set_count)
 
 -- the bytes that a change carries

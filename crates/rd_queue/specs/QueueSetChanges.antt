@@ -36,20 +36,20 @@ queue_set_inverse_of queue_set TakeHandle = UntakeHandle (slice_index queue_set.
 queue_set_inverse_of queue_set (UntakeHandle queue) = TakeHandle
 
 -- The set takes one more handle, that of this queue.
-abbrev pub HasRoomForHandle : QueueSetSnapshot → ℕ → Type 0
-HasRoomForHandle queue_set queue =
+abbrev pub HasSpaceForHandle : QueueSetSnapshot → ℕ → Type 0
+HasSpaceForHandle queue_set queue =
     (length queue_set.handles < queue_set.capacity) × (queue < queue_set.queue_count)
 
--- The change names what is there, and there is room.
+-- The change names what is there, and there is space.
 abbrev pub QueueSetFits : QueueSetSnapshot → QueueSetChange → Type 0
 QueueSetFits queue_set (InsWait index task) =
     (index ≤ length queue_set.waiting) × (length queue_set.waiting < queue_set.task_count)
     × (task < queue_set.task_count)
 QueueSetFits queue_set (DelWait index) = index < length queue_set.waiting
-QueueSetFits queue_set (PushHandle queue) = HasRoomForHandle queue_set queue
+QueueSetFits queue_set (PushHandle queue) = HasSpaceForHandle queue_set queue
 QueueSetFits queue_set DropHandle = 0 < length queue_set.handles
 QueueSetFits queue_set TakeHandle = 0 < length queue_set.handles
-QueueSetFits queue_set (UntakeHandle queue) = HasRoomForHandle queue_set queue
+QueueSetFits queue_set (UntakeHandle queue) = HasSpaceForHandle queue_set queue
 
 -- A change that is undone leaves the set as it was, and what undoes it fits. The set with the
 -- change made is one, with room for as many tasks, for handles of as many queues.

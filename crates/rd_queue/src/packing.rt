@@ -2,7 +2,7 @@
 
 ghost use Rattle.std.specs.Prelude.{◌≡◌, ◌+◌, ◌<◌, ◌≤◌, ◌++◌, length, IsOk, OnOk, OnErr};
 ghost use Rattle.rd_bytes.specs.Ends.{all_but, bytes_before, end_byte, end_short};
-ghost use Rattle.rd_bytes.specs.Layouts.{EachRowIsReadBack, EndsInRow, HasRoom};
+ghost use Rattle.rd_bytes.specs.Layouts.{EachRowIsReadBack, EndsInRow, FitsLayout};
 ghost use Rattle.rd_bytes.specs.Layouts.{laid_out, last_length, last_row};
 ghost use Rattle.rd_queue.specs.Changes.{the_queue_change, Fill};
 ghost use Rattle.rd_queue.specs.PackedChanges.{byte_of_list, list_of_byte, queue_layout};
@@ -43,7 +43,7 @@ impl QueueChange<'_> {
     /// is room for them. Where there is no memory for them, nothing has changed.
     #[inline(always)]
     pub fn pack(self, queue: usize, bytes: &mut ByteStack) -> Result<(), NoMemory>
-        requires { HasRoom queue_layout queue (the_queue_change self) }
+        requires { FitsLayout queue_layout queue (the_queue_change self) }
         ensures ok { OnOk result (bytes.new.bytes
             ≡ bytes.old.bytes ++ laid_out queue_layout queue (the_queue_change self.entry)) }
         ensures enough { length bytes.old.bytes

@@ -7,7 +7,7 @@ ghost use Rattle.rd_queue.specs.Sizes.{IsSizedQueue};
 ghost use Rattle.std.specs.List.{concat};
 ghost use Rattle.rd_queue.specs.Queues.{count_in, empty_queue, fitted, items_in, with_items};
 ghost use Rattle.rd_queue.specs.Queues.{tasks_in_list, as_member_of, with_waiting};
-ghost use Rattle.rd_queue.specs.Changes.{HasRoomForAll, put_at, queue_applied, SetItem};
+ghost use Rattle.rd_queue.specs.Changes.{HasSpaceForAll, put_at, queue_applied, SetItem};
 
 use crate::end::End;
 use crate::item::{Item, MAX_ITEM_SIZE};
@@ -242,7 +242,7 @@ impl Queue {
 
     // Puts an item at the back of a queue that isn't full.
     fn push_back(&mut self, item: &[u8])
-        requires room { length self.old.items < self.old.capacity }
+        requires space { length self.old.items < self.old.capacity }
         requires size { length item.now ≡ self.old.item_size }
         ensures { self.new ≡ with_items self.old (self.old.items ++ item.now ∷ []) }
     {
@@ -251,7 +251,7 @@ impl Queue {
 
     // Puts an item at the front of a queue that isn't full.
     fn push_front(&mut self, item: &[u8])
-        requires room { length self.old.items < self.old.capacity }
+        requires space { length self.old.items < self.old.capacity }
         requires size { length item.now ≡ self.old.item_size }
         ensures { self.new ≡ with_items self.old (item.now ∷ self.old.items) }
     {
@@ -316,7 +316,7 @@ impl Queue {
     // Puts an item at an end of a queue that isn't full.
     #[inline(always)]
     fn put_item(&mut self, end: End, item: &[u8])
-        requires room { length self.old.items < self.old.capacity }
+        requires space { length self.old.items < self.old.capacity }
         requires size { length item.now ≡ self.old.item_size }
         ensures { self.new ≡ queue_applied self.old (put_at end item.now) }
     {
@@ -385,7 +385,7 @@ impl Queue {
 
     /// Puts an item back at the front: what undoes `take`.
     pub fn untake(&mut self, item: &[u8])
-        requires room { length self.old.items < self.old.capacity }
+        requires space { length self.old.items < self.old.capacity }
         requires size { length item.now ≡ self.old.item_size }
         ensures { self.new ≡ with_items self.old (item.now ∷ self.old.items) }
     {
@@ -433,7 +433,7 @@ impl Queue {
     /// Fills an empty queue with the items that these bytes are, one after the other, in two pieces
     /// that follow one another: what undoes `clear`. It takes no memory.
     pub fn fill(&mut self, front: &[u8], back: &[u8])
-        requires { HasRoomForAll self.old (front.now ++ back.now) }
+        requires { HasSpaceForAll self.old (front.now ++ back.now) }
         ensures { self.new
             ≡ with_items self.old (items_in self.old.item_size (front.now ++ back.now)) }
     {

@@ -113,7 +113,7 @@ impl QueueSet {
         self.handles.len()
     }
 
-    /// For how many more handles there is room.
+    /// For how many more handles there is space.
     pub fn spaces(&self) -> usize
         ensures spaces { result + length self.now.handles ≡ self.now.capacity }
         ensures few { result ≤ MAX_HANDLES }
@@ -158,7 +158,7 @@ impl QueueSet {
 
     /// Puts the handle of a queue at the back, as a send to a member does. It takes no memory.
     pub fn push_handle(&mut self, queue: usize)
-        requires room { length self.old.handles < self.old.capacity }
+        requires space { length self.old.handles < self.old.capacity }
         requires queue { queue < self.old.queue_count }
         ensures { self.new ≡ with_handles self.old (self.old.handles ++ queue ∷ []) }
     {
@@ -188,7 +188,7 @@ impl QueueSet {
 
     /// Puts a handle back at the front: what undoes `take_handle`. It takes no memory.
     pub fn untake_handle(&mut self, queue: usize)
-        requires room { length self.old.handles < self.old.capacity }
+        requires space { length self.old.handles < self.old.capacity }
         requires queue { queue < self.old.queue_count }
         ensures { self.new ≡ with_handles self.old (queue ∷ self.old.handles) }
     {

@@ -2,7 +2,7 @@
 
 ghost use Rattle.std.specs.Prelude.{◌≡◌, ◌+◌, ◌≤◌, ◌++◌, length, IsOk, OnOk, OnErr};
 ghost use Rattle.rd_bytes.specs.Ends.{all_but};
-ghost use Rattle.rd_bytes.specs.Layouts.{EachRowIsReadBack, EndsInRow, HasRoom};
+ghost use Rattle.rd_bytes.specs.Layouts.{EachRowIsReadBack, EndsInRow, FitsLayout};
 ghost use Rattle.rd_bytes.specs.Layouts.{laid_out, last_length, last_row};
 ghost use Rattle.rd_queue.specs.PackedQueueSetChanges.{queue_set_layout};
 
@@ -20,7 +20,7 @@ impl QueueSetChange {
     /// what packs changes of all kinds would be larger than what the compiler inlines.)
     #[inline(never)]
     pub fn pack(self, queue_set: usize, bytes: &mut ByteStack) -> Result<(), NoMemory>
-        requires { HasRoom queue_set_layout queue_set self }
+        requires { FitsLayout queue_set_layout queue_set self }
         ensures ok { OnOk result (bytes.new.bytes
             ≡ bytes.old.bytes ++ laid_out queue_set_layout queue_set self) }
         ensures enough { length bytes.old.bytes

@@ -15,7 +15,7 @@ use Rattle.rd_state.specs.declared.phase.Listed.TheVariants.{Queue, QueueSet}
 use Rattle.rd_state.specs.Objects.{capacity_of, no_queue, no_queue_set, shape_of, shapes_in}
 use Rattle.rd_state.specs.Snapshot.{Snapshot, queue_at, queue_set_at, with_queue, with_queue_set}
 use Rattle.rd_state.specs.Waiting.{holder_at, waiting_at}
-use Rattle.rd_kernel.proofs.Offered.{ContentsChange, IsConsistent, IsConsistent-contents, map_kept, read_kept}
+use Rattle.rd_kernel.proofs.Offered.{ContentsChange, IsConsistent, IsConsistent-contents, map_same, read_same}
 
 -- A queue has the same tasks in its lists.
 pub record IsSameWaiting (now was : QueueSnapshot) : Type 0 where
@@ -24,11 +24,11 @@ pub record IsSameWaiting (now was : QueueSnapshot) : Type 0 where
 
 pub waiting_at-with_queue : (s : Snapshot) (queue : ℕ) (now : QueueSnapshot) (place : Listed) → queue < length s.objects.queues
     → IsSameWaiting now (queue_at s queue) → waiting_at (with_queue s queue now) place ≡ waiting_at s place
-waiting_at-with_queue s queue now (Queue other Receiving) there kept =
-    read_kept (λ (q : QueueSnapshot). q.receiving) s.objects.queues queue other now no_queue there kept.receiving
-waiting_at-with_queue s queue now (Queue other Sending) there kept =
-    read_kept (λ (q : QueueSnapshot). q.sending) s.objects.queues queue other now no_queue there kept.sending
-waiting_at-with_queue s queue now place there kept = refl
+waiting_at-with_queue s queue now (Queue other Receiving) there same_waiting =
+    read_same (λ (q : QueueSnapshot). q.receiving) s.objects.queues queue other now no_queue there same_waiting.receiving
+waiting_at-with_queue s queue now (Queue other Sending) there same_waiting =
+    read_same (λ (q : QueueSnapshot). q.sending) s.objects.queues queue other now no_queue there same_waiting.sending
+waiting_at-with_queue s queue now place there same_waiting = refl
 
 -- No buffer is one of them.
 pub holder_at-with_queue : (s : Snapshot) (queue : ℕ) (now : QueueSnapshot) (held : Held) → holder_at (with_queue s queue now) held ≡ holder_at s held
@@ -41,30 +41,30 @@ holder_at-with_queue_set s queue_set now (Message message side) = refl
 
 pub ContentsChange-queue : (s : Snapshot) (queue : ℕ) (now : QueueSnapshot) → queue < length s.objects.queues
     → shape_of now ≡ shape_of (queue_at s queue) → IsSameWaiting now (queue_at s queue) → ContentsChange s.objects (with_queue s queue now).objects
-ContentsChange-queue s queue now there shape kept = record {
-  waiting = λ place. waiting_at-with_queue s queue now place there kept;
+ContentsChange-queue s queue now there shape same_waiting = record {
+  waiting = λ place. waiting_at-with_queue s queue now place there same_waiting;
   holders = λ held. holder_at-with_queue s queue now held;
-  shapes = ap (λ (qs : List QueueShape). record (shapes_in s.objects) { queues = qs }) (map_kept shape_of s.objects.queues queue now no_queue shape);
+  shapes = ap (λ (qs : List QueueShape). record (shapes_in s.objects) { queues = qs }) (map_same shape_of s.objects.queues queue now no_queue shape);
 }
 
 pub waiting_at-with_queue_set : (s : Snapshot) (queue_set : ℕ) (now : QueueSetSnapshot) (place : Listed) → queue_set < length s.objects.queue_sets
     → now.waiting ≡ (queue_set_at s queue_set).waiting → waiting_at (with_queue_set s queue_set now) place ≡ waiting_at s place
-waiting_at-with_queue_set s queue_set now (QueueSet other) there kept = read_kept (λ (q : QueueSetSnapshot). q.waiting) s.objects.queue_sets queue_set other now no_queue_set there kept
-waiting_at-with_queue_set s queue_set now place there kept = refl
+waiting_at-with_queue_set s queue_set now (QueueSet other) there same_waiting = read_same (λ (q : QueueSetSnapshot). q.waiting) s.objects.queue_sets queue_set other now no_queue_set there same_waiting
+waiting_at-with_queue_set s queue_set now place there same_waiting = refl
 
 pub ContentsChange-queue_set : (s : Snapshot) (queue_set : ℕ) (now : QueueSetSnapshot) → queue_set < length s.objects.queue_sets
     → capacity_of now ≡ capacity_of (queue_set_at s queue_set) → now.waiting ≡ (queue_set_at s queue_set).waiting → ContentsChange s.objects (with_queue_set s queue_set now).objects
-ContentsChange-queue_set s queue_set now there room kept = record {
-  waiting = λ place. waiting_at-with_queue_set s queue_set now place there kept;
+ContentsChange-queue_set s queue_set now there room same_waiting = record {
+  waiting = λ place. waiting_at-with_queue_set s queue_set now place there same_waiting;
   holders = λ held. holder_at-with_queue_set s queue_set now held;
-  shapes = ap (λ (rooms : List ℕ). record (shapes_in s.objects) { queue_sets = rooms }) (map_kept capacity_of s.objects.queue_sets queue_set now no_queue_set room);
+  shapes = ap (λ (rooms : List ℕ). record (shapes_in s.objects) { queue_sets = rooms }) (map_same capacity_of s.objects.queue_sets queue_set now no_queue_set room);
 }
 
 pub IsConsistent-queue_replaced : (app : Application) (D : ℕ → Phase → Type 0) (s : Snapshot) (queue : ℕ) (now : QueueSnapshot)
     → queue < length s.objects.queues → shape_of now ≡ shape_of (queue_at s queue) → IsSameWaiting now (queue_at s queue)
     → IsConsistent app D s → IsConsistent app D (with_queue s queue now)
-IsConsistent-queue_replaced app D s queue now there shape kept =
-    IsConsistent-contents app D s (with_queue s queue now).objects (ContentsChange-queue s queue now there shape kept)
+IsConsistent-queue_replaced app D s queue now there shape same_waiting =
+    IsConsistent-contents app D s (with_queue s queue now).objects (ContentsChange-queue s queue now there shape same_waiting)
 
 pub IsConsistent-items : (app : Application) (D : ℕ → Phase → Type 0) (s : Snapshot) (queue : ℕ) (items : List (List ℕ)) → queue < length s.objects.queues
     → IsConsistent app D s → IsConsistent app D (with_queue s queue (with_items (queue_at s queue) items))
@@ -74,5 +74,5 @@ IsConsistent-items app D s queue items there =
 pub IsConsistent-queue_set_replaced : (app : Application) (D : ℕ → Phase → Type 0) (s : Snapshot) (queue_set : ℕ) (now : QueueSetSnapshot) → queue_set < length s.objects.queue_sets
     → capacity_of now ≡ capacity_of (queue_set_at s queue_set) → now.waiting ≡ (queue_set_at s queue_set).waiting
     → IsConsistent app D s → IsConsistent app D (with_queue_set s queue_set now)
-IsConsistent-queue_set_replaced app D s queue_set now there room kept =
-    IsConsistent-contents app D s (with_queue_set s queue_set now).objects (ContentsChange-queue_set s queue_set now there room kept)
+IsConsistent-queue_set_replaced app D s queue_set now there room same_waiting =
+    IsConsistent-contents app D s (with_queue_set s queue_set now).objects (ContentsChange-queue_set s queue_set now there room same_waiting)

@@ -20,7 +20,7 @@ use Rattle.rd_kernel.specs.Waking.{deadline_of, may_wait, with_waiter, woken_fir
 use Rattle.rd_kernel.proofs.Offered.{EntriesStay, EntriesStay-task, EntriesStay-woken_all}
 use Rattle.rd_queue_calls.specs.Posts.{call_breaks, is_in_full_queue_set, is_in_no_queue_set, is_in_queue_set, membership_of, posted, replaced}
 use Rattle.rd_queue_calls.specs.Posts.{with_handle, with_member}
-use Rattle.rd_queue_calls.specs.QueueCalls.{is_empty, is_full, outcome_with_room, queue_outcome, with_item_over, with_item_peeked, with_item_sent}
+use Rattle.rd_queue_calls.specs.QueueCalls.{is_empty, is_full, outcome_with_space, queue_outcome, with_item_over, with_item_peeked, with_item_sent}
 use Rattle.rd_queue_calls.specs.QueueCalls.{with_item_taken, with_no_items}
 use Rattle.rd_queue_calls.specs.QueueSetCalls.{has_no_handle, queue_set_outcome, with_handle_taken}
 use Rattle.std.specs.Option.{option_to_list}
@@ -45,7 +45,7 @@ pub posted_stays : (priorities : List ℕ) (s : Snapshot) (queue : ℕ) (member 
 posted_stays priorities s queue None = first_stays priorities s (Queue queue Receiving)
 posted_stays priorities s queue (Some number) = first_stays priorities (with_handle s number queue) (QueueSet number)
 
-sends_stay : (priorities : List ℕ) (s : Snapshot) (task queue : ℕ) (end : End) → EntriesStay s (outcome_with_room priorities s task queue end).state
+sends_stay : (priorities : List ℕ) (s : Snapshot) (task queue : ℕ) (end : End) → EntriesStay s (outcome_with_space priorities s task queue end).state
 sends_stay priorities s task queue end =
     stays_either s (is_in_full_queue_set s (membership_of s queue)) (call_breaks s SetFull)
     (posted priorities (with_item_sent s task queue end) queue (membership_of s queue)) (λ t. refl)
@@ -61,7 +61,7 @@ peeked_stays s task queue = EntriesStay-task s task (record (task_at s task) { b
 
 pub EntriesStay-queue_call : (priorities : List ℕ) (s : Snapshot) (task queue : ℕ) (call : QueueCall) → EntriesStay s (queue_outcome priorities s task queue call).state
 EntriesStay-queue_call priorities s task queue (Send end wait) =
-    stays_either s (is_full (queue_at s queue)) (blocked priorities s task (Queue queue Sending) wait) (outcome_with_room priorities s task queue end)
+    stays_either s (is_full (queue_at s queue)) (blocked priorities s task (Queue queue Sending) wait) (outcome_with_space priorities s task queue end)
     (blocked_stays priorities s task (Queue queue Sending) wait) (sends_stay priorities s task queue end)
 EntriesStay-queue_call priorities s task queue (Receive wait) =
     stays_either s (is_empty (queue_at s queue)) (blocked priorities s task (Queue queue Receiving) wait)
@@ -72,7 +72,7 @@ EntriesStay-queue_call priorities s task queue (Peek wait) =
     (passed priorities (with_item_peeked s task queue) (Queue queue Receiving)) (blocked_stays priorities s task (Queue queue Receiving) wait)
     (λ t. first_stays priorities (with_item_peeked s task queue) (Queue queue Receiving) t ∙ peeked_stays s task queue t)
 EntriesStay-queue_call priorities s task queue Overwrite =
-    stays_either s (is_empty (queue_at s queue)) (outcome_with_room priorities s task queue Back)
+    stays_either s (is_empty (queue_at s queue)) (outcome_with_space priorities s task queue Back)
     (replaced priorities (with_item_over s task queue) queue (membership_of s queue)) (sends_stay priorities s task queue Back)
     (replaced_stays priorities (with_item_over s task queue) queue (membership_of s queue))
 EntriesStay-queue_call priorities s task queue Reset = first_stays priorities (with_no_items s queue) (Queue queue Sending)

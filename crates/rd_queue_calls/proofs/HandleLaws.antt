@@ -32,7 +32,7 @@ use Rattle.rd_kernel.specs.declared.waking.Waking.TheVariants.{TriesAgain}
 use Rattle.rd_kernel.specs.Waking.{deadline_of, may_wait, objects_without, with_waiter, woken, woken_all, woken_at, woken_first}
 use Rattle.rd_queue_calls.specs.Posts.{call_breaks, is_in_full_queue_set, is_in_no_queue_set, is_in_queue_set, posted, replaced, membership_of, with_handle}
 use Rattle.rd_queue_calls.specs.Posts.{with_member}
-use Rattle.rd_queue_calls.specs.QueueCalls.{is_empty, is_full, queue_outcome, outcome_with_room, with_item_over, with_item_peeked, with_item_sent}
+use Rattle.rd_queue_calls.specs.QueueCalls.{is_empty, is_full, queue_outcome, outcome_with_space, with_item_over, with_item_peeked, with_item_sent}
 use Rattle.rd_queue_calls.specs.QueueCalls.{with_item_taken, with_no_items}
 use Rattle.rd_queue_calls.specs.QueueSetCalls.{has_no_handle, queue_set_outcome, with_handle_taken}
 use Rattle.rd_queue_calls.specs.QueueSetLaws.{FailedSendsLeaveAll, HandlesGoByCalls, OverwritesPostOnce, handles_after, handles_in, handles_posted}
@@ -49,16 +49,16 @@ handles_queue_set (q ∷ queue_sets) zero now = refl
 handles_queue_set (q ∷ queue_sets) (suc number) now = ap (λ rest. q.handles ∷ rest) (handles_queue_set queue_sets number now)
 
 -- other tasks that wait at one
-handles_kept : (queue_sets : List QueueSetSnapshot) (number : ℕ) (tasks : List ℕ)
+handles_same : (queue_sets : List QueueSetSnapshot) (number : ℕ) (tasks : List ℕ)
     → map (λ (q : QueueSetSnapshot). q.handles) (set queue_sets number (with_waiting_tasks (get_or queue_sets number no_queue_set) tasks)) ≡ map (λ (q : QueueSetSnapshot). q.handles) queue_sets
-handles_kept [] number tasks = refl
-handles_kept (q ∷ queue_sets) zero tasks = refl
-handles_kept (q ∷ queue_sets) (suc number) tasks = ap (λ rest. q.handles ∷ rest) (handles_kept queue_sets number tasks)
+handles_same [] number tasks = refl
+handles_same (q ∷ queue_sets) zero tasks = refl
+handles_same (q ∷ queue_sets) (suc number) tasks = ap (λ rest. q.handles ∷ rest) (handles_same queue_sets number tasks)
 
 handles_then : (s : Snapshot) (place : Listed) (tasks : List ℕ) (wishes : List Wish)
     → map (λ (q : QueueSetSnapshot). q.handles) (objects_then s.objects place tasks wishes).queue_sets ≡ handles_in s
 handles_then s (Queue queue list) tasks wishes = refl
-handles_then s (QueueSet number) tasks wishes = handles_kept s.objects.queue_sets number tasks
+handles_then s (QueueSet number) tasks wishes = handles_same s.objects.queue_sets number tasks
 handles_then s (Group group) tasks wishes = refl
 
 handles_without : (s : Snapshot) (place : Listed) (o : Option ℕ) → map (λ (q : QueueSetSnapshot). q.handles) (objects_without s.objects place o).queue_sets ≡ handles_in s
@@ -113,7 +113,7 @@ handles_of_posts priorities s queue (Some number) =
     ∙ handles_queue_set s.objects.queue_sets number (with_handles (queue_set_at s number) ((queue_set_at s number).handles ++ queue ∷ []))
 
 handles_of_sends : (priorities : List ℕ) (s : Snapshot) (task queue : ℕ) (end : End)
-    → handles_in (outcome_with_room priorities s task queue end).state ≡ handles_sent s queue
+    → handles_in (outcome_with_space priorities s task queue end).state ≡ handles_sent s queue
 handles_of_sends priorities s task queue end =
     elim (is_in_full_queue_set s (membership_of s queue)) as (λ b.
     handles_in (cond b (call_breaks s SetFull) (posted priorities (with_item_sent s task queue end) queue (membership_of s queue))).state
@@ -138,7 +138,7 @@ handles_of_joining s queue member can =
 of_queues : (priorities : List ℕ) (s : Snapshot) (task queue : ℕ) (call : QueueCall)
     → handles_in (queue_outcome priorities s task queue call).state ≡ handles_after s queue call
 of_queues priorities s task queue (Send end wait) =
-    handles_or_blocked priorities s task (Queue queue Sending) wait (is_full (queue_at s queue)) (outcome_with_room priorities s task queue end) (handles_sent s queue)
+    handles_or_blocked priorities s task (Queue queue Sending) wait (is_full (queue_at s queue)) (outcome_with_space priorities s task queue end) (handles_sent s queue)
     (handles_of_sends priorities s task queue end)
 of_queues priorities s task queue (Receive wait) =
     handles_or_blocked priorities s task (Queue queue Receiving) wait (is_empty (queue_at s queue))
@@ -152,7 +152,7 @@ of_queues priorities s task queue (Peek wait) =
     ∙ same_either_way (is_empty (queue_at s queue)) (handles_in s)
 of_queues priorities s task queue Overwrite =
     elim (is_empty (queue_at s queue)) as (λ b.
-    handles_in (cond b (outcome_with_room priorities s task queue Back) (replaced priorities (with_item_over s task queue) queue (membership_of s queue))).state
+    handles_in (cond b (outcome_with_space priorities s task queue Back) (replaced priorities (with_item_over s task queue) queue (membership_of s queue))).state
     ≡ cond b (handles_sent s queue) (handles_in s)) [
       | true ↦ handles_of_sends priorities s task queue Back
       | false ↦ handles_of_replaced priorities (with_item_over s task queue) queue (membership_of s queue)
@@ -179,16 +179,16 @@ handles_go_by_calls = record { of_queues = of_queues; of_queue_sets = of_queue_s
 
 pub overwrites_post_once : OverwritesPostOnce
 overwrites_post_once priorities s task queue number some member =
-    ap (λ b. cond b (outcome_with_room priorities s task queue Back) (replaced priorities (with_item_over s task queue) queue (membership_of s queue))) some
+    ap (λ b. cond b (outcome_with_space priorities s task queue Back) (replaced priorities (with_item_over s task queue) queue (membership_of s queue))) some
     ∙ ap (replaced priorities (with_item_over s task queue) queue) member
 
 pub failed_sends_leave_all : FailedSendsLeaveAll
 failed_sends_leave_all = record {
   full = λ priorities s task queue end wait full never.
-      ap (λ b. cond b (blocked priorities s task (Queue queue Sending) wait) (outcome_with_room priorities s task queue end)) full
+      ap (λ b. cond b (blocked priorities s task (Queue queue Sending) wait) (outcome_with_space priorities s task queue end)) full
       ∙ ap (λ b. cond b (record { state = with_waiter priorities s (Queue queue Sending) task; outcome = Waits (sort.Listed (Queue queue Sending)) (deadline_of s task wait) })
       (call_fails s)) never;
-  full_queue_set = λ priorities s task queue end wait room full.
-      ap (λ b. cond b (blocked priorities s task (Queue queue Sending) wait) (outcome_with_room priorities s task queue end)) room
+  full_queue_set = λ priorities s task queue end wait space full.
+      ap (λ b. cond b (blocked priorities s task (Queue queue Sending) wait) (outcome_with_space priorities s task queue end)) space
       ∙ ap (λ b. cond b (call_breaks s SetFull) (posted priorities (with_item_sent s task queue end) queue (membership_of s queue))) full;
 }

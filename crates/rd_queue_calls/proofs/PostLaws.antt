@@ -18,7 +18,7 @@ use Rattle.rd_state.specs.Waiting.{waiting_at}
 use Rattle.rd_kernel.specs.declared.waking.Waking.TheVariants.{TriesAgain}
 use Rattle.rd_kernel.proofs.Offered.{AfterWaking-woken_all, IsConsistent, IsConsistent-woken_first, first_is_listed, same_one, waits_is_task, woken_first-tick}
 use Rattle.rd_queue_calls.proofs.ContentsLaws.{IsConsistent-items, IsConsistent-queue_set_replaced, waiting_at-with_queue, waiting_at-with_queue_set}
-use Rattle.rd_queue_calls.proofs.QueueCallLaws.{items_keep}
+use Rattle.rd_queue_calls.proofs.QueueCallLaws.{items_same_waiting}
 use Rattle.rd_queue_calls.specs.Posts.{list_posted_to, posted, with_handle}
 
 pub IsConsistent-posted : (app : Application) (D : ℕ → Phase → Type 0) (s : Snapshot) (queue : ℕ) (member : Option ℕ) (items : List (List ℕ))
@@ -28,7 +28,7 @@ pub IsConsistent-posted : (app : Application) (D : ℕ → Phase → Type 0) (s 
 IsConsistent-posted app D s queue None items asked sized there has_set at =
     let now = with_items (queue_at s queue) items in
     let p = with_queue s queue now in
-    let same = waiting_at-with_queue s queue now (Queue queue Receiving) there (items_keep (queue_at s queue) items) in
+    let same = waiting_at-with_queue s queue now (Queue queue Receiving) there (items_same_waiting (queue_at s queue) items) in
     IsConsistent-woken_first app D p (Queue queue Receiving)
     (λ t some. waits_is_task s (Queue queue Receiving) t sized there (omega (arith, some, ap (times_in_list t) same))) asked
     (IsConsistent-items app D s queue items there at)
@@ -38,7 +38,7 @@ IsConsistent-posted app D s queue (Some number) items asked sized there has_set 
     let handles = with_handles (queue_set_at p number) ((queue_set_at p number).handles ++ queue ∷ []) in
     let q = with_handle p number queue in
     let same = waiting_at-with_queue_set p number handles (QueueSet number) has_set refl
-    ∙ waiting_at-with_queue s queue now (QueueSet number) there (items_keep (queue_at s queue) items) in
+    ∙ waiting_at-with_queue s queue now (QueueSet number) there (items_same_waiting (queue_at s queue) items) in
     IsConsistent-woken_first app D q (QueueSet number)
     (λ t some. waits_is_task s (QueueSet number) t sized has_set (omega (arith, some, ap (times_in_list t) same))) asked
     (IsConsistent-queue_set_replaced app D p number handles has_set refl refl (IsConsistent-items app D s queue items there at))
@@ -55,7 +55,7 @@ post_wakes_the_first priorities s queue task items sized there first =
     let now = with_items (queue_at s queue) items in
     let p = with_queue s queue now in
     let list = waiting_at p (Queue queue Receiving) in
-    let same = waiting_at-with_queue s queue now (Queue queue Receiving) there (items_keep (queue_at s queue) items) in
+    let same = waiting_at-with_queue s queue now (Queue queue Receiving) there (items_same_waiting (queue_at s queue) items) in
     let found : slice_get list 0 ≡ Some task = ap (λ (ts : List ℕ). slice_get ts 0) same ∙ first in
     let woken : option_to_list (slice_get list 0) ≡ task ∷ [] = ap option_to_list found in
     let listed : 1 ≤ times_in_list task (option_to_list (slice_get list 0)) =
@@ -68,6 +68,6 @@ post_wakes_the_first priorities s queue task items sized there first =
 pub waiting-put : (s : Snapshot) (queue : ℕ) (member : Option ℕ) (items : List (List ℕ)) → queue < length s.objects.queues
     → waiting_at (with_queue s queue (with_items (queue_at s queue) items)) (list_posted_to queue member) ≡ waiting_at s (list_posted_to queue member)
 waiting-put s queue None items there =
-    waiting_at-with_queue s queue (with_items (queue_at s queue) items) (Queue queue Receiving) there (items_keep (queue_at s queue) items)
+    waiting_at-with_queue s queue (with_items (queue_at s queue) items) (Queue queue Receiving) there (items_same_waiting (queue_at s queue) items)
 waiting-put s queue (Some number) items there =
-    waiting_at-with_queue s queue (with_items (queue_at s queue) items) (QueueSet number) there (items_keep (queue_at s queue) items)
+    waiting_at-with_queue s queue (with_items (queue_at s queue) items) (QueueSet number) there (items_same_waiting (queue_at s queue) items)

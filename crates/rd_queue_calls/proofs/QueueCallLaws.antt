@@ -29,7 +29,7 @@ use Rattle.rd_state.specs.Valid.{entry_of_call, times_to_run, times_in_list}
 use Rattle.rd_state.specs.Waiting.{HasList, holder_at, waiting_at}
 use Rattle.rd_state.proofs.Offered.{queue_sized}
 use Rattle.rd_kernel.specs.Outcomes.{call_returns, call_fails, call_passes, concluded}
-use Rattle.rd_kernel.proofs.Offered.{IsConsistent, IsConsistent-valid, IsDone, all_have_time_left, task_now}
+use Rattle.rd_kernel.proofs.Offered.{IsConsistent, IsConsistent-valid, IsCallDone, all_have_time_left, task_now}
 use Rattle.rd_kernel.proofs.Offered.{RunsInstr, IsConsistent-returned_alone, IsConsistent-done, IsConsistent-failed, IsConsistent-or_blocked}
 use Rattle.rd_kernel.proofs.Offered.{IsFree, IsFree-objects, free_at}
 use Rattle.rd_kernel.proofs.Offered.{IsConsistent-returned, IsConsistent-with_values, or_blocked-tick, waits_is_task, woken_first-tick}
@@ -37,18 +37,18 @@ use Rattle.rd_queue_calls.proofs.ContentsLaws.{holder_at-with_queue, holder_at-w
 use Rattle.rd_queue_calls.proofs.ContentsLaws.{waiting_at-with_queue, waiting_at-with_queue_set}
 use Rattle.rd_queue_calls.specs.Posts.{call_breaks, is_in_full_queue_set, is_in_no_queue_set, is_in_queue_set, posted, replaced, membership_of}
 use Rattle.rd_queue_calls.specs.Posts.{with_handle, with_member}
-use Rattle.rd_queue_calls.specs.QueueCalls.{is_empty, is_full, queue_outcome, sent_item, outcome_with_room, with_item_over, with_item_peeked}
+use Rattle.rd_queue_calls.specs.QueueCalls.{is_empty, is_full, queue_outcome, sent_item, outcome_with_space, with_item_over, with_item_peeked}
 use Rattle.rd_queue_calls.specs.QueueCalls.{with_item_sent}
 use Rattle.rd_queue_calls.specs.QueueCalls.{with_item_taken, with_no_items}
 use Rattle.rd_queue_calls.specs.QueueSetCalls.{has_no_handle, queue_set_outcome, with_handle_taken}
 
 -- Other items, or another set, are none of who waits.
-pub items_keep : (queue : QueueSnapshot) (items : List (List ℕ)) → IsSameWaiting (with_items queue items) queue
-items_keep queue items = record { receiving = refl; sending = refl }
+pub items_same_waiting : (queue : QueueSnapshot) (items : List (List ℕ)) → IsSameWaiting (with_items queue items) queue
+items_same_waiting queue items = record { receiving = refl; sending = refl }
 
-pub put_keeps : (queue : QueueSnapshot) (end : End) (item : List ℕ) → IsSameWaiting (queue_applied queue (put_at end item)) queue
-put_keeps queue Back item = record { receiving = refl; sending = refl }
-put_keeps queue Front item = record { receiving = refl; sending = refl }
+pub put_same_waiting : (queue : QueueSnapshot) (end : End) (item : List ℕ) → IsSameWaiting (queue_applied queue (put_at end item)) queue
+put_same_waiting queue Back item = record { receiving = refl; sending = refl }
+put_same_waiting queue Front item = record { receiving = refl; sending = refl }
 
 -- The set of a queue is there.
 pub queue_set_there : (s : Snapshot) (queue : ℕ) → IsSized s → queue < length s.objects.queues → IfSome (membership_of s queue) (λ queue_set. queue_set < length s.objects.queue_sets)
@@ -61,7 +61,7 @@ queue_set_there s queue sized there =
 -- The tasks are as they were, and the same wait at a place.
 done_as : (app : Application) (s p : Snapshot) (core task : ℕ) (instr : Instr) (place : Listed) → RunsInstr app s core task instr → entry_of_call instr ≡ None
     → IsConsistent app (all_have_time_left s.tick) p → p.tasks ≡ s.tasks → HasList s place → waiting_at p place ≡ waiting_at s place
-    → ((held : Held) → holder_at p held ≡ holder_at s held) → IsDone app s p task place
+    → ((held : Held) → holder_at p held ≡ holder_at s held) → IsCallDone app s p task place
 done_as app s p core task instr place calls none consistent tasks has_place same holders =
     let is : task_at p task ≡ task_at s task = ap (λ (ts : List TaskSnapshot). get_or ts task no_task) tasks in
     record {
@@ -79,18 +79,18 @@ done_as app s p core task instr place calls none consistent tasks has_place same
 -- A queue gets other items, and who waits in one of its lists is woken.
 with_items_done : (app : Application) (s : Snapshot) (core task queue : ℕ) (list : WaitingList) (instr : Instr) (items : List (List ℕ))
     → RunsInstr app s core task instr → entry_of_call instr ≡ None → queue < length s.objects.queues
-    → IsDone app s (with_queue s queue (with_items (queue_at s queue) items)) task (Queue queue list)
+    → IsCallDone app s (with_queue s queue (with_items (queue_at s queue) items)) task (Queue queue list)
 with_items_done app s core task queue list instr items calls none there =
     let now = with_items (queue_at s queue) items in
     let p = with_queue s queue now in
     done_as app s p core task instr (Queue queue list) calls none
     (IsConsistent-items app (all_have_time_left s.tick) s queue items there (IsConsistent-valid app s calls.valid)) refl there
-    (waiting_at-with_queue s queue now (Queue queue list) there (items_keep (queue_at s queue) items)) (holder_at-with_queue s queue now)
+    (waiting_at-with_queue s queue now (Queue queue list) there (items_same_waiting (queue_at s queue) items)) (holder_at-with_queue s queue now)
 
 -- A queue gets other items, and its set a handle.
 with_handle_done : (app : Application) (s : Snapshot) (core task queue number : ℕ) (instr : Instr) (items : List (List ℕ))
     → RunsInstr app s core task instr → entry_of_call instr ≡ None → queue < length s.objects.queues → number < length s.objects.queue_sets
-    → IsDone app s (with_handle (with_queue s queue (with_items (queue_at s queue) items)) number queue) task (QueueSet number)
+    → IsCallDone app s (with_handle (with_queue s queue (with_items (queue_at s queue) items)) number queue) task (QueueSet number)
 with_handle_done app s core task queue number instr items calls none there has_queue_set =
     let D = all_have_time_left s.tick in
     let now = with_items (queue_at s queue) items in
@@ -101,23 +101,23 @@ with_handle_done app s core task queue number instr items calls none there has_q
     (IsConsistent-queue_set_replaced app D p number handles has_queue_set refl refl (IsConsistent-items app D s queue items there (IsConsistent-valid app s calls.valid)))
     refl has_queue_set
     (waiting_at-with_queue_set p number handles (QueueSet number) has_queue_set refl
-    ∙ waiting_at-with_queue s queue now (QueueSet number) there (items_keep (queue_at s queue) items))
+    ∙ waiting_at-with_queue s queue now (QueueSet number) there (items_same_waiting (queue_at s queue) items))
     (λ held. holder_at-with_queue_set p number handles held ∙ holder_at-with_queue s queue now held)
 
 -- A queue becomes a member of a set, or of none.
 with_member_done : (app : Application) (s : Snapshot) (core task queue : ℕ) (member : Option ℕ) (instr : Instr)
-    → RunsInstr app s core task instr → entry_of_call instr ≡ None → queue < length s.objects.queues → IsDone app s (with_member s queue member) task (Queue queue Receiving)
+    → RunsInstr app s core task instr → entry_of_call instr ≡ None → queue < length s.objects.queues → IsCallDone app s (with_member s queue member) task (Queue queue Receiving)
 with_member_done app s core task queue member instr calls none there =
     let now : QueueSnapshot = record (queue_at s queue) { queue_set = member } in
     let p = with_queue s queue now in
-    let kept : IsSameWaiting now (queue_at s queue) = record { receiving = refl; sending = refl } in
+    let same_waiting : IsSameWaiting now (queue_at s queue) = record { receiving = refl; sending = refl } in
     done_as app s p core task instr (Queue queue Receiving) calls none
-    (IsConsistent-queue_replaced app (all_have_time_left s.tick) s queue now there refl kept (IsConsistent-valid app s calls.valid)) refl there
-    (waiting_at-with_queue s queue now (Queue queue Receiving) there kept) (holder_at-with_queue s queue now)
+    (IsConsistent-queue_replaced app (all_have_time_left s.tick) s queue now there refl same_waiting (IsConsistent-valid app s calls.valid)) refl there
+    (waiting_at-with_queue s queue now (Queue queue Receiving) there same_waiting) (holder_at-with_queue s queue now)
 
 -- The first handle leaves a set.
 with_handle_taken_done : (app : Application) (s : Snapshot) (core task number : ℕ) (instr : Instr)
-    → RunsInstr app s core task instr → entry_of_call instr ≡ None → number < length s.objects.queue_sets → IsDone app s (with_handle_taken s number) task (QueueSet number)
+    → RunsInstr app s core task instr → entry_of_call instr ≡ None → number < length s.objects.queue_sets → IsCallDone app s (with_handle_taken s number) task (QueueSet number)
 with_handle_taken_done app s core task number instr calls none has_queue_set =
     let now = with_handles (queue_set_at s number) (drop 1 (queue_set_at s number).handles) in
     let p = with_queue_set s number now in
@@ -127,7 +127,7 @@ with_handle_taken_done app s core task number instr calls none has_queue_set =
 
 -- The first item becomes the caller's data, and who else waits for one is woken.
 peeked : (app : Application) (s : Snapshot) (core task queue : ℕ) (instr : Instr) → RunsInstr app s core task instr → entry_of_call instr ≡ None → queue < length s.objects.queues
-    → IsDone app s (with_item_peeked s task queue) task (Queue queue Receiving)
+    → IsCallDone app s (with_item_peeked s task queue) task (Queue queue Receiving)
 peeked app s core task queue instr calls none there =
     let x = record (task_at s task) { bytes = get_or (items_at s queue) 0 [] } in
     let p = with_item_peeked s task queue in
@@ -145,7 +145,7 @@ peeked app s core task queue instr calls none there =
 
 -- It leaves the queue too, and who waits for a free slot is woken.
 taken : (app : Application) (s : Snapshot) (core task queue : ℕ) (instr : Instr) → RunsInstr app s core task instr → entry_of_call instr ≡ None → queue < length s.objects.queues
-    → IsDone app s (with_item_taken s task queue) task (Queue queue Sending)
+    → IsCallDone app s (with_item_taken s task queue) task (Queue queue Sending)
 taken app s core task queue instr calls none there =
     let D = all_have_time_left s.tick in
     let items = drop 1 (items_at s queue) in
@@ -165,7 +165,7 @@ taken app s core task queue instr calls none there =
           (subst (λ (t : TaskSnapshot). IsFree s.objects task t.entries) (sym is) (free_at app s core task instr calls none));
       within = subst (λ (t : TaskSnapshot). t.pc + 1 < length (code_of app task)) (sym is) calls.within;
       waiters = λ t some.
-          let before = waiting_at-with_queue s queue now (Queue queue Sending) there (items_keep (queue_at s queue) items) in
+          let before = waiting_at-with_queue s queue now (Queue queue Sending) there (items_same_waiting (queue_at s queue) items) in
           subst (λ n. t < n) (sym same)
           (waits_is_task s (Queue queue Sending) t calls.valid.in_limits.sized there (omega (arith, some, ap (times_in_list t) before)));
     }
@@ -173,7 +173,7 @@ taken app s core task queue instr calls none there =
 -- ---- each call
 
 -- A call that is done returns.
-returns_done : (app : Application) (s p : Snapshot) (core task value : ℕ) (place : Listed) → IsDone app s p task place
+returns_done : (app : Application) (s p : Snapshot) (core task value : ℕ) (place : Listed) → IsCallDone app s p task place
     → IsConsistent app (all_have_time_left s.tick) (concluded (call_returns p value) core task)
 returns_done app s p core task value place done =
     IsConsistent-returned app (all_have_time_left s.tick) p task value done.there done.runs done.free done.within tt done.consistent
@@ -191,7 +191,7 @@ posts app s core task queue (Some number) instr items calls none there has_queue
     (with_handle_done app s core task queue number instr items calls none there has_queue_set)
 
 sends : (app : Application) (s : Snapshot) (core task queue : ℕ) (end : End) (instr : Instr) → RunsInstr app s core task instr → entry_of_call instr ≡ None → queue < length s.objects.queues
-    → IsConsistent app (all_have_time_left s.tick) (concluded (outcome_with_room (priorities_of app) s task queue end) core task)
+    → IsConsistent app (all_have_time_left s.tick) (concluded (outcome_with_space (priorities_of app) s task queue end) core task)
 sends app s core task queue end instr calls none there =
     elim (is_in_full_queue_set s (membership_of s queue)) as (λ b.
     IsConsistent app (all_have_time_left s.tick)
@@ -238,7 +238,7 @@ pub IsConsistent-queue_call : (app : Application) (s : Snapshot) (core task queu
     → IsConsistent app (all_have_time_left s.tick) (concluded (queue_outcome (priorities_of app) s task queue call) core task)
 IsConsistent-queue_call app s core task queue (Send end wait) calls there =
     IsConsistent-or_blocked app s core task (instr.Queue queue (Send end wait)) (Queue queue Sending) wait (is_full (queue_at s queue))
-    (outcome_with_room (priorities_of app) s task queue end) calls there refl (sends app s core task queue end (instr.Queue queue (Send end wait)) calls refl there)
+    (outcome_with_space (priorities_of app) s task queue end) calls there refl (sends app s core task queue end (instr.Queue queue (Send end wait)) calls refl there)
 IsConsistent-queue_call app s core task queue (Receive wait) calls there =
     IsConsistent-or_blocked app s core task (instr.Queue queue (Receive wait)) (Queue queue Receiving) wait (is_empty (queue_at s queue)) _ calls there refl
     (IsConsistent-done app s (with_item_taken s task queue) core task (Queue queue Sending)
@@ -250,7 +250,7 @@ IsConsistent-queue_call app s core task queue (Peek wait) calls there =
 IsConsistent-queue_call app s core task queue Overwrite calls there =
     elim (is_empty (queue_at s queue)) as (λ b.
     IsConsistent app (all_have_time_left s.tick)
-    (concluded (cond b (outcome_with_room (priorities_of app) s task queue Back)
+    (concluded (cond b (outcome_with_space (priorities_of app) s task queue Back)
     (replaced (priorities_of app) (with_item_over s task queue) queue (membership_of s queue))) core task)) [
       | true ↦ sends app s core task queue Back (instr.Queue queue Overwrite) calls refl there
       | false ↦ replaces app s core task queue (membership_of s queue) (instr.Queue queue Overwrite) calls refl there
@@ -284,7 +284,7 @@ posts-tick priorities s core task queue None = woken_first-tick priorities s (Qu
 posts-tick priorities s core task queue (Some number) = woken_first-tick priorities (with_handle s number queue) (QueueSet number)
 
 sends-tick : (priorities : List ℕ) (s : Snapshot) (core task queue : ℕ) (end : End)
-    → (concluded (outcome_with_room priorities s task queue end) core task).tick ≡ s.tick
+    → (concluded (outcome_with_space priorities s task queue end) core task).tick ≡ s.tick
 sends-tick priorities s core task queue end =
     elim (is_in_full_queue_set s (membership_of s queue)) as (λ b.
     (concluded (cond b (call_breaks s SetFull) (posted priorities (with_item_sent s task queue end) queue (membership_of s queue))) core task).tick ≡ s.tick) [
@@ -305,7 +305,7 @@ joins_or_not-tick s core task queue member can =
 pub queue_call-tick : (priorities : List ℕ) (s : Snapshot) (core task queue : ℕ) (call : QueueCall)
     → (concluded (queue_outcome priorities s task queue call) core task).tick ≡ s.tick
 queue_call-tick priorities s core task queue (Send end wait) =
-    or_blocked-tick priorities s core task (Queue queue Sending) wait (is_full (queue_at s queue)) (outcome_with_room priorities s task queue end)
+    or_blocked-tick priorities s core task (Queue queue Sending) wait (is_full (queue_at s queue)) (outcome_with_space priorities s task queue end)
     (sends-tick priorities s core task queue end)
 queue_call-tick priorities s core task queue (Receive wait) =
     or_blocked-tick priorities s core task (Queue queue Receiving) wait (is_empty (queue_at s queue)) _
@@ -315,7 +315,7 @@ queue_call-tick priorities s core task queue (Peek wait) =
     (woken_first-tick priorities (with_item_peeked s task queue) (Queue queue Receiving))
 queue_call-tick priorities s core task queue Overwrite =
     elim (is_empty (queue_at s queue)) as (λ b.
-    (concluded (cond b (outcome_with_room priorities s task queue Back) (replaced priorities (with_item_over s task queue) queue (membership_of s queue))) core task).tick
+    (concluded (cond b (outcome_with_space priorities s task queue Back) (replaced priorities (with_item_over s task queue) queue (membership_of s queue))) core task).tick
     ≡ s.tick) [
       | true ↦ sends-tick priorities s core task queue Back
       | false ↦ replaces-tick priorities (with_item_over s task queue) core task queue (membership_of s queue)

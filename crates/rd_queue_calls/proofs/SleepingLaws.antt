@@ -30,11 +30,11 @@ use Rattle.rd_kernel.specs.declared.outcome.Outcome.TheVariants.{Waits}
 use Rattle.rd_kernel.proofs.Offered.{IsSleeper, Sleeps, Sleeps-other, Sleeps-woken_first, read_anyway}
 use Rattle.rd_queue_calls.specs.Posts.{call_breaks, is_in_full_queue_set, is_in_no_queue_set, is_in_queue_set, membership_of, posted, replaced}
 use Rattle.rd_queue_calls.specs.Posts.{with_handle, with_member}
-use Rattle.rd_queue_calls.specs.QueueCalls.{is_empty, is_full, outcome_with_room, queue_outcome, sent_item, with_item_over, with_item_peeked, with_item_sent}
+use Rattle.rd_queue_calls.specs.QueueCalls.{is_empty, is_full, outcome_with_space, queue_outcome, sent_item, with_item_over, with_item_peeked, with_item_sent}
 use Rattle.rd_queue_calls.specs.QueueCalls.{with_item_taken, with_no_items}
 use Rattle.rd_queue_calls.specs.QueueSetCalls.{has_no_handle, queue_set_outcome, with_handle_taken}
 use Rattle.rd_queue_calls.proofs.ContentsLaws.{IsSameWaiting}
-use Rattle.rd_queue_calls.proofs.QueueCallLaws.{items_keep, put_keeps}
+use Rattle.rd_queue_calls.proofs.QueueCallLaws.{items_same_waiting, put_same_waiting}
 
 -- ---- a task that is left asleep and stands in no list
 
@@ -45,26 +45,26 @@ pub record Lies (task : ℕ) (s p : Snapshot) : Type 0 where
 -- A queue or a set changes in something else than who waits there, if it is there at all.
 waiting_anyway : (s : Snapshot) (queue : ℕ) (now : QueueSnapshot) (list : Listed) → IsSameWaiting now (queue_at s queue)
     → waiting_at (with_queue s queue now) list ≡ waiting_at s list
-waiting_anyway s queue now (Queue other Receiving) kept = read_anyway (λ
-    (q : QueueSnapshot). q.receiving) s.objects.queues queue other now no_queue kept.receiving
-waiting_anyway s queue now (Queue other Sending) kept = read_anyway (λ (q : QueueSnapshot). q.sending) s.objects.queues queue other now no_queue kept.sending
-waiting_anyway s queue now (QueueSet other) kept = refl
-waiting_anyway s queue now (Group other) kept = refl
+waiting_anyway s queue now (Queue other Receiving) same_waiting = read_anyway (λ
+    (q : QueueSnapshot). q.receiving) s.objects.queues queue other now no_queue same_waiting.receiving
+waiting_anyway s queue now (Queue other Sending) same_waiting = read_anyway (λ (q : QueueSnapshot). q.sending) s.objects.queues queue other now no_queue same_waiting.sending
+waiting_anyway s queue now (QueueSet other) same_waiting = refl
+waiting_anyway s queue now (Group other) same_waiting = refl
 
 Lies-with_queue : (s p : Snapshot) (task queue : ℕ) (now : QueueSnapshot) → IsSameWaiting now (queue_at p queue) → Lies task s p
     → Lies task s (with_queue p queue now)
-Lies-with_queue s p task queue now kept lies = record {
+Lies-with_queue s p task queue now same_waiting lies = record {
   sleeps = lies.sleeps;
-  unlisted = λ list. ap (times_in_list task) (waiting_anyway p queue now list kept) ∙ lies.unlisted list;
+  unlisted = λ list. ap (times_in_list task) (waiting_anyway p queue now list same_waiting) ∙ lies.unlisted list;
 }
 
 set_waiting_anyway : (s : Snapshot) (number : ℕ) (now : QueueSetSnapshot) (list : Listed) → now.waiting ≡ (queue_set_at s number).waiting
     → waiting_at (with_queue_set s number now) list ≡ waiting_at s list
-set_waiting_anyway s number now (Queue queue Receiving) kept = refl
-set_waiting_anyway s number now (Queue queue Sending) kept = refl
-set_waiting_anyway s number now (QueueSet other) kept = read_anyway (λ
-    (q : QueueSetSnapshot). q.waiting) s.objects.queue_sets number other now no_queue_set kept
-set_waiting_anyway s number now (Group other) kept = refl
+set_waiting_anyway s number now (Queue queue Receiving) same_waiting = refl
+set_waiting_anyway s number now (Queue queue Sending) same_waiting = refl
+set_waiting_anyway s number now (QueueSet other) same_waiting = read_anyway (λ
+    (q : QueueSetSnapshot). q.waiting) s.objects.queue_sets number other now no_queue_set same_waiting
+set_waiting_anyway s number now (Group other) same_waiting = refl
 
 Lies-with_handle : (s p : Snapshot) (task number queue : ℕ) → Lies task s p → Lies task s (with_handle p number queue)
 Lies-with_handle s p task number queue lies =
@@ -98,13 +98,13 @@ posted_sleeps priorities s p task queue (Some number) lies =
     first_woken priorities s (with_handle p number queue) task (QueueSet number) (Lies-with_handle s p task number queue lies)
 
 sends_sleep : (priorities : List ℕ) (s : Snapshot) (task caller queue : ℕ) (end : End) → Lies task s s
-    → Sleeps task s (outcome_with_room priorities s caller queue end).state
+    → Sleeps task s (outcome_with_space priorities s caller queue end).state
 sends_sleep priorities s task caller queue end lies =
     let p = with_item_sent s caller queue end in
     either_sleeps s task (is_in_full_queue_set s (membership_of s queue)) (call_breaks s SetFull) (posted priorities p queue (membership_of s queue)) refl
     (posted_sleeps priorities s p task queue (membership_of s queue)
     (Lies-with_queue s s task queue (queue_applied (queue_at s queue) (put_at end (sent_item s caller queue)))
-    (put_keeps (queue_at s queue) end (sent_item s caller queue)) lies))
+    (put_same_waiting (queue_at s queue) end (sent_item s caller queue)) lies))
 
 replaced_sleeps : (priorities : List ℕ) (s p : Snapshot) (task queue : ℕ) (member : Option ℕ) → Lies task s p
     → Sleeps task s (replaced priorities p queue member).state
@@ -119,7 +119,7 @@ Lies-peeked s task caller queue differs lies = record {
 }
 
 pub Lies-items : (s p : Snapshot) (task queue : ℕ) (items : List (List ℕ)) → Lies task s p → Lies task s (with_queue p queue (with_items (queue_at p queue) items))
-Lies-items s p task queue items lies = Lies-with_queue s p task queue (with_items (queue_at p queue) items) (items_keep (queue_at p queue) items) lies
+Lies-items s p task queue items lies = Lies-with_queue s p task queue (with_items (queue_at p queue) items) (items_same_waiting (queue_at p queue) items) lies
 
 pub queue_call-sleeps : (priorities : List ℕ) (s : Snapshot) (task caller queue : ℕ) (own : Held) (call : QueueCall) → task ≢ caller → IsSleeper s task own
     → Sleeps task s (queue_outcome priorities s caller queue call).state
@@ -133,7 +133,7 @@ queue_call-sleeps priorities s task caller queue own call differs sleeper = by_c
 
     by_call : (call : QueueCall) → Sleeps task s (queue_outcome priorities s caller queue call).state
     by_call (Send end wait) =
-        or_blocked_sleeps priorities s task caller (is_full (queue_at s queue)) (Queue queue Sending) wait (outcome_with_room priorities s caller queue end)
+        or_blocked_sleeps priorities s task caller (is_full (queue_at s queue)) (Queue queue Sending) wait (outcome_with_space priorities s caller queue end)
         (sends_sleep priorities s task caller queue end lies)
     by_call (Receive wait) =
         or_blocked_sleeps priorities s task caller (is_empty (queue_at s queue)) (Queue queue Receiving) wait
@@ -145,7 +145,7 @@ queue_call-sleeps priorities s task caller queue own call differs sleeper = by_c
         (passed priorities (with_item_peeked s caller queue) (Queue queue Receiving))
         (first_woken priorities s (with_item_peeked s caller queue) task (Queue queue Receiving) peeked)
     by_call Overwrite =
-        either_sleeps s task (is_empty (queue_at s queue)) (outcome_with_room priorities s caller queue Back)
+        either_sleeps s task (is_empty (queue_at s queue)) (outcome_with_space priorities s caller queue Back)
         (replaced priorities (with_item_over s caller queue) queue (membership_of s queue)) (sends_sleep priorities s task caller queue Back lies)
         (replaced_sleeps priorities s (with_item_over s caller queue) task queue (membership_of s queue)
         (Lies-items s s task queue (set (items_at s queue) 0 (sent_item s caller queue)) lies))

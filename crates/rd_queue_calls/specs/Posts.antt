@@ -29,7 +29,7 @@ abbrev pub is_in_queue_set : ℕ → Option ℕ → Bool
 is_in_queue_set queue_set None = false
 is_in_queue_set queue_set (Some other) = nat_eq other queue_set
 
--- Has the set that a queue is a member of no room for one handle more?
+-- Has the set that a queue is a member of no space for one handle more?
 abbrev pub is_full_queue_set : QueueSetSnapshot → Bool
 is_full_queue_set queue_set = nat_eq (length queue_set.handles) queue_set.capacity
 

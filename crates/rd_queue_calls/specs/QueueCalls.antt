@@ -63,19 +63,19 @@ with_item_taken s task queue =
 abbrev pub with_no_items : Snapshot → ℕ → Snapshot
 with_no_items s queue = with_queue s queue (with_items (queue_at s queue) [])
 
--- An item goes to that end, unless its queue is a member of a set that has no room for its handle:
+-- An item goes to that end, unless its queue is a member of a set that has no space for its handle:
 -- then nothing is sent, and the caller has failed. Nobody is handed the item: whoever is woken
 -- tries again when it runs.
-abbrev pub outcome_with_room : List ℕ → Snapshot → ℕ → ℕ → End → Called
-outcome_with_room priorities s task queue end =
+abbrev pub outcome_with_space : List ℕ → Snapshot → ℕ → ℕ → End → Called
+outcome_with_space priorities s task queue end =
     if is_in_full_queue_set s (membership_of s queue) then call_breaks s SetFull
     else posted priorities (with_item_sent s task queue end) queue (membership_of s queue)
 
--- xQueueSend, xQueueSendToBack, xQueueSendToFront: where there is room, the item is sent.
+-- xQueueSend, xQueueSendToBack, xQueueSendToFront: where there is space, the item is sent.
 abbrev pub send_outcome : List ℕ → Snapshot → ℕ → ℕ → End → Operand → Called
 send_outcome priorities s task queue end wait =
     if is_full (queue_at s queue) then blocked priorities s task (Queue queue Sending) wait
-    else outcome_with_room priorities s task queue end
+    else outcome_with_space priorities s task queue end
 
 -- xQueueReceive: where there is an item, the one at the front leaves and becomes the caller's data,
 -- and the first who waits for a free slot is woken
@@ -94,7 +94,7 @@ peek_outcome priorities s task queue wait =
 -- xQueueOverwrite: into an empty queue the item is sent; else it takes the place of the one there.
 abbrev pub overwrite_outcome : List ℕ → Snapshot → ℕ → ℕ → Called
 overwrite_outcome priorities s task queue =
-    if is_empty (queue_at s queue) then outcome_with_room priorities s task queue Back
+    if is_empty (queue_at s queue) then outcome_with_space priorities s task queue Back
     else replaced priorities (with_item_over s task queue) queue (membership_of s queue)
 
 -- xQueueReset: the items are gone, and the first who waits for a free slot is woken
@@ -181,7 +181,7 @@ queue_call_cost s queue Spaces = 0
 queue_call_cost s queue (AddToSet queue_set) = member_cost
 queue_call_cost s queue (RemoveFromSet queue_set) = member_cost
 
--- The queue has room for the item that is put, and the queue's set has none for its handle.
+-- The queue has space for the item that is put, and the queue's set has none for its handle.
 abbrev pub IsIntoFullQueueSet : Snapshot → ℕ → Type 0
 IsIntoFullQueueSet s queue =
     (is_full (queue_at s queue) ≡ false) × (is_in_full_queue_set s (membership_of s queue) ≡ true)

@@ -35,7 +35,7 @@ handles_sent s queue =
     if is_in_full_queue_set s (membership_of s queue) then handles_in s
     else handles_posted s queue (membership_of s queue)
 
--- the handles after a call: a send into a queue with room and an overwrite of an empty one add one
+-- the handles after a call: a send into a queue with space and an overwrite of an empty one add one
 -- at the most, and no other call changes any
 abbrev pub handles_after : Snapshot → ℕ → QueueCall → List (List ℕ)
 handles_after s queue (Send end wait) =
@@ -74,7 +74,7 @@ OverwritesPostOnce =
     → overwrite_outcome priorities s task queue ≡ call_passes (with_item_over s task queue)
 
 -- A send that fails leaves everything as it was: one into a full queue that may not wait, and one
--- into a queue with room, in a full set.
+-- into a queue with space, in a full set.
 pub record FailedSendsLeaveAll : Type 0 where
   pub full : (priorities : List ℕ) (s : Snapshot) (task queue : ℕ) (end : End) (wait : Operand)
       → is_full (queue_at s queue) ≡ true → may_wait s task wait ≡ false

@@ -4,7 +4,7 @@ ghost use Rattle.std.specs.Prelude.{◌≡◌, ◌+◌, ◌<◌, ◌&&◌, lengt
 ghost use Rattle.std.specs.Prelude.{IfOk, IsOk, OnOk, OnErr};
 ghost use Rattle.std.specs.List.{concat};
 ghost use Rattle.rd_app.specs.Application.{IsOperand, IsQueueCall, priorities_of};
-ghost use Rattle.rd_state.specs.Edit.{Reaches, GivesUp};
+ghost use Rattle.rd_state.specs.EditingView.{Reaches, GivesUp};
 ghost use Rattle.rd_state.specs.Sizes.{IsSized};
 ghost use Rattle.rd_state.specs.Snapshot.{queue_at, task_at};
 ghost use Rattle.rd_kernel.specs.Costs.{data_cost, item_cost};
@@ -15,7 +15,7 @@ ghost use Rattle.rd_queue_calls.specs.Posts.{is_in_queue_set};
 ghost use Rattle.rd_queue_calls.specs.Posts.{membership_of};
 ghost use Rattle.rd_queue_calls.specs.QueueCalls.{is_empty, is_full, ChangesNothing};
 ghost use Rattle.rd_queue_calls.specs.QueueCalls.{IsIntoFullQueueSet};
-ghost use Rattle.rd_queue_calls.specs.QueueCalls.{with_item_taken, outcome_with_room};
+ghost use Rattle.rd_queue_calls.specs.QueueCalls.{with_item_taken, outcome_with_space};
 ghost use Rattle.rd_queue_calls.specs.QueueCalls.{send_outcome, receive_outcome, peek_outcome};
 ghost use Rattle.rd_queue_calls.specs.QueueCalls.{overwrite_outcome, reset_outcome};
 ghost use Rattle.rd_queue_calls.specs.QueueCalls.{add_outcome, remove_outcome};
@@ -23,7 +23,7 @@ ghost use Rattle.rd_queue_calls.specs.QueueCalls.{queue_outcome, dropped_by};
 ghost use Rattle.rd_queue_calls.specs.QueueCalls.{send_cost, receive_cost, peek_cost};
 ghost use Rattle.rd_queue_calls.specs.QueueCalls.{overwrite_cost, reset_cost, member_cost};
 ghost use Rattle.rd_queue_calls.specs.QueueCalls.{queue_call_cost};
-ghost use Rattle.rd_kernel.specs.Tasks.{KeepsPc};
+ghost use Rattle.rd_kernel.specs.Tasks.{PcStays};
 
 use crate::posts::{is_in_full_queue_set, post};
 use rd_app::app::Program;
@@ -72,7 +72,7 @@ fn sending(queue: usize) -> Listed
     Listed::Queue { queue, list }
 }
 
-// Puts the task's data at an end of a queue with room for it, unless its set is full.
+// Puts the task's data at an end of a queue with space for it, unless its set is full.
 #[inline(always)]
 fn deliver(
     app: &Program,
@@ -83,13 +83,13 @@ fn deliver(
 ) -> Result<Outcome, NoMemory>
     requires caller { IsCalling app.now editing.old.now task }
     requires queue { queue < length editing.old.now.objects.queues }
-    requires room { length (queue_at editing.old.now queue).items
+    requires space { length (queue_at editing.old.now queue).items
         < (queue_at editing.old.now queue).capacity }
     ensures ok { IfOk result (DoesCall editing.old editing.new
-        (outcome_with_room (priorities_of app.now) editing.old.now task queue end) send_cost) }
+        (outcome_with_space (priorities_of app.now) editing.old.now task queue end) send_cost) }
     ensures full_queue_set { is_in_full_queue_set editing.old.now
         (membership_of editing.old.now queue) ≡ true → IsOk result }
-    ensures stays { OnOk result (KeepsPc editing.old.now editing.new.now task) }
+    ensures stays { OnOk result (PcStays editing.old.now editing.new.now task) }
     ensures err { OnErr result (GivesUp editing.old editing.new send_cost) }
 {
     let queue_set = editing.state().queue(queue).set_of();
@@ -102,7 +102,7 @@ fn deliver(
 }
 
 // Puts the task's data at an end of the queue (`xQueueSend`, `xQueueSendToFront`), or waits for
-// room.
+// space.
 fn send(
     app: &Program,
     editing: &mut Editing,
@@ -119,7 +119,7 @@ fn send(
     ensures full { is_full (queue_at editing.old.now queue) ≡ true
         → may_wait editing.old.now task wait ≡ false → IsOk result }
     ensures full_queue_set { IsIntoFullQueueSet editing.old.now queue → IsOk result }
-    ensures stays { OnOk result (KeepsPc editing.old.now editing.new.now task) }
+    ensures stays { OnOk result (PcStays editing.old.now editing.new.now task) }
     ensures err { OnErr result (GivesUp editing.old editing.new send_cost) }
 {
     if editing.state().queue(queue).spaces() == 0 {
@@ -143,7 +143,7 @@ fn receive(
         (receive_outcome (priorities_of app.now) editing.old.now task queue wait) receive_cost) }
     ensures empty { is_empty (queue_at editing.old.now queue) ≡ true
         → may_wait editing.old.now task wait ≡ false → IsOk result }
-    ensures stays { OnOk result (KeepsPc editing.old.now editing.new.now task) }
+    ensures stays { OnOk result (PcStays editing.old.now editing.new.now task) }
     ensures err { OnErr result (GivesUp editing.old editing.new receive_cost) }
 {
     if editing.state().queue(queue).count() == 0 {
@@ -168,7 +168,7 @@ fn peek(
         (peek_outcome (priorities_of app.now) editing.old.now task queue wait) peek_cost) }
     ensures empty { is_empty (queue_at editing.old.now queue) ≡ true
         → may_wait editing.old.now task wait ≡ false → IsOk result }
-    ensures stays { OnOk result (KeepsPc editing.old.now editing.new.now task) }
+    ensures stays { OnOk result (PcStays editing.old.now editing.new.now task) }
     ensures err { OnErr result (GivesUp editing.old editing.new peek_cost) }
 {
     if editing.state().queue(queue).count() == 0 {
@@ -193,7 +193,7 @@ fn overwrite(
     ensures full_queue_set { is_empty (queue_at editing.old.now queue) ≡ true
         → is_in_full_queue_set editing.old.now (membership_of editing.old.now queue) ≡ true
         → IsOk result }
-    ensures stays { OnOk result (KeepsPc editing.old.now editing.new.now task) }
+    ensures stays { OnOk result (PcStays editing.old.now editing.new.now task) }
     ensures err { OnErr result (GivesUp editing.old editing.new overwrite_cost) }
 {
     if editing.state().queue(queue).count() == 0 {
@@ -220,7 +220,7 @@ fn reset(
     ensures ok { IfOk result (DoesCall editing.old editing.new
         (reset_outcome (priorities_of app.now) editing.old.now queue)
         (reset_cost + length (concat (queue_at editing.old.now queue).items))) }
-    ensures stays { OnOk result (KeepsPc editing.old.now editing.new.now task) }
+    ensures stays { OnOk result (PcStays editing.old.now editing.new.now task) }
     ensures err { OnErr result (GivesUp editing.old editing.new
         (reset_cost + length (concat (queue_at editing.old.now queue).items))) }
 {
@@ -297,7 +297,7 @@ pub fn call_queue(
         (queue_outcome (priorities_of app.now) editing.old.now task queue call)
         (queue_call_cost editing.old.now queue call)) }
     ensures nothing { ChangesNothing editing.old.now task queue call → IsOk result }
-    ensures stays { OnOk result (KeepsPc editing.old.now editing.new.now task) }
+    ensures stays { OnOk result (PcStays editing.old.now editing.new.now task) }
     ensures err { OnErr result (GivesUp editing.old editing.new
         (queue_call_cost editing.old.now queue call)) }
 {

@@ -3,7 +3,7 @@
 ghost use Rattle.rd_queue_calls.specs.QueueSetLaws.{FailedSendsLeaveAll, HandlesGoByCalls};
 ghost use Rattle.rd_queue_calls.specs.QueueSetLaws.{OverwritesPostOnce};
 
-/// A law: a send into a member with room adds just one handle, its number at the back of its set's;
+/// A law: a send into a member with space adds just one handle, its number at the back of its set's;
 /// a select that returns a number takes just the one at the front; no other call changes handles.
 pub fn handles_go_by_calls()
     ensures { HandlesGoByCalls }
@@ -16,7 +16,7 @@ pub fn overwrites_post_once()
 {}
 
 /// A law: a send that fails leaves everything as it was: into a full queue, where it may not wait,
-/// and into a member of a set that has no room for its handle.
+/// and into a member of a set that has no space for its handle.
 pub fn failed_sends_leave_all()
     ensures { FailedSendsLeaveAll }
 {}

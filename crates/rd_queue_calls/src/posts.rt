@@ -6,7 +6,7 @@ ghost use Rattle.rd_kernel.specs.Costs.{waking_cost};
 ghost use Rattle.rd_kernel.specs.Outcomes.{DoesCall};
 ghost use Rattle.rd_kernel.specs.Waking.{ReadyHasRoom};
 ghost use Rattle.rd_queue_calls.specs.Posts.{is_in_full_queue_set, list_posted_to, posted};
-ghost use Rattle.rd_state.specs.Edit.{GivesUp};
+ghost use Rattle.rd_state.specs.EditingView.{GivesUp};
 ghost use Rattle.rd_state.specs.Waiting.{waiting_at};
 
 use rd_app::app::Program;
@@ -20,7 +20,7 @@ use rd_state::objects::ObjectChange;
 use rd_state::phase::Listed;
 use rd_state::state::State;
 
-/// Has the set that a queue is a member of, if it is one, no room for one handle more?
+/// Has the set that a queue is a member of, if it is one, no space for one handle more?
 pub fn is_in_full_queue_set(state: &State, queue_set: Option<usize>) -> bool
     requires { IfSome queue_set (λ queue_set. queue_set < length state.now.objects.queue_sets) }
     ensures { result ≡ is_in_full_queue_set state.now queue_set }
@@ -43,7 +43,7 @@ pub fn post(
     requires queue { queue < length editing.old.now.objects.queues }
     requires queue_set { IfSome queue_set
         (λ queue_set. queue_set < length editing.old.now.objects.queue_sets) }
-    requires room { is_in_full_queue_set editing.old.now queue_set ≡ false }
+    requires space { is_in_full_queue_set editing.old.now queue_set ≡ false }
     requires ready { 0 < length (waiting_at editing.old.now (list_posted_to queue queue_set))
         → ReadyHasRoom editing.old.now }
     requires priorities { length (priorities_of app.now) ≡ length editing.old.now.tasks }

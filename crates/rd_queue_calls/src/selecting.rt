@@ -8,8 +8,8 @@ ghost use Rattle.rd_kernel.specs.Waking.{may_wait};
 ghost use Rattle.rd_queue_calls.specs.QueueSetCalls.{select_outcome, queue_set_outcome};
 ghost use Rattle.rd_queue_calls.specs.QueueSetCalls.{queue_set_call_cost};
 ghost use Rattle.rd_queue_calls.specs.QueueSetCalls.{has_no_handle, QueueSetCallChangesNothing};
-ghost use Rattle.rd_state.specs.Edit.{GivesUp};
-ghost use Rattle.rd_kernel.specs.Tasks.{KeepsPc};
+ghost use Rattle.rd_state.specs.EditingView.{GivesUp};
+ghost use Rattle.rd_kernel.specs.Tasks.{PcStays};
 
 use rd_app::app::Program;
 use rd_app::instr::{Operand, QueueSetCall};
@@ -37,7 +37,7 @@ fn select(
         queue_set_call_cost) }
     ensures no_handle { has_no_handle (queue_set_at editing.old.now queue_set) ≡ true
         → may_wait editing.old.now task wait ≡ false → IsOk result }
-    ensures stays { OnOk result (KeepsPc editing.old.now editing.new.now task) }
+    ensures stays { OnOk result (PcStays editing.old.now editing.new.now task) }
     ensures err { OnErr result (GivesUp editing.old editing.new queue_set_call_cost) }
 {
     if editing.state().queue_set(queue_set).count() == 0 {
@@ -66,7 +66,7 @@ pub fn call_queue_set(
         (queue_set_outcome (priorities_of app.now) editing.old.now task queue_set call)
         queue_set_call_cost) }
     ensures nothing { QueueSetCallChangesNothing editing.old.now task queue_set call → IsOk result }
-    ensures stays { OnOk result (KeepsPc editing.old.now editing.new.now task) }
+    ensures stays { OnOk result (PcStays editing.old.now editing.new.now task) }
     ensures err { OnErr result (GivesUp editing.old editing.new queue_set_call_cost) }
 {
     match call {

@@ -3,10 +3,10 @@ use Rattle.std.proofs.Common.{◌≡◌, ◌∙◌, refl, sym, subst, Bool, fals
 use Rattle.std.proofs.Common.{◌++◌, length, ap, arith, append_assoc, length-append}
 use Rattle.std.specs.Global.{Vec}
 use Rattle.rd_reply.specs.declared.page.Page.{Page}
-use Rattle.rd_reply.specs.Pages.{Appends, LacksRoom, KeepsFront}
+use Rattle.rd_reply.specs.Pages.{Appends, LacksRoom, PageFrontStays}
 
 kept_then : (old between new : Vec ℕ)
-    → KeepsFront old between → KeepsFront between new → KeepsFront old new
+    → PageFrontStays old between → PageFrontStays between new → PageFrontStays old new
 kept_then old between new first second = record {
   front = λ count within. second.front count (omega (arith, within, first.len))
       ∙ first.front count within;
@@ -25,7 +25,7 @@ full_at_first : (page : Vec ℕ) (s t : List ℕ) → LacksRoom page s → Lacks
 full_at_first page s t full = omega (arith, full, length-append s t)
 
 full_at_second : (old between : Vec ℕ) (s t : List ℕ) → between.items ≡ old.items ++ s
-    → KeepsFront old between
+    → PageFrontStays old between
     → LacksRoom between t → LacksRoom old (s ++ t)
 full_at_second old between s t is kept full =
     omega (

@@ -5,7 +5,7 @@ use Rattle.std.specs.Global.{Vec}
 use Rattle.rd_reply.specs.declared.page.Page.{Page}
 
 -- What the page had still stands in front, and there is no less room.
-pub record KeepsFront (old new : Vec ℕ) : Type 0 where
+pub record PageFrontStays (old new : Vec ℕ) : Type 0 where
   pub front : (count : ℕ) → count ≤ vec_len old → take count new.items ≡ take count old.items
   pub len : vec_len old ≤ vec_len new
   pub room : vec_capacity old ≤ vec_capacity new
@@ -20,4 +20,4 @@ pub record Appends (old new : Page) (text : List ℕ) : Type 0 where
   pub added : new.is_full ≡ false → new.bytes.now.items ≡ old.bytes.now.items ++ text
   pub full : new.is_full ≡ true → old.is_full ≡ false → LacksRoom old.bytes.now text
   pub stays : old.is_full ≡ true → new.is_full ≡ true
-  pub kept : KeepsFront old.bytes.now new.bytes.now
+  pub kept : PageFrontStays old.bytes.now new.bytes.now

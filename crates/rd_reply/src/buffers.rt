@@ -6,7 +6,7 @@ ghost use Rattle.hex.specs.Hex.{encode_lower};
 ghost use Rattle.rd_state.specs.Waiting.{IsHeld};
 ghost use Rattle.rd_reply.specs.Names.{numbers_named};
 ghost use Rattle.rd_reply.specs.Names.{HoldersAreNamed, IsNamedOrNone};
-ghost use Rattle.rd_reply.specs.Pages.{Appends, KeepsFront, LacksRoom};
+ghost use Rattle.rd_reply.specs.Pages.{Appends, PageFrontStays, LacksRoom};
 ghost use Rattle.rd_reply.specs.Replies.{bytes_text, holders_text, line_of, list_text};
 ghost use Rattle.rd_reply.specs.Replies.{held_text, message_side_name, stream_side_name};
 ghost use Rattle.rd_reply.specs.Replies.{message_contents_text, message_text};
@@ -110,7 +110,7 @@ pub fn show_stream(page: &mut Vec<u8>, names: &Names, name: &str, stream: &Strea
         ≡ page.old.items ++ line_of (stream_text names.now name.now stream.now)) }
     ensures full { OnErr result
         (LacksRoom page.old (line_of (stream_text names.now name.now stream.now))) }
-    ensures kept { KeepsFront page.old page.new }
+    ensures kept { PageFrontStays page.old page.new }
 {
     let mut line = Page::new(page);
     append_stream(&mut line, names, name, stream);
@@ -160,7 +160,7 @@ pub fn show_message(page: &mut Vec<u8>, names: &Names, name: &str, buffer: &Mess
         ≡ page.old.items ++ line_of (message_text names.now name.now buffer.now)) }
     ensures full { OnErr result
         (LacksRoom page.old (line_of (message_text names.now name.now buffer.now))) }
-    ensures kept { KeepsFront page.old page.new }
+    ensures kept { PageFrontStays page.old page.new }
 {
     let mut line = Page::new(page);
     append_message_buffer(&mut line, names, name, buffer);

@@ -4,7 +4,7 @@
 ghost use Rattle.std.specs.Prelude.{◌≡◌, ◌++◌, OnErr, OnOk};
 ghost use Rattle.std.specs.List.{zip};
 ghost use Rattle.rd_reply.specs.Names.{GroupIsNamed, IsNamed};
-ghost use Rattle.rd_reply.specs.Pages.{Appends, KeepsFront, LacksRoom};
+ghost use Rattle.rd_reply.specs.Pages.{Appends, PageFrontStays, LacksRoom};
 ghost use Rattle.rd_reply.specs.Replies.{group_text, line_of, list_text};
 ghost use Rattle.rd_reply.specs.Replies.{on_met_name, wait_for_name, waiter_text, wish_text};
 
@@ -81,7 +81,7 @@ pub fn show_group(page: &mut Vec<u8>, names: &Names, name: &str, group: &Group) 
         ≡ page.old.items ++ line_of (group_text names.now name.now group.now)) }
     ensures full { OnErr result
         (LacksRoom page.old (line_of (group_text names.now name.now group.now))) }
-    ensures kept { KeepsFront page.old page.new }
+    ensures kept { PageFrontStays page.old page.new }
 {
     let mut line = Page::new(page);
     append_group(&mut line, names, name, group);

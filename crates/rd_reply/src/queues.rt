@@ -6,7 +6,7 @@ ghost use Rattle.rd_reply.specs.Names.{name_at, IsNamed, QueueIsNamed, QueueSetI
 ghost use Rattle.rd_reply.specs.Replies.{line_of, list_text, bytes_text, contents_text};
 ghost use Rattle.rd_reply.specs.Replies.{waiting_text, membership_text, queue_text, handles_text};
 ghost use Rattle.rd_reply.specs.Replies.{selecting_text, queue_set_text};
-ghost use Rattle.rd_reply.specs.Pages.{Appends, LacksRoom, KeepsFront};
+ghost use Rattle.rd_reply.specs.Pages.{Appends, LacksRoom, PageFrontStays};
 
 use crate::page::Page;
 use crate::parts::{
@@ -54,7 +54,7 @@ pub fn show_queue(page: &mut Vec<u8>, names: &Names, name: &str, queue: &Queue) 
         ≡ page.old.items ++ line_of (queue_text names.now name.now queue.now)) }
     ensures full { OnErr result
         (LacksRoom page.old (line_of (queue_text names.now name.now queue.now))) }
-    ensures kept { KeepsFront page.old page.new }
+    ensures kept { PageFrontStays page.old page.new }
 {
     let mut line = Page::new(page);
     append_queue(&mut line, names, name, queue);
@@ -122,7 +122,7 @@ pub fn show_queue_set(
         ≡ page.old.items ++ line_of (queue_set_text names.now name.now queue_set.now)) }
     ensures full { OnErr result
         (LacksRoom page.old (line_of (queue_set_text names.now name.now queue_set.now))) }
-    ensures kept { KeepsFront page.old page.new }
+    ensures kept { PageFrontStays page.old page.new }
 {
     let mut line = Page::new(page);
     append_queue_set(&mut line, names, name, queue_set);

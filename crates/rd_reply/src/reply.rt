@@ -63,7 +63,7 @@ pub type ReplyLine = ArrayVec<u8, MAX_REPLY>;
 const MAX_DIGITS: usize = 20;
 
 // Where the line of a reply is put: behind others that are yet to be written, or by itself.
-trait Line {
+trait LineTarget {
     // What stands there.
     ghost text: { Self → List ℕ };
 
@@ -78,7 +78,7 @@ trait Line {
 }
 
 // (Inlined: most texts are a few bytes that are known where it is called.)
-impl Line for ReplyLine {
+impl LineTarget for ReplyLine {
     ghost use Rattle.rd_reply.specs.declared.reply.TheConstants.{MAX_REPLY};
 
     ghost text = { λ line. line.items };
@@ -91,7 +91,7 @@ impl Line for ReplyLine {
     }
 }
 
-impl Line for Vec<u8> {
+impl LineTarget for Vec<u8> {
     ghost text = { λ page. page.items };
 
     ghost room = { vec_capacity };
@@ -104,7 +104,7 @@ impl Line for Vec<u8> {
 
 // The functions below append to a line what their name says, which there is room for.
 
-fn append_number<L: Line>(line: &mut L, number: usize)
+fn append_number<L: LineTarget>(line: &mut L, number: usize)
     requires { length (L.text line.old) + MAX_DIGITS ≤ L.room line.old }
     ensures text { L.text line.new ≡ L.text line.old ++ decimal number }
     ensures len { length (L.text line.new) ≤ length (L.text line.old) + MAX_DIGITS }
@@ -114,7 +114,7 @@ fn append_number<L: Line>(line: &mut L, number: usize)
 }
 
 // The longest refusal is `TooFar ` with its number.
-fn append_refusal<L: Line>(line: &mut L, refusal: Refusal)
+fn append_refusal<L: LineTarget>(line: &mut L, refusal: Refusal)
     requires { length (L.text line.old) + 7 + MAX_DIGITS ≤ L.room line.old }
     ensures text { L.text line.new ≡ L.text line.old ++ refusal_text refusal }
     ensures len { length (L.text line.new) ≤ length (L.text line.old) + 7 + MAX_DIGITS }
@@ -149,7 +149,7 @@ fn append_refusal<L: Line>(line: &mut L, refusal: Refusal)
 }
 
 // How many moves are done now.
-fn append_done<L: Line>(line: &mut L, at: usize)
+fn append_done<L: LineTarget>(line: &mut L, at: usize)
     requires { length (L.text line.old) + 6 + MAX_DIGITS ≤ L.room line.old }
     ensures text { L.text line.new ≡ L.text line.old ++ done_text at }
     ensures len { length (L.text line.new) ≤ length (L.text line.old) + 6 + MAX_DIGITS }
@@ -160,7 +160,7 @@ fn append_done<L: Line>(line: &mut L, at: usize)
 }
 
 // How many moves are done now, and the answer that an interrupt had.
-fn append_answered<L: Line>(line: &mut L, at: usize, answer: u32)
+fn append_answered<L: LineTarget>(line: &mut L, at: usize, answer: u32)
     requires { length (L.text line.old) + 11 + 2 * MAX_DIGITS ≤ L.room line.old }
     ensures text { L.text line.new ≡ L.text line.old ++ answered_text at answer }
     ensures len { length (L.text line.new) ≤ length (L.text line.old) + 11 + 2 * MAX_DIGITS }
@@ -172,7 +172,7 @@ fn append_answered<L: Line>(line: &mut L, at: usize, answer: u32)
 }
 
 // How a search ended. No word is longer than `limit`.
-fn append_end<L: Line>(line: &mut L, end: SearchEnd)
+fn append_end<L: LineTarget>(line: &mut L, end: SearchEnd)
     requires { length (L.text line.old) + 5 ≤ L.room line.old }
     ensures text { L.text line.new ≡ L.text line.old ++ end_text end }
     ensures len { length (L.text line.new) ≤ length (L.text line.old) + 5 }
@@ -186,7 +186,7 @@ fn append_end<L: Line>(line: &mut L, end: SearchEnd)
 }
 
 // How many moves are done, undone, and kept.
-fn append_moves<L: Line>(line: &mut L, done: usize, undone: usize, kept: usize)
+fn append_moves<L: LineTarget>(line: &mut L, done: usize, undone: usize, kept: usize)
     requires { length (L.text line.old) + 20 + 3 * MAX_DIGITS ≤ L.room line.old }
     ensures text { L.text line.new ≡ L.text line.old ++ moves_text done undone kept }
     ensures len { length (L.text line.new) ≤ length (L.text line.old) + 20 + 3 * MAX_DIGITS }
@@ -201,7 +201,7 @@ fn append_moves<L: Line>(line: &mut L, done: usize, undone: usize, kept: usize)
 }
 
 // Which session has the wheel; `-` for nobody.
-fn append_holder<L: Line>(line: &mut L, holder: Option<u32>)
+fn append_holder<L: LineTarget>(line: &mut L, holder: Option<u32>)
     requires { length (L.text line.old) + 6 + MAX_DIGITS ≤ L.room line.old }
     ensures text { L.text line.new ≡ L.text line.old ++ holder_text holder }
     ensures len { length (L.text line.new) ≤ length (L.text line.old) + 6 + MAX_DIGITS }
@@ -215,7 +215,7 @@ fn append_holder<L: Line>(line: &mut L, holder: Option<u32>)
 }
 
 // Which watch it was.
-fn append_watch<L: Line>(line: &mut L, number: usize)
+fn append_watch<L: LineTarget>(line: &mut L, number: usize)
     requires { length (L.text line.old) + 9 + MAX_DIGITS ≤ L.room line.old }
     ensures text { L.text line.new ≡ L.text line.old ++ watch_text number }
     ensures len { length (L.text line.new) ≤ length (L.text line.old) + 9 + MAX_DIGITS }
@@ -226,7 +226,7 @@ fn append_watch<L: Line>(line: &mut L, number: usize)
 }
 
 // (The line is written where it is wanted, since one that is handed on is copied.)
-fn append_line<L: Line>(line: &mut L, reply: &Reply)
+fn append_line<L: LineTarget>(line: &mut L, reply: &Reply)
     requires { length (L.text line.old) + MAX_REPLY ≤ L.room line.old }
     ensures text { L.text line.new ≡ L.text line.old ++ line_of (reply_text reply.now) }
     ensures room { L.room line.old ≤ L.room line.new }

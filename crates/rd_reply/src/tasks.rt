@@ -9,7 +9,7 @@ ghost use Rattle.rd_reply.specs.Replies.{line_of, list_text, cause_text, deadlin
 ghost use Rattle.rd_reply.specs.Replies.{listed_text, place_text, phase_text, entry_text};
 ghost use Rattle.rd_reply.specs.Replies.{running_core_text, state_text, task_text, is_task};
 ghost use Rattle.rd_reply.specs.Replies.{ticks_text, cores_text};
-ghost use Rattle.rd_reply.specs.Pages.{Appends, LacksRoom, KeepsFront};
+ghost use Rattle.rd_reply.specs.Pages.{Appends, LacksRoom, PageFrontStays};
 
 use crate::buffers::append_held;
 use crate::page::Page;
@@ -184,7 +184,7 @@ pub fn show_task(
         ≡ page.old.items ++ line_of (task_text names.now name.now core task.now)) }
     ensures full { OnErr result
         (LacksRoom page.old (line_of (task_text names.now name.now core task.now))) }
-    ensures kept { KeepsFront page.old page.new }
+    ensures kept { PageFrontStays page.old page.new }
 {
     let mut line = Page::new(page);
     append_task(&mut line, names, name, core, task);
@@ -229,7 +229,7 @@ pub fn show_cores(page: &mut Vec<u8>, names: &Names, state: &State) -> Appended
         ≡ page.old.items ++ line_of (cores_text names.now state.now)) }
     ensures full { OnErr result
         (LacksRoom page.old (line_of (cores_text names.now state.now))) }
-    ensures kept { KeepsFront page.old page.new }
+    ensures kept { PageFrontStays page.old page.new }
 {
     let mut line = Page::new(page);
     append_cores(&mut line, names, state);

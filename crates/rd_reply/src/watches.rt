@@ -3,7 +3,7 @@
 
 ghost use Rattle.std.specs.Prelude.{◌≡◌, ◌++◌, OnErr, OnOk};
 ghost use Rattle.rd_reply.specs.Replies.{line_of, list_text, watch_shown_text, watches_text};
-ghost use Rattle.rd_reply.specs.Pages.{Appends, LacksRoom, KeepsFront};
+ghost use Rattle.rd_reply.specs.Pages.{Appends, LacksRoom, PageFrontStays};
 
 use crate::page::Page;
 use crate::parts::{Appended, append_comma, append_number};
@@ -53,7 +53,7 @@ pub fn show_watches(page: &mut Vec<u8>, watches: &[WatchShown]) -> Appended
     ensures text { OnOk result (page.new.items
         ≡ page.old.items ++ line_of (watches_text watches.now)) }
     ensures full { OnErr result (LacksRoom page.old (line_of (watches_text watches.now))) }
-    ensures kept { KeepsFront page.old page.new }
+    ensures kept { PageFrontStays page.old page.new }
 {
     let mut line = Page::new(page);
     append_watches(&mut line, watches);

@@ -98,7 +98,7 @@ impl ByteRing {
         self.len
     }
 
-    /// For how many more bytes there is room.
+    /// For how many more bytes there is space.
     pub fn space(&self) -> usize
         ensures { result + length self.now.bytes ≡ self.now.capacity }
     {

@@ -1,12 +1,12 @@
 //! Application files: what the program shows of one that it reads, and the texts of faults.
 
 use crate::asserts::assert_same;
-use crate::tasks::{Row, assert_rows};
+use crate::tasks::{FileRun, assert_rows};
 use rd_script::error::AppError;
 use std::test::Fail;
 
-const ROWS: [Row; 6] = [
-    Row {
+const ROWS: [FileRun; 6] = [
+    FileRun {
         name: "a thing has its name among those of its kind",
         app: concat!(
             r#"{"profile":1,"cores":1,"queues":[{"name":"q0","length":2,"item":1}],"#,
@@ -17,7 +17,7 @@ const ROWS: [Row; 6] = [
                   task t0 core 0 pc 0 phase run regs 0,0,0,0,0,0,0,0 data - notes 0:idle\n\
                   no NoSuch\nno NoSuch\n",
     },
-    Row {
+    FileRun {
         name: "a set may have the name of a queue",
         app: concat!(
             r#"{"profile":1,"cores":1,"queues":[{"name":"q0","length":1,"item":1},"#,
@@ -31,7 +31,7 @@ const ROWS: [Row; 6] = [
                   queue q0 0/1 items - recv - send - set -\n\
                   queue q1 0/1 items - recv - send - set s0\n",
     },
-    Row {
+    FileRun {
         name: "sizes of buffers, and their names",
         app: concat!(
             r#"{"profile":1,"cores":1,"streams":[{"name":"b0","size":1,"trigger":0},"#,
@@ -47,7 +47,7 @@ const ROWS: [Row; 6] = [
                   message m1 0/1024 messages - reader - writer -\n\
                   no NoSuch\nno NoSuch\nno NoSuch\nno Syntax\nno Syntax\n",
     },
-    Row {
+    FileRun {
         name: "event groups, and their names",
         app: concat!(
             r#"{"profile":1,"cores":1,"groups":[{"name":"g0"},{"name":"t0"}],"#,
@@ -59,7 +59,7 @@ const ROWS: [Row; 6] = [
                   task t0 core 0 pc 0 phase run regs 0,0,0,0,0,0,0,0 data - notes 0:idle\n\
                   no NoSuch\nno NoSuch\nno Syntax\nno Syntax\n",
     },
-    Row {
+    FileRun {
         name: "spaces around the words of an instruction",
         app: concat!(
             r#"{"profile":1,"cores":1,"tasks":[{"name":"t0","priority":1,"#,
@@ -73,7 +73,7 @@ const ROWS: [Row; 6] = [
                   task t0 core - pc 3 phase ended regs 0,258,258,0,0,0,0,0 data 02010000 \
                   notes 0:idle\n",
     },
-    Row {
+    FileRun {
         name: "block times",
         app: concat!(
             r#"{"profile":1,"cores":1,"queues":[{"name":"q0","length":1,"item":1}],"#,

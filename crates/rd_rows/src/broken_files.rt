@@ -1,7 +1,7 @@
 //! Application files that are damaged: each is refused by its fault, wherever the damage is.
 
 use crate::programs::{assert_ending, run_file};
-use crate::refused_files::{LIMIT, NAME, NOT_JSON, Refused, SHAPE, assert_refused};
+use crate::refused_files::{LIMIT, NAME, NOT_JSON, RefusedFile, SHAPE, assert_refused};
 use std::test::Fail;
 
 // A file that is an application.
@@ -9,31 +9,31 @@ const WHOLE: &str =
     r#"{"profile":1,"cores":1,"tasks":[{"name":"t0","priority":1,"code":["end"]}]}"#;
 
 // Files that are JSON, and no application.
-const DAMAGED: [Refused; 6] = [
-    Refused {
+const DAMAGED: [RefusedFile; 6] = [
+    RefusedFile {
         text: "[]",
         errors: SHAPE,
     },
-    Refused {
+    RefusedFile {
         text: r#"{"profile":3,"cores":1,"tasks":[{"name":"t0","priority":1,"code":["end"]}]}"#,
         errors: LIMIT,
     },
-    Refused {
+    RefusedFile {
         text: r#"{"profile":1,"cores":1.5,"tasks":[{"name":"t0","priority":1,"code":["end"]}]}"#,
         errors: SHAPE,
     },
-    Refused {
+    RefusedFile {
         text: concat!(
             r#"{"profile":1,"cores":1,"x":1,"#,
             r#""tasks":[{"name":"t0","priority":1,"code":["end"]}]}"#
         ),
         errors: SHAPE,
     },
-    Refused {
+    RefusedFile {
         text: r#"{"profile":1,"cores":1,"tasks":[{"name":"é","priority":1,"code":["end"]}]}"#,
         errors: NAME,
     },
-    Refused {
+    RefusedFile {
         text: r#"{"profile":1,"cores":1,"tasks":[{"name":"t0","priority":1,"code":[]}]}"#,
         errors: LIMIT,
     },

@@ -1,11 +1,11 @@
 //! Runs of applications whose tasks wait at stream and message buffers: whose the places are, what
 //! ends a wait, what becomes of a call whose time is up, and the way back.
 
-use crate::tasks::{Row, assert_rows};
+use crate::tasks::{FileRun, assert_rows};
 use std::test::Fail;
 
-const ROWS: [Row; 11] = [
-    Row {
+const ROWS: [FileRun; 11] = [
+    FileRun {
         name: "foreign_notification_ends_a_read",
         app: concat!(
             r#"{"profile":1,"cores":2,"streams":[{"name":"b0","size":8,"trigger":0}],"#,
@@ -30,7 +30,7 @@ const ROWS: [Row; 11] = [
                   task t0 core 0 pc 1 phase run regs 0,0,0,0,0,0,0,0 data - notes 0:idle\n\
                   stream b0 0/8 trigger 1 bytes - reader - writer -\n",
     },
-    Row {
+    FileRun {
         name: "writer_times_out",
         app: concat!(
             r#"{"profile":1,"cores":2,"streams":[{"name":"b0","size":4,"trigger":1}],"#,
@@ -65,7 +65,7 @@ const ROWS: [Row; 11] = [
                   task t0 core 0 pc 2 phase again:1 regs 4,0,0,0,0,0,0,0 data 0102030405 \
                   notes 0:waiting\n",
     },
-    Row {
+    FileRun {
         name: "two_readers",
         app: concat!(
             r#"{"profile":1,"cores":2,"streams":[{"name":"b0","size":4,"trigger":1}],"#,
@@ -84,7 +84,7 @@ const ROWS: [Row; 11] = [
                   stream b0 0/4 trigger 1 bytes - reader t0 writer -\n\
                   cores -,t1 ready - tick 0 turn 1\n",
     },
-    Row {
+    FileRun {
         name: "two_writers",
         app: concat!(
             r#"{"profile":1,"cores":2,"streams":[{"name":"b0","size":1,"trigger":1}],"#,
@@ -103,7 +103,7 @@ const ROWS: [Row; 11] = [
                   ok at 4\n\
                   task t1 core 1 pc 1 phase run regs 0,0,0,0,0,0,0,0 data 02 notes 0:idle\n",
     },
-    Row {
+    FileRun {
         name: "a writer that tries again finds another",
         app: concat!(
             r#"{"profile":1,"cores":2,"streams":[{"name":"b0","size":1,"trigger":1}],"#,
@@ -128,7 +128,7 @@ const ROWS: [Row; 11] = [
                   task t0 core 0 pc 2 phase again:max regs 1,0,0,0,0,0,0,0 data 01 \
                   notes 0:received\n",
     },
-    Row {
+    FileRun {
         name: "a writer waits again, until the old deadline",
         app: concat!(
             r#"{"profile":1,"cores":2,"streams":[{"name":"b0","size":4,"trigger":1}],"#,
@@ -161,7 +161,7 @@ const ROWS: [Row; 11] = [
                   ok at 4\n\
                   stream b0 3/4 trigger 1 bytes 010203 reader - writer t0\n",
     },
-    Row {
+    FileRun {
         name: "a writer whose time is up writes what fits",
         app: concat!(
             r#"{"profile":1,"cores":1,"streams":[{"name":"b0","size":4,"trigger":1}],"#,
@@ -181,7 +181,7 @@ const ROWS: [Row; 11] = [
                   task t0 core 0 pc 3 phase again:1 regs 3,1,0,0,0,0,0,0 data 010203 \
                   notes 0:waiting\n",
     },
-    Row {
+    FileRun {
         name: "a reader whose time is up takes what is there",
         app: concat!(
             r#"{"profile":1,"cores":2,"streams":[{"name":"b0","size":4,"trigger":2}],"#,
@@ -206,7 +206,7 @@ const ROWS: [Row; 11] = [
                   task t0 core - pc 0 phase wait:sread:b0:1 regs 0,0,0,0,0,0,0,0 data - \
                   notes 0:waiting\n",
     },
-    Row {
+    FileRun {
         name: "a reader and a writer wait for one another",
         app: concat!(
             r#"{"profile":1,"cores":2,"streams":[{"name":"b0","size":4,"trigger":4}],"#,
@@ -224,7 +224,7 @@ const ROWS: [Row; 11] = [
                   stream b0 3/4 trigger 4 bytes 010203 reader t0 writer -\n\
                   task t1 core 1 pc 3 phase run regs 3,0,0,0,0,0,0,0 data 0405 notes 0:idle\n",
     },
-    Row {
+    FileRun {
         name: "the value of entry 0 stays",
         app: concat!(
             r#"{"profile":1,"cores":2,"streams":[{"name":"b0","size":4,"trigger":1}],"#,
@@ -252,7 +252,7 @@ const ROWS: [Row; 11] = [
                   task t0 core 0 pc 1 phase run regs 1,0,0,0,0,0,0,0 data - notes 5:received\n\
                   stream b0 0/4 trigger 1 bytes - reader - writer -\n",
     },
-    Row {
+    FileRun {
         name: "a reset of a stream buffer wants its reader's place empty too",
         app: concat!(
             r#"{"profile":1,"cores":2,"streams":[{"name":"b0","size":4,"trigger":4}],"#,

@@ -1,11 +1,11 @@
 //! Runs of applications with stream buffers: what is written and read, who waits and who is told,
 //! and the way back. Two are of message buffers too.
 
-use crate::tasks::{Row, assert_rows};
+use crate::tasks::{FileRun, assert_rows};
 use std::test::Fail;
 
-const ROWS: [Row; 9] = [
-    Row {
+const ROWS: [FileRun; 9] = [
+    FileRun {
         name: "trigger_level",
         app: concat!(
             r#"{"profile":1,"cores":1,"streams":[{"name":"b0","size":8,"trigger":4}],"#,
@@ -36,7 +36,7 @@ const ROWS: [Row; 9] = [
                   task t0 core - pc 0 phase wait:sread:b0:max regs 0,0,0,0,0,0,0,0 data - \
                   notes 0:waiting\n",
     },
-    Row {
+    FileRun {
         name: "message_too_long_for_its_reader",
         app: concat!(
             r#"{"profile":1,"cores":1,"messages":[{"name":"m0","size":10}],"#,
@@ -67,7 +67,7 @@ const ROWS: [Row; 9] = [
                   ok at 2\n\
                   message m0 0/10 messages - reader - writer -\n",
     },
-    Row {
+    FileRun {
         name: "stream_wraps",
         app: concat!(
             r#"{"profile":1,"cores":1,"streams":[{"name":"b0","size":4,"trigger":1}],"#,
@@ -82,7 +82,7 @@ const ROWS: [Row; 9] = [
                   ok at 2\n\
                   stream b0 3/4 trigger 1 bytes 010203 reader - writer -\n",
     },
-    Row {
+    FileRun {
         name: "data of no bytes is not written",
         app: concat!(
             r#"{"profile":1,"cores":2,"streams":[{"name":"b0","size":4,"trigger":1}],"#,
@@ -104,7 +104,7 @@ const ROWS: [Row; 9] = [
                   task t0 core 0 pc 0 phase run regs 0,0,0,0,0,0,0,0 data - notes 0:idle\n\
                   task t1 core 1 pc 0 phase run regs 0,0,0,0,0,0,0,0 data - notes 0:idle\n",
     },
-    Row {
+    FileRun {
         name: "a write without a block time writes what fits",
         app: concat!(
             r#"{"profile":1,"cores":1,"streams":[{"name":"b0","size":4,"trigger":1}],"#,
@@ -122,7 +122,7 @@ const ROWS: [Row; 9] = [
                   ok at 2\n\
                   stream b0 3/4 trigger 1 bytes 010203 reader - writer -\n",
     },
-    Row {
+    FileRun {
         name: "a read of nothing leaves the data",
         app: concat!(
             r#"{"profile":1,"cores":1,"streams":[{"name":"b0","size":4,"trigger":1}],"#,
@@ -143,7 +143,7 @@ const ROWS: [Row; 9] = [
                   task t0 core 0 pc 2 phase again:1 regs 0,0,0,0,0,0,0,0 data 07 notes 0:waiting\n\
                   stream b0 0/4 trigger 1 bytes - reader t0 writer -\n",
     },
-    Row {
+    FileRun {
         name: "trigger levels at their ends",
         app: concat!(
             r#"{"profile":1,"cores":1,"streams":[{"name":"b0","size":4,"trigger":2}],"#,
@@ -174,7 +174,7 @@ const ROWS: [Row; 9] = [
                   ok at 0\n\
                   stream b0 0/4 trigger 2 bytes - reader - writer -\n",
     },
-    Row {
+    FileRun {
         name: "a lower trigger level counts at the next write",
         app: concat!(
             r#"{"profile":1,"cores":2,"streams":[{"name":"b0","size":8,"trigger":8}],"#,
@@ -193,7 +193,7 @@ const ROWS: [Row; 9] = [
                   ok at 3\n\
                   stream b0 1/8 trigger 8 bytes 01 reader t0 writer -\n",
     },
-    Row {
+    FileRun {
         name: "bytes and spaces of a stream buffer",
         app: concat!(
             r#"{"profile":1,"cores":1,"streams":[{"name":"b0","size":8,"trigger":1}],"#,

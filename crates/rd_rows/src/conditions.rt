@@ -1,6 +1,6 @@
 //! Conditions: what each looks at, how it compares, and what it is refused for.
 
-use crate::tasks::{Row, assert_rows};
+use crate::tasks::{FileRun, assert_rows};
 use std::test::Fail;
 
 // One task that fills a thing after the other, each instruction followed by a tick.
@@ -21,8 +21,8 @@ const PHASES: &str = concat!(
     r#"{"name":"t1","priority":1,"code":["gset g0 1","jump 1"]}]}"#,
 );
 
-const OF_OBJECTS: [Row; 4] = [
-    Row {
+const OF_OBJECTS: [FileRun; 4] = [
+    FileRun {
         name: "items",
         app: FILLS,
         commands: "until count q0 > 0 2\nuntil count q0 = 1 9\nuntil count q0 > 1 1\n\
@@ -31,21 +31,21 @@ const OF_OBJECTS: [Row; 4] = [
         replies: "ok at 2 limit\nok at 3 met\nok at 4 limit\nok at 2 met\nok at 0 start\n\
                   no NoSuch\nno NoSuch\nno Syntax\nno Syntax\n",
     },
-    Row {
+    FileRun {
         name: "bytes",
         app: FILLS,
         commands: "until bytes b0 = 2 9\nuntil bytes b0 < 2 1\nback until bytes b0 = 0\n\
                    until bytes b0 > 1 9\nuntil bytes q0 = 0 1\nuntil bytes b0 2 1\n",
         replies: "ok at 5 met\nok at 6 limit\nok at 4 met\nok at 5 met\nno NoSuch\nno Syntax\n",
     },
-    Row {
+    FileRun {
         name: "messages",
         app: FILLS,
         commands: "until msgs m0 = 1 9\nuntil msgs m0 > 1 1\nback until msgs m0 < 1\n\
                    until msgs b0 = 0 1\nuntil msgs m0 =1 1\n",
         replies: "ok at 7 met\nok at 8 limit\nok at 6 met\nno NoSuch\nno Syntax\n",
     },
-    Row {
+    FileRun {
         name: "bits",
         app: FILLS,
         commands: "until bits g0 = 5 9\nuntil bits g0 > 5 1\nback until bits g0 < 5\n\
@@ -54,29 +54,29 @@ const OF_OBJECTS: [Row; 4] = [
     },
 ];
 
-const OF_TASKS: [Row; 4] = [
-    Row {
+const OF_TASKS: [FileRun; 4] = [
+    FileRun {
         name: "a register",
         app: FILLS,
         commands: "until reg t0 1 = 3 20\nuntil reg t0 1 > 3 1\nback until reg t0 1 < 3\n\
                    until reg t0 8 = 0 1\nuntil reg t2 0 = 0 1\nuntil reg t0 r1 = 0 1\n",
         replies: "ok at 13 met\nok at 14 limit\nok at 12 met\nno NoSuch\nno NoSuch\nno Syntax\n",
     },
-    Row {
+    FileRun {
         name: "the next instruction",
         app: FILLS,
         commands: "until pc t0 = 3 20\nuntil pc t0 > 3 1\nback until pc t0 < 3\n\
                    until pc t2 = 0 1\nuntil pc t0 1 = 0 1\n",
         replies: "ok at 5 met\nok at 6 limit\nok at 4 met\nno NoSuch\nno Syntax\n",
     },
-    Row {
+    FileRun {
         name: "an entry",
         app: FILLS,
         commands: "until note t0 1 = 9 20\nuntil note t0 0 > 0 1\nback until note t0 1 < 9\n\
                    until note t0 2 = 0 1\nuntil note t2 0 = 0 1\nuntil note t0 = 0 1\n",
         replies: "ok at 11 met\nok at 12 limit\nok at 10 met\nno NoSuch\nno NoSuch\nno Syntax\n",
     },
-    Row {
+    FileRun {
         name: "the tick",
         app: FILLS,
         commands: "until tick = 3 20\nuntil tick > 3 1\nback until tick < 3\nuntil tick t0 = 0 1\n",
@@ -84,8 +84,8 @@ const OF_TASKS: [Row; 4] = [
     },
 ];
 
-const OF_PHASES: [Row; 2] = [
-    Row {
+const OF_PHASES: [FileRun; 2] = [
+    FileRun {
         name: "a phase",
         app: FILLS,
         commands: "until phase t0 run 1\nuntil phase t0 ended 30\nback until phase t0 run\n\
@@ -94,7 +94,7 @@ const OF_PHASES: [Row; 2] = [
         replies: "ok at 1 met\nok at 15 met\nok at 14 met\nno NoSuch\nno Syntax\nno Syntax\n\
                   no Syntax\n",
     },
-    Row {
+    FileRun {
         name: "every phase",
         app: PHASES,
         commands: "until phase t0 wait 9\nuntil phase t0 given 9\nuntil phase t0 run 9\n\

@@ -1,7 +1,7 @@
 //! Lines that come in pieces, cut anywhere.
 
-use crate::memory::{Pieces, Source};
-use crate::rows::{Session, UNDO_TO_BOOT, answers};
+use crate::memory::{MemorySource, Pieces};
+use crate::rows::{ScriptedSession, UNDO_TO_BOOT, answers};
 use crate::runs::{EDIT_FORGETS_THE_UNDONE, EDIT_FORGETS_THE_UNDONE_REPLIES};
 use crate::watches::{WATCHES, WATCHES_REPLIES};
 use std::alloc::AllocGlobal;
@@ -12,14 +12,14 @@ use std::sync::Wait;
 use std::thread::Threads;
 use std::time::Clock;
 
-const SCRIPTS: [Session; 3] = [
+const SCRIPTS: [ScriptedSession; 3] = [
     UNDO_TO_BOOT,
-    Session {
+    ScriptedSession {
         name: "edit_forgets_the_undone",
         lines: EDIT_FORGETS_THE_UNDONE,
         replies: EDIT_FORGETS_THE_UNDONE_REPLIES,
     },
-    Session {
+    ScriptedSession {
         name: "watches",
         lines: WATCHES,
         replies: WATCHES_REPLIES,
@@ -33,7 +33,7 @@ where
     H: Net<Listener = TcpListener, Stream = TcpStream>,
 {
     for chunk in 1..=lines.len() {
-        let mut source = Source::new(lines);
+        let mut source = MemorySource::new(lines);
         source.chunk = chunk;
         let found = answers(rt, &mut source);
         assert_eq!(rt; found.as_slice(), replies, "{name}, {chunk} a read");
@@ -62,7 +62,7 @@ where
 #[test]
 fn each_cut(rt: HostRuntime) {
     for script in &SCRIPTS {
-        let Session {
+        let ScriptedSession {
             name,
             lines,
             replies,

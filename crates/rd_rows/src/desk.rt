@@ -24,7 +24,7 @@ use std::test::Fail;
 
 // A line that a session asks, and what it is answered.
 #[derive(Clone, Copy)]
-struct Asked {
+struct AskedLine {
     who: u32,
     line: &'static str,
     reply: &'static str,
@@ -86,7 +86,7 @@ pub fn line_of<H: AllocGlobal>(rt: &H, reply: &DeskReply) -> Result<Vec<u8>, All
 fn assert_answer<H: AllocGlobal + Abort>(
     rt: &H,
     receipt: &Receipt,
-    asked: Asked,
+    asked: AskedLine,
 ) -> Result<(), Fail> {
     let line = line_of(rt, &receipt.entry.reply)?;
     assert_eq!(rt;
@@ -130,7 +130,11 @@ fn ask<H: AllocGlobal + Abort>(
 }
 
 // The session is answered so.
-fn assert_asked<H: AllocGlobal + Abort>(rt: &H, desk: &mut Desk, asked: Asked) -> Result<(), Fail> {
+fn assert_asked<H: AllocGlobal + Abort>(
+    rt: &H,
+    desk: &mut Desk,
+    asked: AskedLine,
+) -> Result<(), Fail> {
     let place = desk.entries();
     assert_present(rt, desk, asked.who);
     match ask(rt, desk, asked.who, asked.line) {
@@ -145,7 +149,7 @@ fn assert_asked<H: AllocGlobal + Abort>(rt: &H, desk: &mut Desk, asked: Asked) -
 fn assert_all_asked<H: AllocGlobal + Abort>(
     rt: &H,
     desk: &mut Desk,
-    all: &[Asked],
+    all: &[AskedLine],
 ) -> Result<(), Fail> {
     for asked in all {
         assert_asked(rt, desk, *asked)?;
@@ -157,7 +161,7 @@ fn assert_all_asked<H: AllocGlobal + Abort>(
 fn two_sessions<H: AllocGlobal + Abort>(
     rt: &H,
     desk: &mut Desk,
-    all: &[Asked],
+    all: &[AskedLine],
 ) -> Result<(), Fail> {
     assert_enters(rt, desk, 1);
     assert_enters(rt, desk, 2);
@@ -167,35 +171,35 @@ fn two_sessions<H: AllocGlobal + Abort>(
     Ok(())
 }
 
-const THE_WHEEL: [Asked; 5] = [
-    Asked {
+const THE_WHEEL: [AskedLine; 5] = [
+    AskedLine {
         who: 1,
         line: "wheel take",
         reply: "ok wheel\n",
     },
-    Asked {
+    AskedLine {
         who: 2,
         line: "step 0",
         reply: "no Held 1\n",
     },
-    Asked {
+    AskedLine {
         who: 2,
         line: "show wheel",
         reply: "wheel 1\n",
     },
-    Asked {
+    AskedLine {
         who: 1,
         line: "poke reg t0 0 7",
         reply: "ok at 1\n",
     },
-    Asked {
+    AskedLine {
         who: 1,
         line: "show task t0",
         reply: "task t0 core 0 pc 0 phase run regs 7,0,0,0,0,0,0,0 data - notes 0:idle\n",
     },
 ];
 
-// Who takes the wheel keeps moves from the others, who look as they like.
+// Who takes the wheel makes moves alone; the others look as they like.
 #[test]
 fn the_wheel(rt: HostRuntime) -> Result<(), Fail> {
     let mut desk = open(&rt, 100)?;
@@ -206,93 +210,93 @@ fn the_wheel(rt: HostRuntime) -> Result<(), Fail> {
 }
 
 // What the wheel refuses comes before all other refusals. It refuses no view and no watch.
-const HELD: [Asked; 18] = [
-    Asked {
+const HELD: [AskedLine; 18] = [
+    AskedLine {
         who: 2,
         line: "wheel take",
         reply: "ok wheel\n",
     },
-    Asked {
+    AskedLine {
         who: 2,
         line: "wheel take",
         reply: "ok wheel\n",
     },
-    Asked {
+    AskedLine {
         who: 1,
         line: "wheel take",
         reply: "no Held 2\n",
     },
-    Asked {
+    AskedLine {
         who: 1,
         line: "wheel give",
         reply: "no NotHolder\n",
     },
-    Asked {
+    AskedLine {
         who: 1,
         line: "step 9",
         reply: "no Held 2\n",
     },
-    Asked {
+    AskedLine {
         who: 1,
         line: "until w0 1",
         reply: "no Held 2\n",
     },
-    Asked {
+    AskedLine {
         who: 1,
         line: "back 1",
         reply: "no Held 2\n",
     },
-    Asked {
+    AskedLine {
         who: 1,
         line: "redo 1",
         reply: "no Held 2\n",
     },
-    Asked {
+    AskedLine {
         who: 1,
         line: "trim 1",
         reply: "no Held 2\n",
     },
-    Asked {
+    AskedLine {
         who: 1,
         line: "poke pc t9 0",
         reply: "no Held 2\n",
     },
-    Asked {
+    AskedLine {
         who: 1,
         line: "isr send q9 41",
         reply: "no Held 2\n",
     },
-    Asked {
+    AskedLine {
         who: 1,
         line: "watch tick = 0",
         reply: "ok watch 0\n",
     },
-    Asked {
+    AskedLine {
         who: 1,
         line: "unwatch 1",
         reply: "no NoWatch\n",
     },
-    Asked {
+    AskedLine {
         who: 1,
         line: "show cores",
         reply: "cores t0 ready - tick 0 turn 0\n",
     },
-    Asked {
+    AskedLine {
         who: 2,
         line: "forward 1",
         reply: "ok at 1\n",
     },
-    Asked {
+    AskedLine {
         who: 2,
         line: "wheel give",
         reply: "ok wheel\n",
     },
-    Asked {
+    AskedLine {
         who: 1,
         line: "show wheel",
         reply: "wheel -\n",
     },
-    Asked {
+    AskedLine {
         who: 1,
         line: "back 1",
         reply: "ok at 0\n",
@@ -309,38 +313,38 @@ fn held(rt: HostRuntime) -> Result<(), Fail> {
 }
 
 // One session trims, and another goes back too far.
-const TRIMMED: [Asked; 7] = [
-    Asked {
+const TRIMMED: [AskedLine; 7] = [
+    AskedLine {
         who: 2,
         line: "forward 3",
         reply: "ok at 3\n",
     },
-    Asked {
+    AskedLine {
         who: 1,
         line: "trim 1",
         reply: "ok at 3\n",
     },
-    Asked {
+    AskedLine {
         who: 2,
         line: "back 2",
         reply: "no TooFar 1\n",
     },
-    Asked {
+    AskedLine {
         who: 2,
         line: "show moves",
         reply: "moves 3 undone 0 kept 1\n",
     },
-    Asked {
+    AskedLine {
         who: 2,
         line: "back 1",
         reply: "ok at 2\n",
     },
-    Asked {
+    AskedLine {
         who: 1,
         line: "back until tick = 9",
         reply: "ok at 2 start\n",
     },
-    Asked {
+    AskedLine {
         who: 1,
         line: "redo 1",
         reply: "ok at 3\n",
@@ -357,53 +361,53 @@ fn trimmed_by_another(rt: HostRuntime) -> Result<(), Fail> {
 }
 
 // Watches are numbered in each session by itself, and no other session sees or drops them.
-const OWN_WATCHES: [Asked; 10] = [
-    Asked {
+const OWN_WATCHES: [AskedLine; 10] = [
+    AskedLine {
         who: 1,
         line: "watch tick > 0",
         reply: "ok watch 0\n",
     },
-    Asked {
+    AskedLine {
         who: 2,
         line: "watch tick = 0",
         reply: "ok watch 0\n",
     },
-    Asked {
+    AskedLine {
         who: 2,
         line: "watch pc t0 = 0",
         reply: "ok watch 1\n",
     },
-    Asked {
+    AskedLine {
         who: 1,
         line: "show watches",
         reply: "watches 0:fails\n",
     },
-    Asked {
+    AskedLine {
         who: 2,
         line: "show watches",
         reply: "watches 0:holds,1:holds\n",
     },
-    Asked {
+    AskedLine {
         who: 1,
         line: "unwatch 1",
         reply: "no NoWatch\n",
     },
-    Asked {
+    AskedLine {
         who: 1,
         line: "unwatch 0",
         reply: "ok watch 0\n",
     },
-    Asked {
+    AskedLine {
         who: 1,
         line: "show watches",
         reply: "watches -\n",
     },
-    Asked {
+    AskedLine {
         who: 2,
         line: "unwatch 0",
         reply: "ok watch 0\n",
     },
-    Asked {
+    AskedLine {
         who: 2,
         line: "show watches",
         reply: "watches 1:holds\n",
@@ -419,36 +423,36 @@ fn own_watches(rt: HostRuntime) -> Result<(), Fail> {
     ended
 }
 
-const BEFORE_DEPARTURE: [Asked; 2] = [
-    Asked {
+const BEFORE_DEPARTURE: [AskedLine; 2] = [
+    AskedLine {
         who: 1,
         line: "wheel take",
         reply: "ok wheel\n",
     },
-    Asked {
+    AskedLine {
         who: 1,
         line: "watch tick = 0",
         reply: "ok watch 0\n",
     },
 ];
 
-const AFTER_DEPARTURE: [Asked; 4] = [
-    Asked {
+const AFTER_DEPARTURE: [AskedLine; 4] = [
+    AskedLine {
         who: 2,
         line: "show wheel",
         reply: "wheel -\n",
     },
-    Asked {
+    AskedLine {
         who: 3,
         line: "show watches",
         reply: "watches -\n",
     },
-    Asked {
+    AskedLine {
         who: 3,
         line: "wheel take",
         reply: "ok wheel\n",
     },
-    Asked {
+    AskedLine {
         who: 2,
         line: "tick",
         reply: "no Held 3\n",
@@ -465,7 +469,7 @@ fn depart_and_enter<H: AllocGlobal + Abort>(rt: &H, desk: &mut Desk) -> Result<(
     assert_enters(rt, desk, 3);
     assert_all_asked(rt, desk, &AFTER_DEPARTURE)?;
     assert_departs(rt, desk, 2);
-    let asked = Asked {
+    let asked = AskedLine {
         who: 3,
         line: "show wheel",
         reply: "wheel 3\n",

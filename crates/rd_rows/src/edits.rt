@@ -1,6 +1,6 @@
 //! Edits by hand: each with its refusals, and the way back.
 
-use crate::tasks::{Row, assert_rows};
+use crate::tasks::{FileRun, assert_rows};
 use std::test::Fail;
 
 // One task that fills a queue and a stream buffer, and one that waits for bits.
@@ -12,8 +12,8 @@ const PARTS: &str = concat!(
     r#"{"name":"t1","priority":1,"code":["gwait g0 4 any keep max","end"]}]}"#,
 );
 
-const OF_TASKS: [Row; 4] = [
-    Row {
+const OF_TASKS: [FileRun; 4] = [
+    FileRun {
         name: "a register",
         app: PARTS,
         commands: "poke reg t0 7 4294967295\nshow task t0\nback 1\nshow task t0\npoke reg t0 8 1\n\
@@ -26,7 +26,7 @@ const OF_TASKS: [Row; 4] = [
                   no NoSuch\nno NoSuch\nno NoSuch\nno Syntax\nno Syntax\nno Syntax\n\
                   moves 0 undone 1 kept 0\n",
     },
-    Row {
+    FileRun {
         name: "the data",
         app: PARTS,
         commands: "poke data t1 00fF7a\nshow task t1\npoke data t1 -\nshow task t1\nback 1\n\
@@ -39,7 +39,7 @@ const OF_TASKS: [Row; 4] = [
                   task t1 core 1 pc 0 phase run regs 0,0,0,0,0,0,0,0 data 00ff7a \
                   notes 0:idle,0:idle\nno NoSuch\nno Syntax\nno Syntax\n",
     },
-    Row {
+    FileRun {
         name: "the next instruction",
         app: PARTS,
         commands: "poke pc t0 4\nshow task t0\nstep 0\nshow task t0\npoke pc t0 5\nstep 1\n\
@@ -51,7 +51,7 @@ const OF_TASKS: [Row; 4] = [
                   no BadEdit\nok at 3\nno BadEdit\nno NoSuch\nno Syntax\nok at 0\n\
                   task t0 core 0 pc 0 phase run regs 0,0,0,0,0,0,0,0 data - notes 0:idle,0:idle\n",
     },
-    Row {
+    FileRun {
         name: "the value of an entry",
         app: PARTS,
         commands: "poke note t0 1 4294967295\nshow task t0\npoke note t0 2 1\npoke note t9 0 1\n\
@@ -70,8 +70,8 @@ fn of_tasks(rt: HostRuntime) -> Result<(), Fail> {
     assert_rows(&rt, &OF_TASKS)
 }
 
-const OF_OBJECTS: [Row; 3] = [
-    Row {
+const OF_OBJECTS: [FileRun; 3] = [
+    FileRun {
         name: "bits wake nobody until they are set",
         app: PARTS,
         commands: "step 1\npoke group g0 4\nshow group g0\nshow cores\nstep 0\nstep 0\nstep 0\n\
@@ -85,7 +85,7 @@ const OF_OBJECTS: [Row; 3] = [
                   notes 0:idle,0:idle\nok at 1\ngroup g0 bits 0 wait t1:4:any:keep\nok at 2\n\
                   no BadEdit\nno NoSuch\nno Syntax\n",
     },
-    Row {
+    FileRun {
         name: "an item",
         app: PARTS,
         commands: "step 0\nstep 0\npoke item q0 0 ff00\nshow queue q0\npoke item q0 1 ff00\n\
@@ -96,7 +96,7 @@ const OF_OBJECTS: [Row; 3] = [
                   no BadEdit\nno BadEdit\nno BadEdit\nno BadEdit\nno NoSuch\nno NoSuch\n\
                   no Syntax\nok at 2\nqueue q0 1/2 items 4142 recv - send - set -\n",
     },
-    Row {
+    FileRun {
         name: "a byte",
         app: PARTS,
         commands: "step 0\nstep 0\nstep 0\npoke byte b0 1 255\nshow stream b0\npoke byte b0 1 256\n\

@@ -2,7 +2,7 @@
 
 use crate::asserts::assert_same;
 use crate::attending::whole_lines;
-use crate::memory::{Source, Target};
+use crate::memory::{MemorySource, MemoryTarget};
 use crate::rows::run;
 use std::alloc::{AllocError, AllocGlobal, Global};
 use std::io;
@@ -40,8 +40,8 @@ fn first_replies(alloc: Global, count: usize) -> Result<Vec<u8>, AllocError> {
 }
 
 // The lines, of which so many reads can be made.
-fn source_of(reads: usize) -> Source<'static> {
-    let mut source = Source::new(LINES.as_bytes());
+fn source_of(reads: usize) -> MemorySource<'static> {
+    let mut source = MemorySource::new(LINES.as_bytes());
     source.chunk = CHUNK;
     source.reads = reads;
     source
@@ -54,7 +54,7 @@ where
     H: Files + AllocGlobal + Abort + Wait + Sync + Threads + Clock,
     H: Net<Listener = TcpListener, Stream = TcpStream>,
 {
-    let mut target = Target::new(Vec::new(rt.alloc()));
+    let mut target = MemoryTarget::new(Vec::new(rt.alloc()));
     let mut source = source_of(reads);
     run(rt, &mut source, &mut target);
     assert_same(rt, source.calls, reads.saturating_add(1));
@@ -84,7 +84,7 @@ where
     H: Files + AllocGlobal + Abort + Wait + Sync + Threads + Clock,
     H: Net<Listener = TcpListener, Stream = TcpStream>,
 {
-    let mut target = Target::new(Vec::new(rt.alloc()));
+    let mut target = MemoryTarget::new(Vec::new(rt.alloc()));
     target.writes_left = writes;
     run(rt, &mut source_of(usize::MAX), &mut target);
     assert!(rt;
@@ -106,7 +106,7 @@ fn each_write_fails(rt: HostRuntime) {
 // Takes one byte of the last write that it takes.
 #[derive(Drop)]
 struct Breaking {
-    target: Target,
+    target: MemoryTarget,
 }
 
 impl Write for Breaking {
@@ -129,7 +129,7 @@ where
     H: Files + AllocGlobal + Abort + Wait + Sync + Threads + Clock,
     H: Net<Listener = TcpListener, Stream = TcpStream>,
 {
-    let mut target = Target::new(Vec::new(rt.alloc()));
+    let mut target = MemoryTarget::new(Vec::new(rt.alloc()));
     target.writes_left = writes;
     let mut breaking = Breaking { target };
     run(rt, &mut source_of(usize::MAX), &mut breaking);

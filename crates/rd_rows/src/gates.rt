@@ -26,7 +26,7 @@ use std::test::Fail;
 // Lines, the numbers of those that are no commands, whether one read brings all, how many answers
 // there are, and by how many writes at the least they are written.
 #[derive(Clone, Copy)]
-struct Script<'a> {
+struct GateScript<'a> {
     lines: &'a [u8],
     no_commands: &'a [u64],
     is_whole: bool,
@@ -39,7 +39,7 @@ fn pass_the_gate<'a, L: Setup, H: Wait + Abort + AllocGlobal>(
     rt: &'a H,
     hall: &'a Hall<L>,
     passes: &mut Vec<Pass<L>>,
-    script: Script<'a>,
+    script: GateScript<'a>,
 ) -> Gone<L> {
     let lines_out = AtomicU64::new(0);
     let mut gate = LookingGate {
@@ -71,7 +71,7 @@ fn enter_and_pass<L: Setup, H: Wait + Abort + AllocGlobal>(
     rt: &H,
     blank: Blank,
     app: App,
-    script: Script<'_>,
+    script: GateScript<'_>,
 ) -> Result<(), Fail>
     requires name { blank.name ≡ L.name }
     requires parts { (blank.parts ≡ L.parts) × (blank.parts ≡ MAX_JOINS + 1) }
@@ -93,7 +93,7 @@ fn enter_and_pass<L: Setup, H: Wait + Abort + AllocGlobal>(
     Ok(())
 }
 
-fn assert_gate<H: Wait + Abort + AllocGlobal>(rt: &H, script: Script<'_>) -> Result<(), Fail> {
+fn assert_gate<H: Wait + Abort + AllocGlobal>(rt: &H, script: GateScript<'_>) -> Result<(), Fail> {
     let app = App::builtin(rt.alloc())?;
     let blank = Blank::new(MAX_JOINS as u64 + 1);
     enter_and_pass::<Brand, H>(rt, blank, app, script)
@@ -106,7 +106,7 @@ fn assert_gate<H: Wait + Abort + AllocGlobal>(rt: &H, script: Script<'_>) -> Res
 #[test]
 fn each_line_passes_the_gate(rt: HostRuntime) -> Result<(), Fail> {
     for (is_whole, writes) in [(false, 6), (true, 2)] {
-        let script = Script {
+        let script = GateScript {
             lines: b"step 0\nfly\n\nshow queue q0\nback 2\nstep 0",
             no_commands: &[2, 3],
             is_whole,
@@ -119,14 +119,14 @@ fn each_line_passes_the_gate(rt: HostRuntime) -> Result<(), Fail> {
 }
 
 // So does the line that is too long, behind which there is no other. Shows `session`: `heard`
-// (`LongLine`, `Called`).
+// (`LongLine`, `GateCalled`).
 #[test]
 fn a_long_line_passes_the_gate(rt: HostRuntime) -> Result<(), Fail> {
     let mut lines = Vec::from_slice(rt.alloc(), b"step 0\nfly\n")?;
     lines.extend_from_slice(&[b'x'; 1025])?;
     lines.extend_from_slice(b"\nstep 0\n")?;
     for (is_whole, writes) in [(false, 3), (true, 1)] {
-        let script = Script {
+        let script = GateScript {
             lines: lines.as_slice(),
             no_commands: &[2, 3],
             is_whole,
@@ -146,7 +146,7 @@ fn many_answers_pass_the_gate(rt: HostRuntime) -> Result<(), Fail> {
     for _line in 0..4_000 {
         lines.extend_from_slice(b"show task t0\n")?;
     }
-    let script = Script {
+    let script = GateScript {
         lines: lines.as_slice(),
         no_commands: &[],
         is_whole: true,

@@ -6,7 +6,7 @@ ghost use Rattle.rd_desk.specs.declared.sessions.TheConstants.{MAX_JOINS};
 use crate::asserts::assert_same;
 use crate::attending::{attend, whole_lines};
 use crate::counting::CountingGate;
-use crate::memory::Source;
+use crate::memory::MemorySource;
 use crate::receipts::all_sessions;
 use rd_desk::limits::Limits;
 use rd_desk::sessions::MAX_JOINS;
@@ -58,13 +58,13 @@ impl ByteSink for Losing<'_> {
 // A line that is asked over and over, how often, and how many answers the writes may lack of those
 // to the lines that were asked: a view that had no room beside the others.
 #[derive(Clone, Copy)]
-struct Script {
+struct RepeatedLine {
     line: &'static str,
     count: usize,
     unsaid: usize,
 }
 
-fn lines_of(alloc: Global, script: Script) -> Result<Vec<u8>, AllocError> {
+fn lines_of(alloc: Global, script: RepeatedLine) -> Result<Vec<u8>, AllocError> {
     let mut lines = Vec::new(alloc);
     for _line in 0..script.count {
         lines.extend_from_slice(script.line.as_bytes())?;
@@ -75,7 +75,7 @@ fn lines_of(alloc: Global, script: Script) -> Result<Vec<u8>, AllocError> {
 // What a session gave to its writes, how many of them failed, and of how many lines the gate was
 // told.
 #[derive(Drop)]
-struct Outcome {
+struct WritesOutcome {
     given: Vec<u8>,
     faults: u64,
     begun: u64,
@@ -88,10 +88,10 @@ fn lose<L: Setup, H: Wait + Abort + AllocGlobal>(
     passes: &mut Vec<Pass<L>>,
     lines: &[u8],
     writes: usize,
-) -> (Gone<L>, Outcome) {
+) -> (Gone<L>, WritesOutcome) {
     let lines_out = AtomicU64::new(0);
     let mut gate = CountingGate::new(rt, 1, &lines_out);
-    let mut source = Over::new(Source::new(lines));
+    let mut source = Over::new(MemorySource::new(lines));
     let mut sink = Losing {
         given: Vec::new(rt.alloc()),
         writes_left: writes,
@@ -100,7 +100,7 @@ fn lose<L: Setup, H: Wait + Abort + AllocGlobal>(
     };
     let gone = attend(rt, hall, passes, &mut source, &mut sink, &mut gate);
     assert_same(rt, gate.told, lines_out.load(Ordering::SeqCst));
-    let outcome = Outcome {
+    let outcome = WritesOutcome {
         given: sink.given,
         faults: sink.faults,
         begun: gate.begun,
@@ -114,7 +114,7 @@ fn lose_a_write<L: Setup, H: Wait + Abort + AllocGlobal>(
     rt: &H,
     blank: Blank,
     app: App,
-    script: Script,
+    script: RepeatedLine,
     writes: usize,
 ) -> Result<bool, Fail>
     requires name { blank.name ≡ L.name }
@@ -159,7 +159,7 @@ fn lose_a_write<L: Setup, H: Wait + Abort + AllocGlobal>(
 // Each write fails in turn, until none does. There are so many of them at the least.
 fn lose_each_write<H: Wait + Abort + AllocGlobal>(
     rt: &H,
-    script: Script,
+    script: RepeatedLine,
     least: usize,
 ) -> Result<(), Fail> {
     for writes in 0..100 {
@@ -178,7 +178,7 @@ fn lose_each_write<H: Wait + Abort + AllocGlobal>(
 // (`BreaksOff`: `given`, `unsaid`, `faults`).
 #[test]
 fn few_words(rt: HostRuntime) -> Result<(), Fail> {
-    let script = Script {
+    let script = RepeatedLine {
         line: "step 4\n",
         count: 8_000,
         unsaid: 0,
@@ -190,7 +190,7 @@ fn few_words(rt: HostRuntime) -> Result<(), Fail> {
 // `given`, `no_room`, `faults`).
 #[test]
 fn views(rt: HostRuntime) -> Result<(), Fail> {
-    let script = Script {
+    let script = RepeatedLine {
         line: "show task t0\n",
         count: 4_000,
         unsaid: 1,

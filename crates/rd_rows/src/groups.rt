@@ -1,11 +1,11 @@
 //! Runs of applications with event groups: whose wishes are met, which bits are cleared, who waits
 //! and what each is answered, and the way back.
 
-use crate::tasks::{Row, assert_rows};
+use crate::tasks::{FileRun, assert_rows};
 use std::test::Fail;
 
-const ROWS: [Row; 11] = [
-    Row {
+const ROWS: [FileRun; 11] = [
+    FileRun {
         name: "one_set_wakes_two",
         app: concat!(
             r#"{"profile":1,"cores":3,"groups":[{"name":"g0"}],"#,
@@ -30,7 +30,7 @@ const ROWS: [Row; 11] = [
                   task t1 core - pc 0 phase wait:group:g0:max regs 0,0,0,0,0,0,0,0 data - \
                   notes 0:idle\n",
     },
-    Row {
+    FileRun {
         name: "bits_out_of_range",
         app: concat!(
             r#"{"profile":1,"cores":1,"groups":[{"name":"g0"}],"#,
@@ -44,7 +44,7 @@ const ROWS: [Row; 11] = [
                   no NoTask\nok at 0\n\
                   task t0 core 0 pc 0 phase run regs 0,0,0,0,0,0,0,0 data - notes 0:idle\n",
     },
-    Row {
+    FileRun {
         name: "late_wish",
         app: concat!(
             r#"{"profile":1,"cores":2,"groups":[{"name":"g0"}],"#,
@@ -70,7 +70,7 @@ const ROWS: [Row; 11] = [
                   ok at 1\n\
                   group g0 bits 0 wait t0:2:all:clear\n",
     },
-    Row {
+    FileRun {
         name: "bits are set, cleared and read, of one group",
         app: concat!(
             r#"{"profile":1,"cores":1,"groups":[{"name":"g0"},{"name":"g1"}],"#,
@@ -103,7 +103,7 @@ const ROWS: [Row; 11] = [
                   ok at 1\n\
                   group g1 bits 5 wait -\n",
     },
-    Row {
+    FileRun {
         name: "a wish for no bits, or for bits that no group has, is none",
         app: concat!(
             r#"{"profile":1,"cores":5,"groups":[{"name":"g0"}],"#,
@@ -133,7 +133,7 @@ const ROWS: [Row; 11] = [
                   task t4 core 4 pc 0 phase run regs 0,0,0,0,0,0,0,0 data - notes 0:idle\n\
                   cores t0,t1,t2,t3,t4 ready - tick 0 turn 0\n",
     },
-    Row {
+    FileRun {
         name: "a wish that is met at once, and one that does not wait",
         app: concat!(
             r#"{"profile":1,"cores":1,"groups":[{"name":"g0"}],"#,
@@ -162,7 +162,7 @@ const ROWS: [Row; 11] = [
                   ok at 2\n\
                   group g0 bits 7 wait -\n",
     },
-    Row {
+    FileRun {
         name: "who waits stands in the order of arrival, and comes back to the same place",
         app: concat!(
             r#"{"profile":1,"cores":4,"groups":[{"name":"g0"}],"#,
@@ -191,7 +191,7 @@ const ROWS: [Row; 11] = [
                   ok at 2\n\
                   group g0 bits 0 wait t0:4:any:keep,t1:1:all:keep\n",
     },
-    Row {
+    FileRun {
         name: "a wait times out, and a wish that is not met then clears nothing",
         app: concat!(
             r#"{"profile":1,"cores":1,"groups":[{"name":"g0"}],"#,
@@ -216,7 +216,7 @@ const ROWS: [Row; 11] = [
                   ok at 8\n\
                   group g0 bits 2 wait t0:6:all:clear\n",
     },
-    Row {
+    FileRun {
         name: "three tasks meet at a barrier",
         app: concat!(
             r#"{"profile":1,"cores":3,"groups":[{"name":"g0"}],"#,
@@ -245,7 +245,7 @@ const ROWS: [Row; 11] = [
                   ok at 0\n\
                   group g0 bits 0 wait -\n",
     },
-    Row {
+    FileRun {
         name: "a sync that its own bits meet, and one that does not wait, while others clear",
         app: concat!(
             r#"{"profile":1,"cores":2,"groups":[{"name":"g0"}],"#,
@@ -272,7 +272,7 @@ const ROWS: [Row; 11] = [
                   ok at 1\n\
                   group g0 bits 0 wait t0:1:any:clear\n",
     },
-    Row {
+    FileRun {
         name: "a sync that timed out sets nothing again, and is met by what is there",
         app: concat!(
             r#"{"profile":1,"cores":2,"groups":[{"name":"g0"}],"#,

@@ -128,7 +128,7 @@ fn audit_of_two<L: Setup, H: Wait + Abort + AllocGlobal>(
     Ok(entries_at_end(hall, gones))
 }
 
-// A hall's calls make the room's: a reply tells what another session did, and there are just so
+// A hall's calls make the desk's: a reply tells what another session did, and there are just so
 // many entries at the end. Where a session isn't handed in, the audit says no.
 #[test]
 fn the_wheel(rt: HostRuntime) -> Result<(), Fail> {

@@ -1,10 +1,10 @@
 //! Interrupts: what each does and answers, whom it wakes, what it is refused for, and the way back.
 
 use crate::programs::{assert_ending, assert_runs, run_file};
-use crate::tasks::{Row, assert_rows};
+use crate::tasks::{FileRun, assert_rows};
 use std::test::Fail;
 
-const SEND_AND_NOTIFY: [Row; 1] = [Row {
+const SEND_AND_NOTIFY: [FileRun; 1] = [FileRun {
     name: "isr_send_and_notify",
     app: concat!(
         r#"{"profile":2,"cores":1,"queues":[{"name":"q0","length":1,"item":1}],"#,
@@ -24,8 +24,8 @@ fn isr_send_and_notify(rt: HostRuntime) -> Result<(), Fail> {
     assert_rows(&rt, &SEND_AND_NOTIFY)
 }
 
-const INTO_A_SET: [Row; 2] = [
-    Row {
+const INTO_A_SET: [FileRun; 2] = [
+    FileRun {
         name: "isr_into_a_full_set",
         app: concat!(
             r#"{"profile":2,"cores":1,"queues":[{"name":"q0","length":2,"item":1}],"#,
@@ -37,7 +37,7 @@ const INTO_A_SET: [Row; 2] = [
                   set s0 1/1 handles q0 wait -\n\
                   task t0 core 0 pc 0 phase run regs 0,0,0,0,0,0,0,0 data - notes 0:idle\n",
     },
-    Row {
+    FileRun {
         name: "the first who waits at the set is woken, and nobody who waits at the queue",
         app: concat!(
             r#"{"profile":2,"cores":1,"queues":[{"name":"q0","length":2,"item":1},"#,
@@ -59,7 +59,7 @@ const INTO_A_SET: [Row; 2] = [
     },
 ];
 
-// An item that goes into a member of a set brings its handle, for which there has to be room.
+// An item that goes into a member of a set brings its handle, for which there has to be space.
 #[test]
 fn isr_into_a_full_set(rt: HostRuntime) -> Result<(), Fail> {
     assert_rows(&rt, &INTO_A_SET)
@@ -90,8 +90,8 @@ const TWO_ENTRIES: &str = concat!(
     r#""tasks":[{"name":"t0","priority":1,"code":["end"]}]}"#,
 );
 
-const ACTIONS: [Row; 5] = [
-    Row {
+const ACTIONS: [FileRun; 5] = [
+    FileRun {
         name: "none leaves the value",
         app: TWO_ENTRIES,
         commands: "poke note t0 1 5\nisr notify t0 1 6 none\nshow task t0\n\
@@ -104,7 +104,7 @@ const ACTIONS: [Row; 5] = [
                   task t0 core 0 pc 0 phase run regs 0,0,0,0,0,0,0,0 data - \
                   notes 0:idle,5:idle\n",
     },
-    Row {
+    FileRun {
         name: "bits sets bits",
         app: TWO_ENTRIES,
         commands: "poke note t0 1 5\nisr notify t0 1 6 bits\nshow task t0\n\
@@ -117,7 +117,7 @@ const ACTIONS: [Row; 5] = [
                   task t0 core 0 pc 0 phase run regs 0,0,0,0,0,0,0,0 data - \
                   notes 0:idle,7:received\n",
     },
-    Row {
+    FileRun {
         name: "inc adds one, and wraps",
         app: TWO_ENTRIES,
         commands: "poke note t0 0 4294967294\nisr notify t0 0 9 inc\nshow task t0\n\
@@ -130,7 +130,7 @@ const ACTIONS: [Row; 5] = [
                   task t0 core 0 pc 0 phase run regs 0,0,0,0,0,0,0,0 data - \
                   notes 4294967294:idle,0:idle\n",
     },
-    Row {
+    FileRun {
         name: "set overwrites",
         app: TWO_ENTRIES,
         commands: "isr notify t0 1 6 set\nisr notify t0 1 4294967295 set\nshow task t0\n\
@@ -143,7 +143,7 @@ const ACTIONS: [Row; 5] = [
                   task t0 core 0 pc 0 phase run regs 0,0,0,0,0,0,0,0 data - \
                   notes 0:idle,0:idle\n",
     },
-    Row {
+    FileRun {
         name: "setif is answered 0 where something has come",
         app: TWO_ENTRIES,
         commands: "isr notify t0 1 6 setif\nisr notify t0 1 7 setif\nshow task t0\n\
@@ -165,8 +165,8 @@ fn isr_actions(rt: HostRuntime) -> Result<(), Fail> {
     assert_rows(&rt, &ACTIONS)
 }
 
-const OF_QUEUES: [Row; 3] = [
-    Row {
+const OF_QUEUES: [FileRun; 3] = [
+    FileRun {
         name: "a full queue is left, and an interrupt never waits",
         app: concat!(
             r#"{"profile":2,"cores":1,"queues":[{"name":"q0","length":1,"item":2}],"#,
@@ -180,7 +180,7 @@ const OF_QUEUES: [Row; 3] = [
                   moves 4 undone 0 kept 4\nok at 3\nmoves 3 undone 1 kept 3\n\
                   queue q0 1/1 items 4142 recv - send t0 set -\n",
     },
-    Row {
+    FileRun {
         name: "bytes are cut or filled, and go to the back",
         app: concat!(
             r#"{"profile":2,"cores":1,"queues":[{"name":"q0","length":4,"item":2}],"#,
@@ -193,7 +193,7 @@ const OF_QUEUES: [Row; 3] = [
                   task t0 core 0 pc 1 phase run regs 1,0,0,0,0,0,0,0 data abcd notes 0:idle\n\
                   ok at 5 isr 1\nqueue q0 3/4 items ff00,0000,0102 recv - send - set -\n",
     },
-    Row {
+    FileRun {
         name: "the first who waits to receive is woken, and has still to receive",
         app: concat!(
             r#"{"profile":2,"cores":1,"queues":[{"name":"q0","length":2,"item":1}],"#,
@@ -221,8 +221,8 @@ fn isr_of_queues(rt: HostRuntime) -> Result<(), Fail> {
     assert_rows(&rt, &OF_QUEUES)
 }
 
-const WAKES: [Row; 4] = [
-    Row {
+const WAKES: [FileRun; 4] = [
+    FileRun {
         name: "the task that is woken takes an idle core, and the turn stays",
         app: concat!(
             r#"{"profile":2,"cores":2,"queues":[{"name":"q0","length":1,"item":1}],"#,
@@ -238,7 +238,7 @@ const WAKES: [Row; 4] = [
                   task t0 core 0 pc 1 phase run regs 1,0,0,0,0,0,0,0 data 41 notes 0:idle\n\
                   ok at 1\ncores -,t1 ready - tick 0 turn 1\n",
     },
-    Row {
+    FileRun {
         name: "a notification wakes a task that waits for this very entry",
         app: concat!(
             r#"{"profile":2,"cores":1,"notes":2,"tasks":[{"name":"t0","priority":1,"#,
@@ -257,7 +257,7 @@ const WAKES: [Row; 4] = [
                   task t0 core - pc 1 phase ended regs 1,0,0,0,0,0,0,0 data - \
                   notes 5:received,7:received\ncores - ready - tick 0 turn 1\n",
     },
-    Row {
+    FileRun {
         name: "entry 0 wakes the reader of a buffer, which is named until it runs",
         app: concat!(
             r#"{"profile":2,"cores":1,"streams":[{"name":"b0","size":4,"trigger":1}],"#,
@@ -272,7 +272,7 @@ const WAKES: [Row; 4] = [
                   task t0 core 0 pc 1 phase run regs 0,0,0,0,0,0,0,0 data - notes 0:idle\n\
                   stream b0 0/4 trigger 1 bytes - reader - writer -\n",
     },
-    Row {
+    FileRun {
         name: "at the last tick there are interrupts as at any other",
         app: concat!(
             r#"{"profile":2,"cores":1,"tick":4294967295,"#,
@@ -296,8 +296,8 @@ const A_RUN: &str = concat!(
     r#"{"name":"t1","priority":1,"code":["jump 0"]}]}"#,
 );
 
-const BACK_AND_AGAIN: [Row; 3] = [
-    Row {
+const BACK_AND_AGAIN: [FileRun; 3] = [
+    FileRun {
         name: "taken back, and made again with no answer said",
         app: A_RUN,
         commands: "step 0\nisr send q0 4142\nisr send q0 43\nisr notify t1 0 5 set\nback 3\n\
@@ -310,7 +310,7 @@ const BACK_AND_AGAIN: [Row; 3] = [
                   moves 4 undone 0 kept 4\nok at 3\nok at 4 isr 1\nno NothingUndone\n\
                   task t1 core - pc 0 phase run regs 0,0,0,0,0,0,0,0 data - notes 6:received\n",
     },
-    Row {
+    FileRun {
         name: "in the middle of a run",
         app: A_RUN,
         commands: "forward 2\nisr send q0 41\nshow cores\nforward 3\nshow task t0\nshow cores\n\
@@ -326,7 +326,7 @@ const BACK_AND_AGAIN: [Row; 3] = [
                   queue q0 1/1 items 41 recv - send - set -\nok at 4\n\
                   queue q0 0/1 items - recv - send - set -\n",
     },
-    Row {
+    FileRun {
         name: "trimmed as any move",
         app: A_RUN,
         commands: "step 0\nisr send q0 41\nisr send q0 42\ntrim 1\nback 1\nback 1\nshow moves\n\
@@ -343,8 +343,8 @@ fn isr_back_and_again(rt: HostRuntime) -> Result<(), Fail> {
     assert_rows(&rt, &BACK_AND_AGAIN)
 }
 
-const NO_INTERRUPTS: [Row; 3] = [
-    Row {
+const NO_INTERRUPTS: [FileRun; 3] = [
+    FileRun {
         name: "lines that are no interrupts",
         app: A_RUN,
         commands: "isr\nisr send\nisr send q0\nisr send q0 4\nisr send q0 4g\nisr send q0 41 42\n\
@@ -358,7 +358,7 @@ const NO_INTERRUPTS: [Row; 3] = [
                   no Syntax\nno Syntax\nno Syntax\nno Syntax\nno Syntax\nno Syntax\nno Syntax\n\
                   moves 0 undone 0 kept 0\n",
     },
-    Row {
+    FileRun {
         name: "interrupts of what isn't there",
         app: A_RUN,
         commands: "isr send q1 41\nisr send t0 41\nisr notify t2 0 5 set\nisr notify q0 0 5 set\n\
@@ -366,7 +366,7 @@ const NO_INTERRUPTS: [Row; 3] = [
         replies: "no NoSuch\nno NoSuch\nno NoSuch\nno NoSuch\nno NoSuch\nno NoSuch\n\
                   moves 0 undone 0 kept 0\n",
     },
-    Row {
+    FileRun {
         name: "spaces between, before and behind the words",
         app: A_RUN,
         commands: "  isr   send q0  41 \nisr notify  t0 0   5 bits  \r\n",

@@ -1,7 +1,7 @@
 //! The last read of a session: at the end of the input, and at a line that is too long.
 
 use crate::asserts::assert_same;
-use crate::memory::{Pieces, Source, Target};
+use crate::memory::{MemorySource, MemoryTarget, Pieces};
 use crate::rows::run;
 use std::alloc::AllocGlobal;
 use std::io::Write;
@@ -51,7 +51,7 @@ where
         pieces: &[front, b"", behind, LINES],
         calls: 0,
     };
-    let mut target = Target::new(Vec::new(rt.alloc()));
+    let mut target = MemoryTarget::new(Vec::new(rt.alloc()));
     run(rt, &mut reader, &mut target);
     let expected = replies_before(rt, cut)?;
     assert_eq!(rt;
@@ -83,9 +83,9 @@ where
     H: Files + AllocGlobal + Abort + Wait + Sync + Threads + Clock,
     H: Net<Listener = TcpListener, Stream = TcpStream>,
 {
-    let mut source = Source::new(bytes);
+    let mut source = MemorySource::new(bytes);
     source.chunk = chunk;
-    let mut target = Target::new(Vec::new(rt.alloc()));
+    let mut target = MemoryTarget::new(Vec::new(rt.alloc()));
     run(rt, &mut source, &mut target);
     assert_same(
         rt,

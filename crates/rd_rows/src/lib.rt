@@ -79,13 +79,13 @@ mod refused_groups;
 #[cfg(test)]
 mod rendering;
 #[cfg(test)]
-mod room;
-#[cfg(test)]
 mod rows;
 #[cfg(test)]
 mod runs;
 #[cfg(test)]
 mod sentences;
+#[cfg(test)]
+mod shared;
 #[cfg(test)]
 mod showing;
 #[cfg(test)]

@@ -1,7 +1,7 @@
 //! Lines to the built-in application, one by one: which are commands.
 
 use crate::asserts::assert_same;
-use crate::memory::Source;
+use crate::memory::MemorySource;
 use crate::rows::answers;
 use rd_command::binding::bind;
 use rd_command::command::parse_line;
@@ -51,7 +51,7 @@ where
         let line: &[u8] = *line;
         let mut script = Vec::from_slice(rt.alloc(), b"step 0\n")?;
         script.extend_from_slice(line)?;
-        let found = answers(rt, &mut Source::new(script.as_slice()));
+        let found = answers(rt, &mut MemorySource::new(script.as_slice()));
         assert_eq!(rt; found.as_slice(), replies.as_bytes(), "to {line:?}");
     }
     Ok(())

@@ -6,7 +6,7 @@ ghost use Rattle.rd_desk.specs.declared.sessions.TheConstants.{MAX_JOINS};
 
 use crate::asserts::assert_same;
 use crate::connections::{ask, connect, here};
-use crate::receipts::{Session, all_sessions};
+use crate::receipts::{SessionTranscript, all_sessions};
 use rd_desk::limits::Limits;
 use rd_desk::sessions::MAX_JOINS;
 use rd_hall::account::Closed;
@@ -68,7 +68,7 @@ fn more_lines(alloc: Global, client: usize) -> Result<Vec<u8>, AllocError> {
 
 // What a client sent, and what it received.
 #[derive(Drop)]
-struct Heard {
+struct ClientExchange {
     sent: Vec<u8>,
     received: Vec<u8>,
 }
@@ -98,7 +98,7 @@ fn converse<H: Net<Stream = TcpStream> + Wait + Clock + Abort>(
     port: u16,
     client: usize,
     all_joined: &Barrier,
-) -> Result<Heard, AllocError> {
+) -> Result<ClientExchange, AllocError> {
     let first = first_line(alloc, client)?;
     let more = more_lines(alloc, client)?;
     let mut sent = Vec::from_slice(alloc, first.as_bytes())?;
@@ -108,7 +108,7 @@ fn converse<H: Net<Stream = TcpStream> + Wait + Clock + Abort>(
     ask(rt, &stream, first.as_str(), "no NoSuch\n");
     all_joined.wait(rt);
     exchange(rt, &stream, more.as_slice(), &mut received);
-    Ok(Heard { sent, received })
+    Ok(ClientExchange { sent, received })
 }
 
 // A client on its thread.
@@ -118,7 +118,7 @@ fn run_client<H: Net<Stream = TcpStream> + Wait + Clock + Abort>(
     port: u16,
     client: usize,
     all_joined: &Barrier,
-    heard: &Mutex<Vec<Heard>>,
+    heard: &Mutex<Vec<ClientExchange>>,
 ) {
     let Ok(one) = converse(rt, alloc, port, client, all_joined) else {
         panic!(rt; "no memory");
@@ -135,7 +135,7 @@ fn serve_clients<L: Setup + Send + Sync, H>(
     port: u16,
     hall: &Hall<L>,
     passes: Vec<Pass<L>>,
-    heard: &Mutex<Vec<Heard>>,
+    heard: &Mutex<Vec<ClientExchange>>,
 ) -> Served<L>
 where
     H: Abort + Wait + Sync + Threads + Clock,
@@ -155,7 +155,7 @@ where
 }
 
 // One session asked what the client sent, and the client received just the replies to it.
-fn assert_heard(rt: &impl Abort, all: &[Session], heard: &Heard) {
+fn assert_heard(rt: &impl Abort, all: &[SessionTranscript], heard: &ClientExchange) {
     let mut sessions = 0u32;
     for session in all {
         if session.asked.as_slice() == heard.sent.as_slice() {
@@ -170,7 +170,7 @@ fn assert_heard(rt: &impl Abort, all: &[Session], heard: &Heard) {
 fn assert_all_heard<L: Setup, H: AllocGlobal + Abort>(
     rt: &H,
     closed: &Closed<L>,
-    heard: &[Heard],
+    heard: &[ClientExchange],
 ) -> Result<(), AllocError> {
     let all = all_sessions(rt, closed)?;
     assert_same(rt, all.len(), MAX_JOINS);

@@ -1,10 +1,10 @@
 //! Runs of scripts whose instructions touch their own task alone, and the way back.
 
-use crate::tasks::{Row, assert_rows};
+use crate::tasks::{FileRun, assert_rows};
 use std::test::Fail;
 
-const ROWS: [Row; 3] = [
-    Row {
+const ROWS: [FileRun; 3] = [
+    FileRun {
         name: "sums wrap, and a register becomes another's value",
         app: concat!(
             r#"{"profile":1,"cores":1,"tasks":[{"name":"t0","priority":1,"#,
@@ -23,7 +23,7 @@ const ROWS: [Row; 3] = [
                   task t0 core 0 pc 1 phase run regs 0,4294967295,0,0,0,0,0,0 data - \
                   notes 0:idle\n",
     },
-    Row {
+    FileRun {
         name: "a script goes on elsewhere where a register is 0",
         app: concat!(
             r#"{"profile":1,"cores":1,"tasks":[{"name":"t0","priority":1,"#,
@@ -42,7 +42,7 @@ const ROWS: [Row; 3] = [
                   ok at 0\n\
                   task t0 core 0 pc 0 phase run regs 0,0,0,0,0,0,0,0 data - notes 0:idle\n",
     },
-    Row {
+    FileRun {
         name: "the data's first four bytes are a number, and missing ones are 0",
         app: concat!(
             r#"{"profile":1,"cores":1,"tasks":[{"name":"t0","priority":1,"#,

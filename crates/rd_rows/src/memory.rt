@@ -5,17 +5,17 @@ use std::io::{ErrorKind, Read, Write};
 
 /// Gives `chunk` bytes a read. After `reads` reads it fails. It counts the calls, failed ones too.
 #[derive(Drop)]
-pub struct Source<'a> {
+pub struct MemorySource<'a> {
     pub rest: &'a [u8],
     pub chunk: usize,
     pub reads: usize,
     pub calls: usize,
 }
 
-impl<'a> Source<'a> {
+impl<'a> MemorySource<'a> {
     /// A source that gives all at once, and doesn't fail.
-    pub fn new(bytes: &'a [u8]) -> Source<'a> {
-        Source {
+    pub fn new(bytes: &'a [u8]) -> MemorySource<'a> {
+        MemorySource {
             rest: bytes,
             chunk: usize::MAX,
             reads: usize::MAX,
@@ -24,7 +24,7 @@ impl<'a> Source<'a> {
     }
 }
 
-impl Read for Source<'_> {
+impl Read for MemorySource<'_> {
     fn read(&mut self, buffer: &mut [u8]) -> io::Result<usize> {
         self.calls = self.calls.saturating_add(1);
         let Some(reads) = self.reads.checked_sub(1) else {
@@ -94,16 +94,16 @@ impl Read for Pieces<'_> {
 
 /// Keeps what is written, and counts the writes. It fails when no writes are left.
 #[derive(Drop)]
-pub struct Target {
+pub struct MemoryTarget {
     pub bytes: Vec<u8>,
     pub writes: usize,
     pub writes_left: usize,
 }
 
-impl Target {
+impl MemoryTarget {
     /// A target that doesn't fail.
-    pub fn new(bytes: Vec<u8>) -> Target {
-        Target {
+    pub fn new(bytes: Vec<u8>) -> MemoryTarget {
+        MemoryTarget {
             bytes,
             writes: 0,
             writes_left: usize::MAX,
@@ -112,7 +112,7 @@ impl Target {
 
     /// What was written.
     pub fn into_bytes(self) -> Vec<u8> {
-        let Target {
+        let MemoryTarget {
             bytes,
             writes: _,
             writes_left: _,
@@ -121,7 +121,7 @@ impl Target {
     }
 }
 
-impl Write for Target {
+impl Write for MemoryTarget {
     fn write(&mut self, buffer: &[u8]) -> io::Result<usize> {
         let Some(writes_left) = self.writes_left.checked_sub(1) else {
             return Err(io::Error::from(ErrorKind::BrokenPipe));

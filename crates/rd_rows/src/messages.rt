@@ -2,7 +2,7 @@
 //! who is told, and the way back.
 
 use crate::programs::{assert_ending, run_file};
-use crate::tasks::{Row, assert_rows};
+use crate::tasks::{FileRun, assert_rows};
 use std::alloc::{AllocError, Global};
 use std::test::Fail;
 
@@ -14,8 +14,8 @@ const DIGITS: &str = concat!(
     "606162636465666768696a6b6c6d6e6f707172737475767778797a7b7c7d7e7f",
 );
 
-const ROWS: [Row; 9] = [
-    Row {
+const ROWS: [FileRun; 9] = [
+    FileRun {
         name: "a writer waits until its message fits",
         app: concat!(
             r#"{"profile":1,"cores":2,"messages":[{"name":"m0","size":12}],"#,
@@ -47,7 +47,7 @@ const ROWS: [Row; 9] = [
                   ok at 5\n\
                   message m0 10/12 messages 01,01 reader - writer t0\n",
     },
-    Row {
+    FileRun {
         name: "a reader waits for a message",
         app: concat!(
             r#"{"profile":1,"cores":1,"messages":[{"name":"m0","size":20}],"#,
@@ -72,7 +72,7 @@ const ROWS: [Row; 9] = [
                   task t0 core - pc 0 phase wait:mread:m0:max regs 0,0,0,0,0,0,0,0 data - \
                   notes 0:waiting\n",
     },
-    Row {
+    FileRun {
         name: "messages come out whole and in their order",
         app: concat!(
             r#"{"profile":1,"cores":1,"messages":[{"name":"m0","size":20}],"#,
@@ -103,7 +103,7 @@ const ROWS: [Row; 9] = [
                   ok at 4\n\
                   message m0 6/20 messages 0a0b reader - writer -\n",
     },
-    Row {
+    FileRun {
         name: "a reset wants both places empty",
         app: concat!(
             r#"{"profile":1,"cores":2,"messages":[{"name":"m0","size":8}],"#,
@@ -137,7 +137,7 @@ const ROWS: [Row; 9] = [
                   ok at 5\n\
                   message m0 0/8 messages - reader t0 writer -\n",
     },
-    Row {
+    FileRun {
         name: "two readers of messages",
         app: concat!(
             r#"{"profile":1,"cores":2,"messages":[{"name":"m0","size":8}],"#,
@@ -152,7 +152,7 @@ const ROWS: [Row; 9] = [
                   ok at 1\n\
                   task t1 core 1 pc 0 phase run regs 0,0,0,0,0,0,0,0 data - notes 0:idle\n",
     },
-    Row {
+    FileRun {
         name: "two writers of messages",
         app: concat!(
             r#"{"profile":1,"cores":2,"messages":[{"name":"m0","size":5}],"#,
@@ -171,7 +171,7 @@ const ROWS: [Row; 9] = [
                   ok at 4\n\
                   task t1 core 1 pc 1 phase run regs 0,0,0,0,0,0,0,0 data 02 notes 0:idle\n",
     },
-    Row {
+    FileRun {
         name: "a message is written whole or not at all",
         app: concat!(
             r#"{"profile":1,"cores":1,"messages":[{"name":"m0","size":8}],"#,
@@ -200,7 +200,7 @@ const ROWS: [Row; 9] = [
                   ok at 1\n\
                   message m0 0/8 messages - reader - writer -\n",
     },
-    Row {
+    FileRun {
         name: "a foreign notification ends a read of messages",
         app: concat!(
             r#"{"profile":1,"cores":2,"messages":[{"name":"m0","size":10}],"#,
@@ -225,7 +225,7 @@ const ROWS: [Row; 9] = [
                   notes 0:waiting\n\
                   message m0 0/10 messages - reader t0 writer -\n",
     },
-    Row {
+    FileRun {
         name: "a read of no message leaves the data",
         app: concat!(
             r#"{"profile":1,"cores":1,"messages":[{"name":"m0","size":8}],"#,

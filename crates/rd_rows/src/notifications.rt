@@ -1,11 +1,11 @@
 //! Runs of applications whose tasks are notified: each action, who waits, who is woken, and the way
 //! back.
 
-use crate::tasks::{Row, assert_rows};
+use crate::tasks::{FileRun, assert_rows};
 use std::test::Fail;
 
-const ROWS: [Row; 15] = [
-    Row {
+const ROWS: [FileRun; 15] = [
+    FileRun {
         name: "set_without_overwrite",
         app: concat!(
             r#"{"profile":1,"cores":1,"tasks":[{"name":"t0","priority":1,"#,
@@ -26,7 +26,7 @@ const ROWS: [Row; 15] = [
                   ok at 2\n\
                   task t0 core 0 pc 2 phase run regs 0,0,0,0,0,0,0,0 data - notes 5:received\n",
     },
-    Row {
+    FileRun {
         name: "take_counts_down",
         app: concat!(
             r#"{"profile":1,"cores":1,"tasks":[{"name":"t0","priority":1,"#,
@@ -46,7 +46,7 @@ const ROWS: [Row; 15] = [
                   ok at 1\n\
                   task t0 core 0 pc 1 phase run regs 1,0,0,0,0,0,0,0 data - notes 2:received\n",
     },
-    Row {
+    FileRun {
         name: "wait_clears_exit_bits",
         app: concat!(
             r#"{"profile":1,"cores":1,"tasks":[{"name":"t0","priority":1,"#,
@@ -60,7 +60,7 @@ const ROWS: [Row; 15] = [
                   ok at 1\n\
                   task t0 core 0 pc 1 phase run regs 1,0,0,0,0,0,0,0 data - notes 6:received\n",
     },
-    Row {
+    FileRun {
         name: "each action, and the value before in r1",
         app: concat!(
             r#"{"profile":1,"cores":1,"tasks":[{"name":"t0","priority":1,"#,
@@ -82,7 +82,7 @@ const ROWS: [Row; 15] = [
                   ok at 0\n\
                   task t0 core 0 pc 0 phase run regs 0,0,0,0,0,0,0,0 data - notes 0:idle\n",
     },
-    Row {
+    FileRun {
         name: "a take waits until it is notified",
         app: concat!(
             r#"{"profile":1,"cores":2,"tasks":[{"name":"t0","priority":1,"#,
@@ -105,7 +105,7 @@ const ROWS: [Row; 15] = [
                   cores -,t1 ready - tick 0 turn 1\nok at 0\n\
                   task t0 core 0 pc 0 phase run regs 0,0,0,0,0,0,0,0 data - notes 0:idle\n",
     },
-    Row {
+    FileRun {
         name: "a take times out",
         app: concat!(
             r#"{"profile":1,"cores":1,"tasks":[{"name":"t0","priority":1,"#,
@@ -128,7 +128,7 @@ const ROWS: [Row; 15] = [
                   task t0 core - pc 0 phase wait:note:0:1 regs 0,0,0,0,0,0,0,0 data - \
                   notes 0:waiting\n",
     },
-    Row {
+    FileRun {
         name: "a wait times out, and its exit bits stay",
         app: concat!(
             r#"{"profile":1,"cores":1,"tasks":[{"name":"t0","priority":1,"#,
@@ -152,7 +152,7 @@ const ROWS: [Row; 15] = [
                   ok at 2\n\
                   task t0 core 0 pc 2 phase run regs 1,0,0,0,0,0,0,0 data - notes 6:idle\n",
     },
-    Row {
+    FileRun {
         name: "a wait is notified, and displaces who notified it",
         app: concat!(
             r#"{"profile":1,"cores":1,"tasks":[{"name":"t0","priority":2,"#,
@@ -172,7 +172,7 @@ const ROWS: [Row; 15] = [
                   ok at 0\n\
                   task t0 core 0 pc 0 phase run regs 0,0,0,0,0,0,0,0 data - notes 0:idle\n",
     },
-    Row {
+    FileRun {
         name: "a wait keeps its entry bits where something has come, and else clears them",
         app: concat!(
             r#"{"profile":1,"cores":1,"tasks":[{"name":"t0","priority":1,"#,
@@ -186,7 +186,7 @@ const ROWS: [Row; 15] = [
                   ok at 2\n\
                   task t0 core 0 pc 2 phase run regs 1,6,0,0,0,0,0,0 data - notes 6:idle\n",
     },
-    Row {
+    FileRun {
         name: "each index is an entry of its own",
         app: concat!(
             r#"{"profile":1,"cores":2,"notes":2,"tasks":[{"name":"t0","priority":1,"#,
@@ -211,7 +211,7 @@ const ROWS: [Row; 15] = [
                   task t0 core - pc 0 phase wait:note:1:max regs 0,0,0,0,0,0,0,0 data - \
                   notes 3:received,0:waiting\n",
     },
-    Row {
+    FileRun {
         name: "a task is woken once",
         app: concat!(
             r#"{"profile":1,"cores":2,"tasks":[{"name":"t0","priority":1,"#,
@@ -229,7 +229,7 @@ const ROWS: [Row; 15] = [
                   task t0 core 0 pc 0 phase again:max regs 0,0,0,0,0,0,0,0 data - \
                   notes 1:received\n",
     },
-    Row {
+    FileRun {
         name: "state and value are cleared",
         app: concat!(
             r#"{"profile":1,"cores":1,"tasks":[{"name":"t0","priority":1,"#,
@@ -249,7 +249,7 @@ const ROWS: [Row; 15] = [
                   ok at 1\n\
                   task t0 core 0 pc 1 phase run regs 1,0,0,0,0,0,0,0 data - notes 7:received\n",
     },
-    Row {
+    FileRun {
         name: "a take of 0 waits though something has come",
         app: concat!(
             r#"{"profile":1,"cores":1,"tasks":[{"name":"t0","priority":1,"#,
@@ -264,7 +264,7 @@ const ROWS: [Row; 15] = [
                   ok at 1\n\
                   task t0 core 0 pc 1 phase run regs 1,0,0,0,0,0,0,0 data - notes 0:received\n",
     },
-    Row {
+    FileRun {
         name: "operands are read of registers",
         app: concat!(
             r#"{"profile":1,"cores":1,"tasks":[{"name":"t0","priority":1,"#,
@@ -274,7 +274,7 @@ const ROWS: [Row; 15] = [
         replies: "ok at 1\nok at 2\nok at 3\n\
                   task t0 core 0 pc 3 phase run regs 5,0,5,0,0,0,0,0 data - notes 4:idle\n",
     },
-    Row {
+    FileRun {
         name: "what another task clears leaves a waiter waiting",
         app: concat!(
             r#"{"profile":1,"cores":2,"tasks":[{"name":"t0","priority":1,"#,

@@ -1,7 +1,7 @@
 //! Application files of both profiles: how many cores each may have, and what sixteen cores do.
 
-use crate::refused_files::{LIMIT, Refused, SHAPE, assert_refused};
-use crate::tasks::{Row, assert_rows};
+use crate::refused_files::{LIMIT, RefusedFile, SHAPE, assert_refused};
+use crate::tasks::{FileRun, assert_rows};
 use std::test::Fail;
 
 // The file of one task, whose profile and number of cores are written so.
@@ -17,26 +17,26 @@ macro_rules! file_with {
     };
 }
 
-const ROWS: [Row; 5] = [
-    Row {
+const ROWS: [FileRun; 5] = [
+    FileRun {
         name: "profile 1 on as many cores as it has",
         app: file_with!("1", "8"),
         commands: "show cores\nstep 7\nstep 8\n",
         replies: "cores t0,-,-,-,-,-,-,- ready - tick 0 turn 0\nno NoTask\nno NoSuch\n",
     },
-    Row {
+    FileRun {
         name: "profile 2 on one core",
         app: file_with!("2", "1"),
         commands: "show cores\nstep 1\n",
         replies: "cores t0 ready - tick 0 turn 0\nno NoSuch\n",
     },
-    Row {
+    FileRun {
         name: "profile 2 on more cores than profile 1 has",
         app: file_with!("2", "9"),
         commands: "show cores\nstep 8\nstep 9\n",
         replies: "cores t0,-,-,-,-,-,-,-,- ready - tick 0 turn 0\nno NoTask\nno NoSuch\n",
     },
-    Row {
+    FileRun {
         name: "profile 2 on as many cores as it has",
         app: file_with!("2", "16"),
         commands: "show cores\nstep 15\nstep 16\n",
@@ -45,7 +45,7 @@ const ROWS: [Row; 5] = [
     },
     // Tick 15 is the turn of core 15. Its task joins the ready list, and has that core again once
     // the other one has ended there.
-    Row {
+    FileRun {
         name: "seventeen tasks take turns on sixteen cores",
         app: concat!(
             r#"{"profile":2,"cores":16,"tick":14,"tasks":["#,
@@ -80,52 +80,52 @@ const ROWS: [Row; 5] = [
 ];
 
 // The profile is looked at before the cores.
-const REFUSED: [Refused; 12] = [
-    Refused {
+const REFUSED: [RefusedFile; 12] = [
+    RefusedFile {
         text: file_with!("1", "9"),
         errors: LIMIT,
     },
-    Refused {
+    RefusedFile {
         text: file_with!("1", "16"),
         errors: LIMIT,
     },
-    Refused {
+    RefusedFile {
         text: file_with!("2", "17"),
         errors: LIMIT,
     },
-    Refused {
+    RefusedFile {
         text: file_with!("2", "0"),
         errors: LIMIT,
     },
-    Refused {
+    RefusedFile {
         text: file_with!("3", "1"),
         errors: LIMIT,
     },
-    Refused {
+    RefusedFile {
         text: file_with!("0", "1"),
         errors: LIMIT,
     },
-    Refused {
+    RefusedFile {
         text: file_with!("3", "2.0"),
         errors: LIMIT,
     },
-    Refused {
+    RefusedFile {
         text: file_with!("2", "2.0"),
         errors: SHAPE,
     },
-    Refused {
+    RefusedFile {
         text: file_with!("2.0", "17"),
         errors: SHAPE,
     },
-    Refused {
+    RefusedFile {
         text: file_with!("-1", "17"),
         errors: SHAPE,
     },
-    Refused {
+    RefusedFile {
         text: file_with!(r#""2""#, "1"),
         errors: SHAPE,
     },
-    Refused {
+    RefusedFile {
         text: file_with!("null", "1"),
         errors: SHAPE,
     },

@@ -2,7 +2,7 @@
 //! errors.
 
 use crate::asserts::assert_same;
-use crate::memory::Target;
+use crate::memory::MemoryTarget;
 use rd_main::run_main;
 use std::alloc::{AllocError, AllocGlobal};
 use std::net::{Net, TcpListener, TcpStream};
@@ -16,14 +16,14 @@ use std::{fs, io};
 
 /// What a run left.
 #[derive(Drop)]
-pub struct Ending {
+pub struct RunOutcome {
     status: u8,
     output: Vec<u8>,
     errors: Vec<u8>,
 }
 
 // Runs the program on these words and commands.
-fn run<H>(rt: &H, words: &[&str], commands: &str) -> Result<Ending, AllocError>
+fn run<H>(rt: &H, words: &[&str], commands: &str) -> Result<RunOutcome, AllocError>
 where
     H: Files + AllocGlobal + Abort + Wait + Sync + Threads + Clock,
     H: Net<Listener = TcpListener, Stream = TcpStream>,
@@ -33,7 +33,7 @@ where
         let word: &str = *word;
         texts.push(String::from_str(rt.alloc(), word)?)?;
     }
-    let mut target = Target::new(Vec::new(rt.alloc()));
+    let mut target = MemoryTarget::new(Vec::new(rt.alloc()));
     let mut errors = Vec::new(rt.alloc());
     let status = run_main(
         rt,
@@ -42,7 +42,7 @@ where
         &mut target,
         &mut errors,
     );
-    Ok(Ending {
+    Ok(RunOutcome {
         status,
         output: target.into_bytes(),
         errors,
@@ -56,7 +56,7 @@ pub fn run_file<H>(
     app: &[u8],
     words: &[&str],
     commands: &str,
-) -> io::Result<Ending>
+) -> io::Result<RunOutcome>
 where
     H: Files + AllocGlobal + Abort + Wait + Sync + Threads + Clock,
     H: Net<Listener = TcpListener, Stream = TcpStream>,
@@ -71,7 +71,7 @@ where
 }
 
 /// Fails unless the run ended so, and wrote nothing else.
-pub fn assert_ending(rt: &impl Abort, ending: &Ending, status: u8, output: &str, errors: &str) {
+pub fn assert_ending(rt: &impl Abort, ending: &RunOutcome, status: u8, output: &str, errors: &str) {
     assert_same(rt, ending.status, status);
     assert_same(rt, ending.output.as_slice(), output.as_bytes());
     assert_same(rt, ending.errors.as_slice(), errors.as_bytes());

@@ -1,10 +1,10 @@
 //! Runs of applications with queue sets: what is posted, who is woken, and the way back.
 
-use crate::tasks::{Row, assert_rows};
+use crate::tasks::{FileRun, assert_rows};
 use std::test::Fail;
 
-const ROWS: [Row; 11] = [
-    Row {
+const ROWS: [FileRun; 11] = [
+    FileRun {
         name: "overwrite_in_a_set",
         app: concat!(
             r#"{"profile":1,"cores":1,"queues":[{"name":"q0","length":1,"item":1}],"#,
@@ -28,7 +28,7 @@ const ROWS: [Row; 11] = [
                   ok at 1\nset s0 0/1 handles - wait -\n\
                   queue q0 0/1 items - recv - send - set s0\n",
     },
-    Row {
+    FileRun {
         name: "full_set",
         app: concat!(
             r#"{"profile":1,"cores":1,"queues":[{"name":"q0","length":2,"item":1}],"#,
@@ -45,7 +45,7 @@ const ROWS: [Row; 11] = [
                   task t0 core 0 pc 1 phase run regs 1,0,0,0,0,0,0,0 data - notes 0:idle\n\
                   cores t0 ready - tick 0 turn 1\n",
     },
-    Row {
+    FileRun {
         name: "a select that waits is answered the number of the queue and 1",
         app: concat!(
             r#"{"profile":1,"cores":2,"queues":[{"name":"q0","length":1,"item":1},"#,
@@ -70,7 +70,7 @@ const ROWS: [Row; 11] = [
                   ok at 3\nset s0 1/2 handles q1 wait -\n\
                   ok at 0\nset s0 0/2 handles - wait -\ncores t0,t1 ready - tick 0 turn 0\n",
     },
-    Row {
+    FileRun {
         name: "a queue joins a set and leaves it while it is empty",
         app: concat!(
             r#"{"profile":1,"cores":1,"queues":[{"name":"q0","length":2,"item":1}],"#,
@@ -107,7 +107,7 @@ const ROWS: [Row; 11] = [
                   ok at 0\nqueue q0 0/2 items - recv - send - set -\n\
                   set s0 0/2 handles - wait -\n",
     },
-    Row {
+    FileRun {
         name: "a post wakes a selector and no receiver of the member",
         app: concat!(
             r#"{"profile":1,"cores":3,"queues":[{"name":"q0","length":1,"item":1}],"#,
@@ -126,7 +126,7 @@ const ROWS: [Row; 11] = [
                   ok at 2\nqueue q0 0/1 items - recv t0 send - set s0\n\
                   set s0 0/1 handles - wait t1\ncores -,-,t2 ready - tick 0 turn 2\n",
     },
-    Row {
+    FileRun {
         name: "a full queue comes before a full set, and an overwrite counts as a send",
         app: concat!(
             r#"{"profile":1,"cores":1,"queues":[{"name":"q0","length":1,"item":1},"#,
@@ -147,7 +147,7 @@ const ROWS: [Row; 11] = [
                   ok at 2\n\
                   task t0 core 0 pc 2 phase run regs 0,0,0,0,0,0,0,0 data - notes 0:idle\n",
     },
-    Row {
+    FileRun {
         name: "a select times out",
         app: concat!(
             r#"{"profile":1,"cores":1,"queues":[{"name":"q0","length":1,"item":1}],"#,
@@ -167,7 +167,7 @@ const ROWS: [Row; 11] = [
                   task t0 core 0 pc 2 phase run regs 0,0,0,0,0,0,0,0 data - notes 0:idle\n\
                   ok at 3\nset s0 0/1 handles - wait t0\n",
     },
-    Row {
+    FileRun {
         name: "a send that tries again finds the set full",
         app: concat!(
             r#"{"profile":1,"cores":2,"queues":[{"name":"q0","length":1,"item":1},"#,
@@ -193,7 +193,7 @@ const ROWS: [Row; 11] = [
                   ok at 2\nqueue q0 1/1 items 00 recv - send t0 set s0\n\
                   set s0 1/1 handles q0 wait -\n",
     },
-    Row {
+    FileRun {
         name: "an item that goes to the front is posted too, and fails in a full set",
         app: concat!(
             r#"{"profile":1,"cores":1,"queues":[{"name":"q0","length":2,"item":1}],"#,
@@ -211,7 +211,7 @@ const ROWS: [Row; 11] = [
                   ok at 3\n\
                   task t0 core 0 pc 3 phase run regs 1,0,0,0,0,0,0,0 data 02 notes 0:idle\n",
     },
-    Row {
+    FileRun {
         name: "a peek of a member wakes a receiver, and a reset leaves the handle",
         app: concat!(
             r#"{"profile":1,"cores":2,"queues":[{"name":"q0","length":1,"item":1}],"#,
@@ -237,7 +237,7 @@ const ROWS: [Row; 11] = [
                   ok at 4\nqueue q0 1/1 items 05 recv - send - set s0\n\
                   ok at 3\nqueue q0 1/1 items 05 recv t0 send - set s0\n",
     },
-    Row {
+    FileRun {
         name: "a queue with items joins no set, and one in none leaves none",
         app: concat!(
             r#"{"profile":1,"cores":1,"queues":[{"name":"q0","length":1,"item":1}],"#,

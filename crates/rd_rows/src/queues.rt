@@ -1,10 +1,10 @@
 //! Runs of applications over queues: what each call leaves, whom it wakes, and the way back.
 
-use crate::tasks::{Row, assert_rows};
+use crate::tasks::{FileRun, assert_rows};
 use std::test::Fail;
 
-const ROWS: [Row; 7] = [
-    Row {
+const ROWS: [FileRun; 7] = [
+    FileRun {
         name: "front_and_back",
         app: concat!(
             r#"{"profile":1,"cores":1,"queues":[{"name":"q0","length":3,"item":1}],"#,
@@ -28,7 +28,7 @@ const ROWS: [Row; 7] = [
                   queue q0 1/3 items 01 recv - send - set -\n\
                   ok at 0\nqueue q0 0/3 items - recv - send - set -\n",
     },
-    Row {
+    FileRun {
         name: "reset_wakes_a_sender",
         app: concat!(
             r#"{"profile":1,"cores":2,"queues":[{"name":"q0","length":1,"item":1}],"#,
@@ -45,7 +45,7 @@ const ROWS: [Row; 7] = [
                   ok at 2\nqueue q0 1/1 items 00 recv - send t0 set -\n\
                   cores -,t1 ready - tick 0 turn 1\n",
     },
-    Row {
+    FileRun {
         name: "a peek that waits wakes the next receiver",
         app: concat!(
             r#"{"profile":1,"cores":3,"queues":[{"name":"q0","length":1,"item":1}],"#,
@@ -70,7 +70,7 @@ const ROWS: [Row; 7] = [
                   queue q0 0/1 items - recv - send - set -\n\
                   ok at 3\nqueue q0 0/1 items - recv t0,t1 send - set -\n",
     },
-    Row {
+    FileRun {
         name: "an overwrite puts an item, or replaces the one that is there",
         app: concat!(
             r#"{"profile":1,"cores":2,"queues":[{"name":"q0","length":1,"item":1}],"#,
@@ -91,7 +91,7 @@ const ROWS: [Row; 7] = [
                   notes 0:idle\n\
                   ok at 4\nqueue q0 1/1 items 07 recv - send - set -\n",
     },
-    Row {
+    FileRun {
         name: "what can't be done at once answers 0",
         app: concat!(
             r#"{"profile":1,"cores":1,"queues":[{"name":"q0","length":1,"item":1}],"#,
@@ -110,7 +110,7 @@ const ROWS: [Row; 7] = [
                   ok at 4\nok at 5\n\
                   task t0 core 0 pc 5 phase run regs 0,0,0,0,0,0,0,0 data 01 notes 0:idle\n",
     },
-    Row {
+    FileRun {
         name: "a reset of long items is taken back",
         app: concat!(
             r#"{"profile":1,"cores":1,"queues":[{"name":"q0","length":3,"item":12}],"#,
@@ -131,7 +131,7 @@ const ROWS: [Row; 7] = [
                   send - set -\n\
                   task t0 core 0 pc 4 phase run regs 1,0,0,0,0,0,0,0 data ff notes 0:idle\n",
     },
-    Row {
+    FileRun {
         name: "an overwrite of an item wakes the next receiver",
         app: concat!(
             r#"{"profile":1,"cores":3,"queues":[{"name":"q0","length":1,"item":1}],"#,

@@ -5,8 +5,8 @@ ghost use Rattle.rd_desk.specs.declared.sessions.TheConstants.{MAX_JOINS};
 
 use crate::asserts::assert_same;
 use crate::attending::{attend, first_of, whole_lines};
-use crate::memory::Source;
-use crate::receipts::{Session, all_sessions};
+use crate::memory::MemorySource;
+use crate::receipts::{SessionTranscript, all_sessions};
 use rd_desk::limits::Limits;
 use rd_desk::sessions::MAX_JOINS;
 use rd_ends::over::Over;
@@ -58,7 +58,7 @@ const LATER_REPLIES: [&str; 7] = [
 
 // What is asked and answered where a read fails behind so many others.
 #[derive(Drop)]
-struct Case {
+struct ReadFaultCase {
     reads: usize,
     script: Vec<u8>,
     answered: usize,
@@ -66,12 +66,12 @@ struct Case {
     replies: Vec<u8>,
 }
 
-impl Case {
-    fn new(alloc: Global, reads: usize) -> Result<Case, AllocError> {
+impl ReadFaultCase {
+    fn new(alloc: Global, reads: usize) -> Result<ReadFaultCase, AllocError> {
         let script = first_of(alloc, &LINES, 6)?;
         let read = script.len().min(reads.saturating_mul(CHUNK));
         let answered = whole_lines(&script.as_slice()[..read]);
-        Ok(Case {
+        Ok(ReadFaultCase {
             reads,
             answered,
             asked: first_of(alloc, &LINES, answered)?,
@@ -91,9 +91,9 @@ fn read_until_a_fault<L: Setup, H: Wait + Abort + AllocGlobal>(
     rt: &H,
     hall: &Hall<L>,
     passes: &mut Vec<Pass<L>>,
-    case: &Case,
+    case: &ReadFaultCase,
 ) -> Gone<L> {
-    let mut reader = Source::new(case.script.as_slice());
+    let mut reader = MemorySource::new(case.script.as_slice());
     reader.chunk = CHUNK;
     reader.reads = case.reads;
     let mut source = Over::new(reader);
@@ -110,16 +110,16 @@ fn step_later<L: Setup, H: Wait + Abort + AllocGlobal>(
     rt: &H,
     hall: &Hall<L>,
     passes: &mut Vec<Pass<L>>,
-    case: &Case,
+    case: &ReadFaultCase,
 ) -> Gone<L> {
-    let mut source = Over::new(Source::new(LATER_LINES.as_bytes()));
+    let mut source = Over::new(MemorySource::new(LATER_LINES.as_bytes()));
     let mut sink = Over::new(Vec::new(rt.alloc()));
     let gone = attend(rt, hall, passes, &mut source, &mut sink, &mut NoGate);
     assert_same(rt, sink.inner.as_slice(), case.later_replies());
     gone
 }
 
-fn assert_session(rt: &impl Abort, session: &Session, asked: &[u8], replies: &[u8]) {
+fn assert_session(rt: &impl Abort, session: &SessionTranscript, asked: &[u8], replies: &[u8]) {
     assert_same(rt, session.asked.as_slice(), asked);
     assert_same(rt, session.replies.as_slice(), replies);
 }
@@ -137,7 +137,7 @@ fn fail_a_read<L: Setup, H: Wait + Abort + AllocGlobal>(
     requires moves { L.most_moves ≡ 10 }
     requires entries { L.most_entries ≡ 20 }
 {
-    let case = Case::new(rt.alloc(), reads)?;
+    let case = ReadFaultCase::new(rt.alloc(), reads)?;
     let mut gones = Vec::with_capacity(rt.alloc(), 2)?;
     let limits = Limits {
         moves: 10,

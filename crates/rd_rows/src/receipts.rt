@@ -16,14 +16,14 @@ use std::test::Fail;
 
 /// What a session asked, and what it was replied, a line each.
 #[derive(Drop)]
-pub struct Session {
+pub struct SessionTranscript {
     pub asked: Vec<u8>,
     pub replies: Vec<u8>,
 }
 
-impl Session {
-    fn new(alloc: Global) -> Session {
-        Session {
+impl SessionTranscript {
+    fn new(alloc: Global) -> SessionTranscript {
+        SessionTranscript {
             asked: Vec::new(alloc),
             replies: Vec::new(alloc),
         }
@@ -46,10 +46,10 @@ impl Session {
 pub fn all_sessions<L: Setup, H: AllocGlobal + Abort>(
     rt: &H,
     closed: &Closed<L>,
-) -> Result<Vec<Session>, AllocError> {
+) -> Result<Vec<SessionTranscript>, AllocError> {
     let mut all = Vec::new(rt.alloc());
     for gone in closed.gones() {
-        let mut session = Session::new(rt.alloc());
+        let mut session = SessionTranscript::new(rt.alloc());
         for index in 0..gone.len() {
             assert!(rt;
                 gone.is_entered(closed.history(), index),

@@ -1,6 +1,6 @@
 //! Application files that are refused: those of stream buffers and of message buffers.
 
-use crate::refused_files::{INSTR, LIMIT, NAME, Refused, SHAPE, assert_refused};
+use crate::refused_files::{INSTR, LIMIT, NAME, RefusedFile, SHAPE, assert_refused};
 use std::test::Fail;
 
 // The file of these stream buffers.
@@ -38,77 +38,77 @@ macro_rules! file_with_buffer_call {
     };
 }
 
-const REFUSED_STREAMS: [Refused; 9] = [
-    Refused {
+const REFUSED_STREAMS: [RefusedFile; 9] = [
+    RefusedFile {
         text: file_with_streams!(r#"{"name":"b0","size":0,"trigger":0}"#),
         errors: LIMIT,
     },
-    Refused {
+    RefusedFile {
         text: file_with_streams!(r#"{"name":"b0","size":1025,"trigger":1}"#),
         errors: LIMIT,
     },
-    Refused {
+    RefusedFile {
         text: file_with_streams!(r#"{"name":"b0","size":4,"trigger":5}"#),
         errors: LIMIT,
     },
-    Refused {
+    RefusedFile {
         text: file_with_streams!(r#"{"name":"b0","size":"4","trigger":1}"#),
         errors: SHAPE,
     },
-    Refused {
+    RefusedFile {
         text: file_with_streams!(r#"{"name":"b0","size":4}"#),
         errors: SHAPE,
     },
-    Refused {
+    RefusedFile {
         text: file_with_streams!(r#"{"name":"b0","size":0,"trigger":1,"length":4}"#),
         errors: SHAPE,
     },
-    Refused {
+    RefusedFile {
         text: file_with_streams!(r#"{"name":"B0","size":0,"trigger":0}"#),
         errors: NAME,
     },
-    Refused {
+    RefusedFile {
         text: file_with_streams!(
             r#"{"name":"b0","size":4,"trigger":1},{"name":"b0","size":4,"trigger":1}"#
         ),
         errors: NAME,
     },
-    Refused {
+    RefusedFile {
         text: file_with_streams!(r#"7"#),
         errors: SHAPE,
     },
 ];
 
-const REFUSED_MESSAGES: [Refused; 8] = [
-    Refused {
+const REFUSED_MESSAGES: [RefusedFile; 8] = [
+    RefusedFile {
         text: file_with_messages!(r#"{"name":"m0","size":4}"#),
         errors: LIMIT,
     },
-    Refused {
+    RefusedFile {
         text: file_with_messages!(r#"{"name":"m0","size":1025}"#),
         errors: LIMIT,
     },
-    Refused {
+    RefusedFile {
         text: file_with_messages!(r#"{"name":"m0","size":4.5}"#),
         errors: SHAPE,
     },
-    Refused {
+    RefusedFile {
         text: file_with_messages!(r#"{"name":"m0"}"#),
         errors: SHAPE,
     },
-    Refused {
+    RefusedFile {
         text: file_with_messages!(r#"{"name":"m0","size":4,"trigger":1}"#),
         errors: SHAPE,
     },
-    Refused {
+    RefusedFile {
         text: file_with_messages!(r#"{"name":"0m","size":4}"#),
         errors: NAME,
     },
-    Refused {
+    RefusedFile {
         text: file_with_messages!(r#"{"name":"m0","size":8},{"name":"m0","size":8}"#),
         errors: NAME,
     },
-    Refused {
+    RefusedFile {
         text: concat!(
             r#"{"profile":1,"cores":1,"messages":[{"name":"m0"}],"#,
             r#""streams":[{"name":"b0","size":4,"trigger":5}],"#,
@@ -118,120 +118,120 @@ const REFUSED_MESSAGES: [Refused; 8] = [
     },
 ];
 
-const REFUSED_BUFFER_CALLS: [Refused; 29] = [
-    Refused {
+const REFUSED_BUFFER_CALLS: [RefusedFile; 29] = [
+    RefusedFile {
         text: file_with_buffer_call!("swrite b9 0"),
         errors: NAME,
     },
-    Refused {
+    RefusedFile {
         text: file_with_buffer_call!("swrite m0 0"),
         errors: NAME,
     },
-    Refused {
+    RefusedFile {
         text: file_with_buffer_call!("swrite b0"),
         errors: INSTR,
     },
-    Refused {
+    RefusedFile {
         text: file_with_buffer_call!("sread b9 4 max"),
         errors: NAME,
     },
-    Refused {
+    RefusedFile {
         text: file_with_buffer_call!("sread b0 0 max"),
         errors: INSTR,
     },
-    Refused {
+    RefusedFile {
         text: file_with_buffer_call!("sread b9 257 max"),
         errors: INSTR,
     },
-    Refused {
+    RefusedFile {
         text: file_with_buffer_call!("sread b0 r1 max"),
         errors: INSTR,
     },
-    Refused {
+    RefusedFile {
         text: file_with_buffer_call!("sread b0 max"),
         errors: INSTR,
     },
-    Refused {
+    RefusedFile {
         text: file_with_buffer_call!("sreset b9"),
         errors: NAME,
     },
-    Refused {
+    RefusedFile {
         text: file_with_buffer_call!("sreset b0 0"),
         errors: INSTR,
     },
-    Refused {
+    RefusedFile {
         text: file_with_buffer_call!("strig b9 1"),
         errors: NAME,
     },
-    Refused {
+    RefusedFile {
         text: file_with_buffer_call!("strig b0 max"),
         errors: INSTR,
     },
-    Refused {
+    RefusedFile {
         text: file_with_buffer_call!("scount m0"),
         errors: NAME,
     },
-    Refused {
+    RefusedFile {
         text: file_with_buffer_call!("scount"),
         errors: INSTR,
     },
-    Refused {
+    RefusedFile {
         text: file_with_buffer_call!("sspaces b9"),
         errors: NAME,
     },
-    Refused {
+    RefusedFile {
         text: file_with_buffer_call!("sspaces b0 0"),
         errors: INSTR,
     },
-    Refused {
+    RefusedFile {
         text: file_with_buffer_call!("mwrite m9 0"),
         errors: NAME,
     },
-    Refused {
+    RefusedFile {
         text: file_with_buffer_call!("mwrite b0 0"),
         errors: NAME,
     },
-    Refused {
+    RefusedFile {
         text: file_with_buffer_call!("mwrite m0 r8"),
         errors: INSTR,
     },
-    Refused {
+    RefusedFile {
         text: file_with_buffer_call!("mread m9 4 max"),
         errors: NAME,
     },
-    Refused {
+    RefusedFile {
         text: file_with_buffer_call!("mread m9 0 max"),
         errors: INSTR,
     },
-    Refused {
+    RefusedFile {
         text: file_with_buffer_call!("mread m0 257 max"),
         errors: INSTR,
     },
-    Refused {
+    RefusedFile {
         text: file_with_buffer_call!("mread m0 4"),
         errors: INSTR,
     },
-    Refused {
+    RefusedFile {
         text: file_with_buffer_call!("mreset m9"),
         errors: NAME,
     },
-    Refused {
+    RefusedFile {
         text: file_with_buffer_call!("mreset"),
         errors: INSTR,
     },
-    Refused {
+    RefusedFile {
         text: file_with_buffer_call!("mspaces b0"),
         errors: NAME,
     },
-    Refused {
+    RefusedFile {
         text: file_with_buffer_call!("mspaces m0 0"),
         errors: INSTR,
     },
-    Refused {
+    RefusedFile {
         text: file_with_buffer_call!("mnext m9"),
         errors: NAME,
     },
-    Refused {
+    RefusedFile {
         text: file_with_buffer_call!("mnext m0 0"),
         errors: INSTR,
     },

@@ -1,6 +1,6 @@
 //! Application files that are refused: those of event groups.
 
-use crate::refused_files::{INSTR, LIMIT, NAME, Refused, SHAPE, assert_refused};
+use crate::refused_files::{INSTR, LIMIT, NAME, RefusedFile, SHAPE, assert_refused};
 use std::test::Fail;
 
 // The file of these event groups.
@@ -26,36 +26,36 @@ macro_rules! file_with_group_call {
     };
 }
 
-const REFUSED_GROUPS: [Refused; 8] = [
-    Refused {
+const REFUSED_GROUPS: [RefusedFile; 8] = [
+    RefusedFile {
         text: file_with_groups!(r#"{"name":"g0"}"#),
         errors: SHAPE,
     },
-    Refused {
+    RefusedFile {
         text: file_with_groups!(r#"[7]"#),
         errors: SHAPE,
     },
-    Refused {
+    RefusedFile {
         text: file_with_groups!(r#"[{}]"#),
         errors: SHAPE,
     },
-    Refused {
+    RefusedFile {
         text: file_with_groups!(r#"[{"name":7}]"#),
         errors: SHAPE,
     },
-    Refused {
+    RefusedFile {
         text: file_with_groups!(r#"[{"name":"G0","bits":0}]"#),
         errors: SHAPE,
     },
-    Refused {
+    RefusedFile {
         text: file_with_groups!(r#"[{"name":"G0"}]"#),
         errors: NAME,
     },
-    Refused {
+    RefusedFile {
         text: file_with_groups!(r#"[{"name":"g0"},{"name":"g1"},{"name":"g0"}]"#),
         errors: NAME,
     },
-    Refused {
+    RefusedFile {
         text: file_with_groups!(
             r#"[0,0,0,0,0,0,0,0,0,0,0,0,0,0,0,0,0,0,0,0,0,0,0,0,0,0,0,0,0,0,0,0,0]"#
         ),
@@ -63,84 +63,84 @@ const REFUSED_GROUPS: [Refused; 8] = [
     },
 ];
 
-const REFUSED_GROUP_CALLS: [Refused; 20] = [
-    Refused {
+const REFUSED_GROUP_CALLS: [RefusedFile; 20] = [
+    RefusedFile {
         text: file_with_group_call!("gset g9 1"),
         errors: NAME,
     },
-    Refused {
+    RefusedFile {
         text: file_with_group_call!("gset t0 1"),
         errors: NAME,
     },
-    Refused {
+    RefusedFile {
         text: file_with_group_call!("gset g0 max"),
         errors: INSTR,
     },
-    Refused {
+    RefusedFile {
         text: file_with_group_call!("gset g0"),
         errors: INSTR,
     },
-    Refused {
+    RefusedFile {
         text: file_with_group_call!("gclear g9 1"),
         errors: NAME,
     },
-    Refused {
+    RefusedFile {
         text: file_with_group_call!("gclear g9 r8"),
         errors: INSTR,
     },
-    Refused {
+    RefusedFile {
         text: file_with_group_call!("gclear g0"),
         errors: INSTR,
     },
-    Refused {
+    RefusedFile {
         text: file_with_group_call!("gget g9"),
         errors: NAME,
     },
-    Refused {
+    RefusedFile {
         text: file_with_group_call!("gget g0 0"),
         errors: INSTR,
     },
-    Refused {
+    RefusedFile {
         text: file_with_group_call!("gget"),
         errors: INSTR,
     },
-    Refused {
+    RefusedFile {
         text: file_with_group_call!("gwait g9 1 any keep max"),
         errors: NAME,
     },
-    Refused {
+    RefusedFile {
         text: file_with_group_call!("gwait g0 1 some keep 0"),
         errors: INSTR,
     },
-    Refused {
+    RefusedFile {
         text: file_with_group_call!("gwait g0 1 all leave 0"),
         errors: INSTR,
     },
-    Refused {
+    RefusedFile {
         text: file_with_group_call!("gwait g0 1 clear all 0"),
         errors: INSTR,
     },
-    Refused {
+    RefusedFile {
         text: file_with_group_call!("gwait g0 max any keep 0"),
         errors: INSTR,
     },
-    Refused {
+    RefusedFile {
         text: file_with_group_call!("gwait g0 1 any keep"),
         errors: INSTR,
     },
-    Refused {
+    RefusedFile {
         text: file_with_group_call!("gsync g9 1 1 max"),
         errors: NAME,
     },
-    Refused {
+    RefusedFile {
         text: file_with_group_call!("gsync g0 1 max max"),
         errors: INSTR,
     },
-    Refused {
+    RefusedFile {
         text: file_with_group_call!("gsync g0 max 1 0"),
         errors: INSTR,
     },
-    Refused {
+    RefusedFile {
         text: file_with_group_call!("gsync g0 1 1"),
         errors: INSTR,
     },

@@ -1,7 +1,7 @@
 //! Runs of the program: what it is asked, and what it answers.
 
 use crate::asserts::assert_same;
-use crate::memory::{Source, Target};
+use crate::memory::{MemorySource, MemoryTarget};
 use rd_main::run_main;
 use std::alloc::{AllocError, AllocGlobal, Global};
 use std::io::{Read, Write};
@@ -34,7 +34,7 @@ where
     H: Files + AllocGlobal + Abort + Wait + Sync + Threads + Clock,
     H: Net<Listener = TcpListener, Stream = TcpStream>,
 {
-    let mut target = Target::new(Vec::new(rt.alloc()));
+    let mut target = MemoryTarget::new(Vec::new(rt.alloc()));
     run(rt, reader, &mut target);
     target.into_bytes()
 }
@@ -48,14 +48,14 @@ fn padded_line(alloc: Global, len: usize, end: &[u8]) -> Result<Vec<u8>, AllocEr
 
 /// Lines to the built-in application, and what is answered.
 #[derive(Clone, Copy)]
-pub struct Session {
+pub struct ScriptedSession {
     pub name: &'static str,
     pub lines: &'static str,
     pub replies: &'static str,
 }
 
 /// Moves back to the start, and one too many.
-pub const UNDO_TO_BOOT: Session = Session {
+pub const UNDO_TO_BOOT: ScriptedSession = ScriptedSession {
     name: "undo_to_boot",
     lines: "step 0\nstep 0\nstep 0\nstep 0\nshow queue q0\nback 4\nshow queue q0\nback 1\n",
     replies: "ok at 1\nok at 2\nok at 3\nok at 4\n\
@@ -65,13 +65,13 @@ pub const UNDO_TO_BOOT: Session = Session {
          no TooFar 0\n",
 };
 
-const SESSIONS: [Session; 12] = [
-    Session {
+const SESSIONS: [ScriptedSession; 12] = [
+    ScriptedSession {
         name: "fresh_queue",
         lines: "show queue q0\n",
         replies: EMPTY_QUEUE,
     },
-    Session {
+    ScriptedSession {
         name: "queue_fills",
         lines: "step 0\nstep 0\nstep 0\nshow task t0\nstep 0\nshow task t0\nshow queue q0\n",
         replies: "ok at 1\nok at 2\nok at 3\n\
@@ -81,14 +81,14 @@ const SESSIONS: [Session; 12] = [
              queue q0 2/2 items 41,41 recv - send - set -\n",
     },
     UNDO_TO_BOOT,
-    Session {
+    ScriptedSession {
         name: "an idle core",
         lines: "step 0\nstep 0\nstep 0\nstep 0\nstep 0\nstep 0\nshow task t0\nback 5\nback 1\n",
         replies: "ok at 1\nok at 2\nok at 3\nok at 4\nok at 5\nno NoTask\n\
              task t0 core - pc 4 phase ended regs 0,0,0,0,0,0,0,0 data 41 notes 0:idle\n\
              ok at 0\nno TooFar 0\n",
     },
-    Session {
+    ScriptedSession {
         name: "a refusal changes nothing",
         lines: "step 0\nback 2\nstep 1\nshow task t0\nback 1\nshow task t0\n",
         replies: "ok at 1\nno TooFar 1\nno NoSuch\n\
@@ -96,40 +96,40 @@ const SESSIONS: [Session; 12] = [
              ok at 0\n\
              task t0 core 0 pc 0 phase run regs 0,0,0,0,0,0,0,0 data - notes 0:idle\n",
     },
-    Session {
+    ScriptedSession {
         name: "unknown names",
         lines: "step 4294967295\nshow queue q1\nshow queue t0\nshow task q0\nshow task r0\n",
         replies: "no NoSuch\nno NoSuch\nno NoSuch\nno NoSuch\nno NoSuch\n",
     },
-    Session {
+    ScriptedSession {
         name: "numbers at their ends",
         lines: "back 1000000\nback 1000001\nback 0\nstep 4294967296\nstep 00000000000\n\
              step 0000000000\n",
         replies: "no TooFar 0\nno Syntax\nno Syntax\nno Syntax\nno Syntax\nok at 1\n",
     },
-    Session {
+    ScriptedSession {
         name: "no commands",
         lines: "step\nstep 0 0\nSTEP 0\nstep -1\nstep\t0\nback\nshow\nshow queue\nshow queue Q0\n\
              show queue q0 q0\nshow core q0\nshow task 0t\n",
         replies: "no Syntax\nno Syntax\nno Syntax\nno Syntax\nno Syntax\nno Syntax\nno Syntax\n\
              no Syntax\nno Syntax\nno Syntax\nno Syntax\nno Syntax\n",
     },
-    Session {
+    ScriptedSession {
         name: "spaces",
         lines: "  step   0  \n \n show  queue  q0\n",
         replies: "ok at 1\nno Syntax\nqueue q0 0/2 items - recv - send - set -\n",
     },
-    Session {
+    ScriptedSession {
         name: "ends of lines",
         lines: "step 0\r\nstep 0\r\r\n\n\r\nstep 0",
         replies: "ok at 1\nno Syntax\nno Syntax\nno Syntax\nok at 2\n",
     },
-    Session {
+    ScriptedSession {
         name: "a CR at the very end",
         lines: "step 0\r",
         replies: "no Syntax\n",
     },
-    Session {
+    ScriptedSession {
         name: "no lines",
         lines: "",
         replies: "",
@@ -137,19 +137,19 @@ const SESSIONS: [Session; 12] = [
 ];
 
 // In one piece, and byte by byte.
-fn assert_session<H>(rt: &H, session: Session)
+fn assert_session<H>(rt: &H, session: ScriptedSession)
 where
     H: Files + AllocGlobal + Abort + Wait + Sync + Threads + Clock,
     H: Net<Listener = TcpListener, Stream = TcpStream>,
 {
-    let Session {
+    let ScriptedSession {
         name,
         lines,
         replies,
     } = session;
-    let whole = answers(rt, &mut Source::new(lines.as_bytes()));
+    let whole = answers(rt, &mut MemorySource::new(lines.as_bytes()));
     assert_eq!(rt; whole.as_slice(), replies.as_bytes(), "in {name}");
-    let mut slow = Source::new(lines.as_bytes());
+    let mut slow = MemorySource::new(lines.as_bytes());
     slow.chunk = 1;
     let single = answers(rt, &mut slow);
     assert_eq!(rt;
@@ -221,7 +221,7 @@ where
 {
     let LongLine { len, end, replies } = line;
     let bytes = padded_line(rt.alloc(), len, end.as_bytes())?;
-    let mut source = Source::new(bytes.as_slice());
+    let mut source = MemorySource::new(bytes.as_slice());
     source.chunk = chunk;
     let written = answers(rt, &mut source);
     assert_eq!(rt;
@@ -256,7 +256,7 @@ fn many_lines(rt: HostRuntime) -> Result<(), Fail> {
         expected.extend_from_slice(EMPTY_QUEUE.as_bytes())?;
     }
     for chunk in [7, 4096, usize::MAX] {
-        let mut source = Source::new(lines.as_slice());
+        let mut source = MemorySource::new(lines.as_slice());
         source.chunk = chunk;
         let written = answers(&rt, &mut source);
         assert!(rt; written.as_slice() == expected.as_slice(), "{chunk} a read");
@@ -268,8 +268,8 @@ fn many_lines(rt: HostRuntime) -> Result<(), Fail> {
 #[test]
 fn one_write_for_a_read(rt: HostRuntime) -> Result<(), Fail> {
     let alloc = rt.alloc();
-    let mut source = Source::new(b"step 0\nstep 0\nback 1\nshow queue q0\n");
-    let mut target = Target::new(Vec::new(alloc));
+    let mut source = MemorySource::new(b"step 0\nstep 0\nback 1\nshow queue q0\n");
+    let mut target = MemoryTarget::new(Vec::new(alloc));
     run(&rt, &mut source, &mut target);
     assert_same(&rt, target.writes, 1);
     Ok(())
@@ -280,15 +280,15 @@ fn one_write_for_a_read(rt: HostRuntime) -> Result<(), Fail> {
 #[test]
 fn faults(rt: HostRuntime) -> Result<(), Fail> {
     let alloc = rt.alloc();
-    let mut source = Source::new(b"step 0\nstep 0\nstep 0\n");
+    let mut source = MemorySource::new(b"step 0\nstep 0\nstep 0\n");
     source.chunk = 10;
     source.reads = 1;
     let written = answers(&rt, &mut source);
     assert_same(&rt, written.as_slice(), b"ok at 1\n".as_slice());
 
-    let mut source = Source::new(b"step 0\nshow queue q0\nstep 0\n");
+    let mut source = MemorySource::new(b"step 0\nshow queue q0\nstep 0\n");
     source.chunk = 7;
-    let mut target = Target::new(Vec::new(alloc));
+    let mut target = MemoryTarget::new(Vec::new(alloc));
     target.writes_left = 1;
     run(&rt, &mut source, &mut target);
     assert_same(&rt, target.bytes.as_slice(), b"ok at 1\n".as_slice());

@@ -1,7 +1,7 @@
 //! Runs both ways: on by policy, until a condition holds, back to where one held, and again.
 
 use crate::programs::{assert_ending, run_file};
-use crate::tasks::{Row, assert_rows};
+use crate::tasks::{FileRun, assert_rows};
 use std::test::Fail;
 
 // The built-in application.
@@ -37,15 +37,15 @@ const LATE: &str = concat!(
     r#""tasks":[{"name":"t0","priority":1,"code":["jump 0"]}]}"#,
 );
 
-const FORWARD: [Row; 5] = [
-    Row {
+const FORWARD: [FileRun; 5] = [
+    FileRun {
         name: "round_robin",
         app: ONE_CORE,
         commands: "forward 3\nshow cores\nback 3\nshow cores\n",
         replies: "ok at 3\ncores t1 ready t0 tick 1 turn 1\n\
                   ok at 0\ncores t0 ready t1 tick 0 turn 0\n",
     },
-    Row {
+    FileRun {
         name: "forward goes by rounds of busy cores",
         app: TWO_CORES,
         commands: "forward 2\nshow cores\nforward 1\nshow cores\nforward 4\nshow cores\n",
@@ -53,14 +53,14 @@ const FORWARD: [Row; 5] = [
                   ok at 3\ncores t0,t1 ready - tick 1 turn 0\n\
                   ok at 7\ncores t0,t1 ready - tick 2 turn 1\n",
     },
-    Row {
+    FileRun {
         name: "a step chooses another order",
         app: TWO_CORES,
         commands: "step 1\nforward 1\nshow cores\nstep 0\nforward 1\nshow cores\n",
         replies: "ok at 1\nok at 2\ncores t0,t1 ready - tick 1 turn 0\n\
                   ok at 3\nok at 4\ncores t0,t1 ready - tick 1 turn 2\n",
     },
-    Row {
+    FileRun {
         name: "a run is refused at the last tick",
         app: LATE,
         commands: "forward 1\nback 1\nforward 4\nshow moves\nshow cores\nforward 3\nforward 1\n\
@@ -69,7 +69,7 @@ const FORWARD: [Row; 5] = [
                   cores t0 ready - tick 4294967294 turn 0\nok at 3\nno TickLimit\n\
                   moves 3 undone 0 kept 3\n",
     },
-    Row {
+    FileRun {
         name: "no runs",
         app: BUILTIN,
         commands: "forward\nforward 0\nforward 1000001\nforward 1 1\nforward x\nshow moves 1\n",
@@ -90,14 +90,14 @@ pub const EDIT_FORGETS_THE_UNDONE: &str = "step 0\nstep 0\nstep 0\nstep 0\nback 
 pub const EDIT_FORGETS_THE_UNDONE_REPLIES: &str = "ok at 1\nok at 2\nok at 3\nok at 4\nok at 2\n\
      moves 2 undone 2 kept 2\nok at 3\nno NothingUndone\nmoves 3 undone 0 kept 3\n";
 
-const REDO: [Row; 5] = [
-    Row {
+const REDO: [FileRun; 5] = [
+    FileRun {
         name: "edit_forgets_the_undone",
         app: BUILTIN,
         commands: EDIT_FORGETS_THE_UNDONE,
         replies: EDIT_FORGETS_THE_UNDONE_REPLIES,
     },
-    Row {
+    FileRun {
         name: "without the edit",
         app: BUILTIN,
         commands: "step 0\nstep 0\nstep 0\nstep 0\nback 2\nshow moves\nredo 1\nshow moves\n\
@@ -105,7 +105,7 @@ const REDO: [Row; 5] = [
         replies: "ok at 1\nok at 2\nok at 3\nok at 4\nok at 2\nmoves 2 undone 2 kept 2\nok at 3\n\
                   moves 3 undone 1 kept 3\nqueue q0 2/2 items 41,41 recv - send - set -\n",
     },
-    Row {
+    FileRun {
         name: "moves are made again as they were",
         app: TWO_CORES,
         commands: "tick\nstep 1\ntick\nback 3\nredo 2\nshow cores\nredo 1\nshow cores\nredo 1\n",
@@ -113,7 +113,7 @@ const REDO: [Row; 5] = [
                   cores t0,t1 ready - tick 1 turn 2\nok at 3\n\
                   cores t0,t1 ready - tick 2 turn 0\nno NothingUndone\n",
     },
-    Row {
+    FileRun {
         name: "edits are made again as they were",
         app: BUILTIN,
         commands: "poke reg t0 1 5\nstep 0\npoke data t0 42ff\nback 3\nshow task t0\nredo 3\n\
@@ -125,7 +125,7 @@ const REDO: [Row; 5] = [
                   ok at 1\nok at 2\n\
                   task t0 core 0 pc 1 phase run regs 0,5,0,0,0,0,0,0 data 41 notes 0:idle\n",
     },
-    Row {
+    FileRun {
         name: "fewer are undone",
         app: BUILTIN,
         commands: "redo 1\nforward 3\nback 2\nredo 3\nshow moves\nstep 0\nredo 1\nredo 0\nredo\n\
@@ -141,8 +141,8 @@ fn redo(rt: HostRuntime) -> Result<(), Fail> {
     assert_rows(&rt, &REDO)
 }
 
-const UNTIL: [Row; 4] = [
-    Row {
+const UNTIL: [FileRun; 4] = [
+    FileRun {
         name: "runs_to_a_condition",
         app: TWICE,
         commands: "step 0\nstep 0\nstep 0\nstep 0\nstep 0\nstep 0\nstep 0\n\
@@ -151,7 +151,7 @@ const UNTIL: [Row; 4] = [
         replies: "ok at 1\nok at 2\nok at 3\nok at 4\nok at 5\nok at 6\nok at 7\n\
                   ok at 5 met\nok at 2 met\nok at 0 start\nok at 3 met\nok at 4 limit\n",
     },
-    Row {
+    FileRun {
         name: "the first place isn't looked at",
         app: BUILTIN,
         commands: "until pc t0 = 0 1\nback until pc t0 = 1\nuntil pc t0 = 0 2\nuntil pc t0 = 1 1\n\
@@ -159,7 +159,7 @@ const UNTIL: [Row; 4] = [
         replies: "ok at 1 limit\nok at 0 start\nok at 2 limit\nok at 3 limit\nok at 2 met\n\
                   moves 2 undone 1 kept 2\n",
     },
-    Row {
+    FileRun {
         name: "a refused search changes nothing",
         app: LATE,
         commands: "forward 1\nback 1\nuntil pc t0 = 1 9\nshow moves\nshow cores\n\
@@ -167,7 +167,7 @@ const UNTIL: [Row; 4] = [
         replies: "ok at 1\nok at 0\nno TickLimit\nmoves 0 undone 1 kept 0\n\
                   cores t0 ready - tick 4294967294 turn 0\nok at 2 met\n",
     },
-    Row {
+    FileRun {
         name: "no searches",
         app: BUILTIN,
         commands: "until count q0 = 1\nuntil count q0 = 1 0\nuntil count q0 = 1 1000001\nuntil\n\

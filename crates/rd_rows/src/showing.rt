@@ -27,7 +27,7 @@ fn assert_shown<H: AllocGlobal + Abort>(
         (text_shown machine.now.debugger.app.names (target_of machine.now.debugger) view) }
     requires named { IsViewOf machine.now.debugger.app.names view }
 {
-    machine.keeps();
+    machine.by_invariant();
     let line = show(rt.alloc(), machine.target(), machine.names(), view)?;
     assert_same(rt, line.as_slice(), wanted.as_bytes());
     Ok(())

@@ -1,7 +1,7 @@
 //! Runs over a reader that is interrupted, and over a writer that holds bytes back.
 
 use crate::asserts::assert_same;
-use crate::memory::Source;
+use crate::memory::MemorySource;
 use rd_main::run_main;
 use std::alloc::AllocGlobal;
 use std::io;
@@ -17,7 +17,7 @@ use std::time::Clock;
 // Is interrupted before each read that gives bytes.
 #[derive(Drop)]
 struct Interrupting<'a> {
-    source: Source<'a>,
+    source: MemorySource<'a>,
     is_next: bool,
 }
 
@@ -72,7 +72,7 @@ where
 // An interrupted read is tried again. No contract says so: it is only tested.
 #[test]
 fn interrupted_reads(rt: HostRuntime) -> Result<(), Fail> {
-    let mut source = Source::new(b"step 0\nstep 0\nback 1");
+    let mut source = MemorySource::new(b"step 0\nstep 0\nback 1");
     source.chunk = 3;
     let mut reader = Interrupting {
         source,
@@ -82,14 +82,14 @@ fn interrupted_reads(rt: HostRuntime) -> Result<(), Fail> {
     Ok(())
 }
 
-// No answer is kept back. No contract says so: it is only tested.
+// No answer is held back. No contract says so: it is only tested.
 #[test]
 fn answers_are_flushed(rt: HostRuntime) -> Result<(), Fail> {
-    let mut whole = Source::new(b"step 0\nshow queue q1\n");
+    let mut whole = MemorySource::new(b"step 0\nshow queue q1\n");
     writes(&rt, &mut whole, "ok at 1\nno NoSuch\n");
-    let mut unfinished = Source::new(b"step 0");
+    let mut unfinished = MemorySource::new(b"step 0");
     writes(&rt, &mut unfinished, "ok at 1\n");
-    let mut long = Source::new(&[b'x'; 1025]);
+    let mut long = MemorySource::new(&[b'x'; 1025]);
     writes(&rt, &mut long, "no LineTooLong\n");
     Ok(())
 }

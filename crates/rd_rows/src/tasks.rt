@@ -13,7 +13,7 @@ use std::time::Clock;
 
 /// A run of an application file.
 #[derive(Drop)]
-pub struct Row {
+pub struct FileRun {
     pub name: &'static str,
     pub app: &'static str,
     pub commands: &'static str,
@@ -21,21 +21,21 @@ pub struct Row {
 }
 
 /// Fails unless each run answers so, ends with status 0, and writes nothing to its errors.
-pub fn assert_rows<H>(rt: &H, rows: &[Row]) -> Result<(), Fail>
+pub fn assert_rows<H>(rt: &H, rows: &[FileRun]) -> Result<(), Fail>
 where
     H: Files + AllocGlobal + Abort + Wait + Sync + Threads + Clock,
     H: Net<Listener = TcpListener, Stream = TcpStream>,
 {
     for row in rows {
-        let row: &Row = row;
+        let row: &FileRun = row;
         let ending = run_file(rt, "row.json", row.app.as_bytes(), &[], row.commands)?;
         assert_ending(rt, &ending, 0, row.replies, "");
     }
     Ok(())
 }
 
-const ROWS: [Row; 8] = [
-    Row {
+const ROWS: [FileRun; 8] = [
+    FileRun {
         name: "full_history",
         app: concat!(
             r#"{"profile":1,"cores":1,"tick":4294967295,"#,
@@ -44,7 +44,7 @@ const ROWS: [Row; 8] = [
         commands: "tick\nshow cores\n",
         replies: "no TickLimit\ncores t0 ready - tick 4294967295 turn 0\n",
     },
-    Row {
+    FileRun {
         name: "two cores",
         app: concat!(
             r#"{"profile":1,"cores":2,"#,
@@ -61,7 +61,7 @@ const ROWS: [Row; 8] = [
                   no NoTask\nno NoSuch\n\
                   ok at 0\ncores t1,t0 ready t2 tick 0 turn 0\n",
     },
-    Row {
+    FileRun {
         name: "turns on the core of the new tick",
         app: concat!(
             r#"{"profile":1,"cores":2,"#,
@@ -74,7 +74,7 @@ const ROWS: [Row; 8] = [
                   ok at 2\ncores t1,t2 ready t0 tick 2 turn 0\n\
                   ok at 1\ncores t0,t2 ready t1 tick 1 turn 0\n",
     },
-    Row {
+    FileRun {
         name: "woken_receiver_loses_the_item",
         app: concat!(
             r#"{"profile":1,"cores":2,"queues":[{"name":"q0","length":1,"item":1}],"#,
@@ -97,7 +97,7 @@ const ROWS: [Row; 8] = [
                   ok at 0\ncores t1,t0 ready t2 tick 0 turn 0\n\
                   queue q0 0/1 items - recv - send - set -\n",
     },
-    Row {
+    FileRun {
         name: "timeout_keeps_the_waiting_order",
         app: concat!(
             r#"{"profile":1,"cores":3,"queues":[{"name":"q0","length":1,"item":1}],"#,
@@ -117,7 +117,7 @@ const ROWS: [Row; 8] = [
                   ok at 4\nok at 5\n\
                   task t1 core 0 pc 1 phase run regs 0,0,0,0,0,0,0,0 data - notes 0:idle\n",
     },
-    Row {
+    FileRun {
         name: "timeouts by rising number",
         app: concat!(
             r#"{"profile":1,"cores":2,"queues":[{"name":"q0","length":1,"item":1}],"#,
@@ -128,7 +128,7 @@ const ROWS: [Row; 8] = [
         replies: "ok at 1\nok at 2\nqueue q0 0/1 items - recv t1,t0 send - set -\n\
                   ok at 3\ncores t0,t1 ready - tick 1 turn 0\n",
     },
-    Row {
+    FileRun {
         name: "a full queue",
         app: concat!(
             r#"{"profile":1,"cores":2,"queues":[{"name":"q0","length":1,"item":1}],"#,
@@ -145,7 +145,7 @@ const ROWS: [Row; 8] = [
                   ok at 4\nqueue q0 1/1 items 00 recv - send - set -\n\
                   task t0 core 0 pc 2 phase run regs 1,0,0,0,0,0,0,0 data - notes 0:idle\n",
     },
-    Row {
+    FileRun {
         name: "a block time in a register",
         app: concat!(
             r#"{"profile":1,"cores":1,"queues":[{"name":"q0","length":1,"item":1}],"#,

@@ -31,15 +31,15 @@ use std::time::{Clock, Duration};
 
 // What has happened so far.
 #[derive(Drop)]
-struct Marks {
+struct SessionMarks {
     first_joined: AtomicU64,
     first_reads: AtomicU64,
     second_answered: AtomicU64,
 }
 
-impl Marks {
-    fn new() -> Marks {
-        Marks {
+impl SessionMarks {
+    fn new() -> SessionMarks {
+        SessionMarks {
             first_joined: AtomicU64::new(0),
             first_reads: AtomicU64::new(0),
             second_answered: AtomicU64::new(0),
@@ -64,7 +64,7 @@ fn wait_for<H: Abort + Clock>(rt: &H, mark: &AtomicU64) {
 
 // Where session 1 waits for session 2: at its gate, or at its reads.
 #[derive(Clone, Copy, PartialEq, Eq)]
-enum At {
+enum WaitingPoint {
     Gate,
     Reads,
 }
@@ -74,8 +74,8 @@ enum At {
 #[derive(Drop)]
 struct Turns<'a, H> {
     rt: &'a H,
-    marks: &'a Marks,
-    at: At,
+    marks: &'a SessionMarks,
+    at: WaitingPoint,
     counting: CountingGate<'a, H>,
 }
 
@@ -86,7 +86,7 @@ impl<H: Abort + Clock> Gate for Turns<'_, H> {
 
     fn before(&mut self, who: u32, line: u64) {
         self.counting.before(who, line);
-        if self.at == At::Gate && who == 1 && line == 1 {
+        if self.at == WaitingPoint::Gate && who == 1 && line == 1 {
             wait_for(self.rt, &self.marks.second_answered);
         }
     }
@@ -101,20 +101,20 @@ impl<H: Abort + Clock> Gate for Turns<'_, H> {
 
 // Gives a line a read. Its reads wait as `at` says.
 #[derive(Drop)]
-struct Lines<'a, H> {
+struct WaitingLines<'a, H> {
     rt: &'a H,
-    marks: &'a Marks,
-    at: At,
+    marks: &'a SessionMarks,
+    at: WaitingPoint,
     is_first: bool,
     reads: u64,
     ends: u64,
     rest: &'a [u8],
 }
 
-impl<H: Abort + Clock> Lines<'_, H> {
+impl<H: Abort + Clock> WaitingLines<'_, H> {
     // Waits before a read, where it is one that waits.
     fn wait(&self) {
-        if self.at == At::Gate {
+        if self.at == WaitingPoint::Gate {
             return;
         }
         if self.is_first && self.reads == 1 {
@@ -130,7 +130,7 @@ impl<H: Abort + Clock> Lines<'_, H> {
     }
 }
 
-impl<H: Abort + Clock> ByteSource for Lines<'_, H> {
+impl<H: Abort + Clock> ByteSource for WaitingLines<'_, H> {
     ghost use Rattle.std.specs.Prelude.{None};
 
     ghost seen = { λ l. record {
@@ -166,7 +166,7 @@ fn enter<L: Setup, H: Wait + Abort + Clock>(
     rt: &H,
     hall: &Hall<L>,
     pass: Pass<L>,
-    marks: &Marks,
+    marks: &SessionMarks,
     is_first: bool,
 ) -> Option<Seat<L>> {
     if !is_first {
@@ -187,8 +187,8 @@ fn attend<'a, L: Setup, H: Wait + Abort + Clock>(
     alloc: Global,
     hall: &Hall<L>,
     pass: Pass<L>,
-    marks: &'a Marks,
-    at: At,
+    marks: &'a SessionMarks,
+    at: WaitingPoint,
     client: Client<'_>,
 ) -> Option<(Gone<L>, Vec<u8>)> {
     let mut buffers = Buffers::new(alloc).ok()?;
@@ -200,7 +200,7 @@ fn attend<'a, L: Setup, H: Wait + Abort + Clock>(
         at,
         counting: CountingGate::new(rt, seat.who(), &lines_out),
     };
-    let mut lines = Lines {
+    let mut lines = WaitingLines {
         rt,
         marks,
         at,
@@ -228,7 +228,7 @@ fn attend<'a, L: Setup, H: Wait + Abort + Clock>(
 
 // What two sessions were answered, and how many entries the audit has.
 #[derive(Drop)]
-struct Told {
+struct BothTold {
     first: Vec<u8>,
     second: Vec<u8>,
     entries: usize,
@@ -241,9 +241,9 @@ fn attend_both<L: Setup + Send + Sync, H: Threads + Wait + Sync + Abort + Clock>
     hall: &Hall<L>,
     one: Pass<L>,
     two: Pass<L>,
-    at: At,
+    at: WaitingPoint,
 ) -> (Option<(Gone<L>, Vec<u8>)>, Option<(Gone<L>, Vec<u8>)>) {
-    let marks = Marks::new();
+    let marks = SessionMarks::new();
     let shared = &marks;
     let first = Client {
         is_first: true,
@@ -266,8 +266,8 @@ fn beside<L: Setup + Send + Sync, H: Threads + Wait + Sync + Abort + Clock>(
     alloc: Global,
     blank: Blank,
     app: App,
-    at: At,
-) -> Option<Told>
+    at: WaitingPoint,
+) -> Option<BothTold>
     requires name { blank.name ≡ L.name }
     requires parts { (blank.parts ≡ L.parts) × (blank.parts ≡ MAX_JOINS + 1) }
     requires app { app ≡ L.app }
@@ -297,7 +297,7 @@ fn beside<L: Setup + Send + Sync, H: Threads + Wait + Sync + Abort + Clock>(
     };
     let closed = hall.finish(gones).ok()?;
     let (first, second) = told?;
-    Some(Told {
+    Some(BothTold {
         first,
         second,
         entries: closed.entries(),
@@ -305,7 +305,7 @@ fn beside<L: Setup + Send + Sync, H: Threads + Wait + Sync + Abort + Clock>(
 }
 
 // Both were answered, and the audit has all: two joins, four views, two leaves.
-fn assert_beside<H: Abort>(rt: &H, told: Option<Told>) {
+fn assert_beside<H: Abort>(rt: &H, told: Option<BothTold>) {
     let Some(told) = told else {
         panic!(rt; "a session wasn't let in, or the history isn't theirs");
     };
@@ -327,7 +327,7 @@ fn assert_beside<H: Abort>(rt: &H, told: Option<Told>) {
 fn held_at_the_gate(rt: HostRuntime) -> Result<(), Fail> {
     let app = App::builtin(rt.alloc())?;
     let blank = Blank::new(MAX_JOINS as u64 + 1);
-    let told = beside::<Brand, HostRuntime>(&rt, rt.alloc(), blank, app, At::Gate);
+    let told = beside::<Brand, HostRuntime>(&rt, rt.alloc(), blank, app, WaitingPoint::Gate);
     assert_beside(&rt, told);
     Ok(())
 }
@@ -337,7 +337,7 @@ fn held_at_the_gate(rt: HostRuntime) -> Result<(), Fail> {
 fn held_at_the_reads(rt: HostRuntime) -> Result<(), Fail> {
     let app = App::builtin(rt.alloc())?;
     let blank = Blank::new(MAX_JOINS as u64 + 1);
-    let told = beside::<Brand, HostRuntime>(&rt, rt.alloc(), blank, app, At::Reads);
+    let told = beside::<Brand, HostRuntime>(&rt, rt.alloc(), blank, app, WaitingPoint::Reads);
     assert_beside(&rt, told);
     Ok(())
 }

@@ -1,7 +1,7 @@
 //! Trimming: the oldest records are given up, and all else goes on as before.
 
 use crate::programs::{assert_ending, run_file};
-use crate::tasks::{Row, assert_rows};
+use crate::tasks::{FileRun, assert_rows};
 use std::test::Fail;
 
 // The built-in application.
@@ -11,8 +11,8 @@ const BUILTIN: &str = concat!(
     r#""send q0 0","end"]}]}"#,
 );
 
-const ROWS: [Row; 6] = [
-    Row {
+const ROWS: [FileRun; 6] = [
+    FileRun {
         name: "trim",
         app: BUILTIN,
         commands: "step 0\nstep 0\nstep 0\nstep 0\ntrim 2\nshow moves\nback 3\nback 2\n\
@@ -22,7 +22,7 @@ const ROWS: [Row; 6] = [
                   no TooFar 2\nok at 2\nmoves 2 undone 2 kept 0\nok at 2 start\nok at 4\n\
                   ok at 4\nno TooFar 2\nok at 3 met\nok at 3\nok at 3 start\nno TooFar 0\n",
     },
-    Row {
+    FileRun {
         name: "what is kept is undone and made again as before",
         app: BUILTIN,
         commands: "step 0\nstep 0\nstep 0\ntrim 2\nback 1\nshow queue q0\nback 1\n\
@@ -32,7 +32,7 @@ const ROWS: [Row; 6] = [
                   task t0 core 0 pc 1 phase run regs 0,0,0,0,0,0,0,0 data 41 notes 0:idle\n\
                   ok at 3\nqueue q0 2/2 items 41,41 recv - send - set -\nno TooFar 2\n",
     },
-    Row {
+    FileRun {
         name: "the moves undone stay",
         app: BUILTIN,
         commands: "step 0\nstep 0\nstep 0\nstep 0\nback 2\ntrim 1\nshow moves\nredo 2\n\
@@ -41,14 +41,14 @@ const ROWS: [Row; 6] = [
                   moves 2 undone 2 kept 1\nok at 4\nmoves 4 undone 0 kept 3\nok at 1\n\
                   no TooFar 0\n",
     },
-    Row {
+    FileRun {
         name: "an edit is trimmed as any move",
         app: BUILTIN,
         commands: "poke reg t0 0 7\nstep 0\ntrim 1\nback 1\nback 1\nshow task t0\n",
         replies: "ok at 1\nok at 2\nok at 2\nok at 1\nno TooFar 0\n\
                   task t0 core 0 pc 0 phase run regs 7,0,0,0,0,0,0,0 data - notes 0:idle\n",
     },
-    Row {
+    FileRun {
         name: "trimming twice is trimming to the fewer",
         app: BUILTIN,
         commands: "step 0\nstep 0\nstep 0\ntrim 2\ntrim 1\nshow moves\ntrim 2\nshow moves\n\
@@ -56,7 +56,7 @@ const ROWS: [Row; 6] = [
         replies: "ok at 1\nok at 2\nok at 3\nok at 3\nok at 3\nmoves 3 undone 0 kept 1\n\
                   ok at 3\nmoves 3 undone 0 kept 1\nok at 3\nmoves 3 undone 0 kept 1\n",
     },
-    Row {
+    FileRun {
         name: "no trims",
         app: BUILTIN,
         commands: "trim\ntrim -1\ntrim 1 2\ntrim 4294967296\ntrim q0\ntrim 0\nshow moves\n",

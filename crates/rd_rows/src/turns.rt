@@ -43,7 +43,7 @@ fn turn_of(who: u32, line: u64) -> u64 {
 
 // How many turns are over, and whether session 1 has come.
 #[derive(Drop)]
-struct Marks {
+struct TurnMarks {
     turns: AtomicU64,
     first_came: AtomicU64,
 }
@@ -52,7 +52,7 @@ struct Marks {
 #[derive_where(Clone, Copy)]
 struct InTurn<'a, H> {
     rt: &'a H,
-    marks: &'a Marks,
+    marks: &'a TurnMarks,
 }
 
 impl<H: Abort + Clock> InTurn<'_, H> {
@@ -134,7 +134,7 @@ fn hold<H: Net<Stream = TcpStream> + Clock + Abort>(rt: &H, alloc: Global, port:
 }
 
 // Another, which comes later, is held, and sees who has it.
-fn be_held<H>(rt: &H, alloc: Global, port: u16, marks: &Marks)
+fn be_held<H>(rt: &H, alloc: Global, port: u16, marks: &TurnMarks)
 where
     H: Net<Stream = TcpStream> + Clock + Abort,
 {
@@ -165,7 +165,7 @@ where
     H: Abort + Wait + Sync + Threads + Clock,
     H: Net<Listener = TcpListener, Stream = TcpStream>,
 {
-    let marks = Marks {
+    let marks = TurnMarks {
         turns: AtomicU64::new(0),
         first_came: AtomicU64::new(0),
     };

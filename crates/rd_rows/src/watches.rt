@@ -1,7 +1,7 @@
 //! The wheel and watches of the program's one session, and its history.
 
 use crate::programs::{assert_ending, run_file};
-use crate::tasks::{Row, assert_rows};
+use crate::tasks::{FileRun, assert_rows};
 use std::test::Fail;
 
 // The built-in application.
@@ -18,14 +18,14 @@ pub const WATCHES: &str = "watch tick > 0\ntick\nshow watches\nback until w0\nun
 pub const WATCHES_REPLIES: &str = "ok watch 0\nok at 1\nwatches 0:holds\nok at 0 start\n\
      no NoWatch\nno NotHolder\nno NoSuch\nno BadEdit\n";
 
-const ROWS: [Row; 7] = [
-    Row {
+const ROWS: [FileRun; 7] = [
+    FileRun {
         name: "watches",
         app: BUILTIN,
         commands: WATCHES,
         replies: WATCHES_REPLIES,
     },
-    Row {
+    FileRun {
         name: "a 17th watch",
         app: BUILTIN,
         commands: "watch tick = 0\nwatch tick = 1\nwatch tick = 2\nwatch tick = 3\n\
@@ -44,7 +44,7 @@ const ROWS: [Row; 7] = [
                   watches 0:holds,1:fails,2:fails,3:fails,4:fails,5:fails,6:fails,7:fails,\
                   8:fails,9:fails,10:holds,11:holds,12:holds,13:holds,14:holds,15:holds\n",
     },
-    Row {
+    FileRun {
         name: "runs to a watch",
         app: BUILTIN,
         commands: "watch count q0 = 1\nuntil w0 9\nuntil w0 2\nback until w00\nback until w0\n\
@@ -52,7 +52,7 @@ const ROWS: [Row; 7] = [
         replies: "ok watch 0\nok at 3 met\nok at 4 met\nok at 3 met\nok at 0 start\nok at 2 limit\n\
                   watches 0:fails\nok watch 0\nno NoWatch\nno NoWatch\nwatches -\n",
     },
-    Row {
+    FileRun {
         name: "no watches",
         app: BUILTIN,
         commands: "watch\nwatch w0\nwatch tick\nwatch tick = 0 1\nunwatch\nunwatch w0\n\
@@ -64,14 +64,14 @@ const ROWS: [Row; 7] = [
                   no Syntax\nno Syntax\nno Syntax\nno Syntax\n\
                   no Syntax\nno Syntax\n",
     },
-    Row {
+    FileRun {
         name: "numbers of watches that aren't set",
         app: BUILTIN,
         commands: "unwatch 0\nunwatch 16\nunwatch 4294967295\nuntil w15 1\nback until w7\n\
                    until w0000000015 1\n",
         replies: "no NoWatch\nno NoWatch\nno NoWatch\nno NoWatch\nno NoWatch\nno NoWatch\n",
     },
-    Row {
+    FileRun {
         name: "the wheel of one session",
         app: BUILTIN,
         commands: "show wheel\nwheel give\nwheel take\nshow wheel\nwheel take\nstep 0\nback 1\n\
@@ -79,7 +79,7 @@ const ROWS: [Row; 7] = [
         replies: "wheel -\nno NotHolder\nok wheel\nwheel 1\nok wheel\nok at 1\nok at 0\n\
                   ok at 1\nok wheel\nwheel -\nno NotHolder\nmoves 1 undone 0 kept 1\n",
     },
-    Row {
+    FileRun {
         name: "no wheels",
         app: BUILTIN,
         commands: "wheel\nwheel turn\nwheel take 1\nwheel give 1\nshow wheels\nshow wheel 1\n\

@@ -52,7 +52,7 @@ enum By {
 
 // What comes of a session that has room for so many bytes of its answers, and not for all.
 #[derive(Drop)]
-struct Case {
+struct WriteFaultCase {
     by: By,
     room: usize,
     script: Vec<u8>,
@@ -64,8 +64,8 @@ struct Case {
     writes: usize,
 }
 
-impl Case {
-    fn new(alloc: Global, by: By, room: usize) -> Result<Case, AllocError> {
+impl WriteFaultCase {
+    fn new(alloc: Global, by: By, room: usize) -> Result<WriteFaultCase, AllocError> {
         let texts = first_of(alloc, &REPLIES, 6)?;
         let out = &texts.as_slice()[..room.min(texts.len())];
         let whole = whole_lines(out);
@@ -79,7 +79,7 @@ impl Case {
             By::Lines => whole.saturating_add(usize::from(is_amid)),
             By::OneRead => usize::from(!out.is_empty()),
         };
-        Ok(Case {
+        Ok(WriteFaultCase {
             by,
             room,
             script: first_of(alloc, &LINES, 6)?,
@@ -103,7 +103,7 @@ fn write_until_a_fault<L: Setup, H: Wait + Abort + AllocGlobal>(
     rt: &H,
     hall: &Hall<L>,
     passes: &mut Vec<Pass<L>>,
-    case: &Case,
+    case: &WriteFaultCase,
 ) -> Gone<L> {
     let lines_out = AtomicU64::new(0);
     let mut gate = CountingGate::new(rt, 1, &lines_out);
@@ -141,7 +141,7 @@ fn fail_a_write<L: Setup, H: Wait + Abort + AllocGlobal>(
     requires moves { L.most_moves ≡ 10 }
     requires entries { L.most_entries ≡ 10 }
 {
-    let case = Case::new(rt.alloc(), by, room)?;
+    let case = WriteFaultCase::new(rt.alloc(), by, room)?;
     let asked = first_of(rt.alloc(), &LINES, case.asked)?;
     let replies = first_of(rt.alloc(), &REPLIES, case.asked)?;
     let mut gones = Vec::with_capacity(rt.alloc(), 1)?;

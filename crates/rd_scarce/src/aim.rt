@@ -5,7 +5,7 @@ ghost use Rattle.rd_app.specs.Application.{Application};
 ghost use Rattle.rd_goal.specs.Claims.{IsClaimOf};
 ghost use Rattle.rd_goal.specs.Goals.{IsGoalOf, holds_in};
 
-use crate::refused::{At, Refused, TRIES};
+use crate::refused::{Refusals, TRIES, Tried};
 use crate::wrong::Wrong;
 use rd_app::app::Program;
 use rd_bytes::no_memory::NoMemory;
@@ -17,11 +17,11 @@ use std::alloc::Global;
 
 /// A state is looked for where the goal holds in it.
 #[derive(Drop)]
-pub struct Aim<'a> {
+pub struct AimedGoal<'a> {
     pub goal: &'a Goal,
 }
 
-impl<'a> Judge for Aim<'a> {
+impl<'a> Judge for AimedGoal<'a> {
     ghost holds = { λ aim s. holds_in aim.goal.now s };
 
     ghost judges = { λ aim app. IsGoalOf app aim.goal.now };
@@ -42,15 +42,15 @@ fn try_to_make(alloc: Global, claim: Claim) -> Result<Goal, NoMemory>
 }
 
 /// The goal that says this, and nothing else: it is one of each application.
-pub fn make_goal(alloc: Global, claim: Claim, refused: &mut Refused) -> Result<Goal, Wrong>
+pub fn make_goal(alloc: Global, claim: Claim, refused: &mut Refusals) -> Result<Goal, Wrong>
     requires { (app : Application) → IsClaimOf app claim }
     ensures { IfOk result (λ goal. (app : Application) → IsGoalOf app goal) }
 {
     for _ in 0..TRIES {
         match try_to_make(alloc, claim) {
             Ok(goal) => return Ok(goal),
-            Err(_) => refused.note(At::Making),
+            Err(_) => refused.note(Tried::Making),
         }
     }
-    Err(Wrong::RefusedTwice { at: At::Making })
+    Err(Wrong::RefusedTwice { at: Tried::Making })
 }

@@ -1,6 +1,6 @@
 //! The applications of the runs.
 
-use crate::refused::{At, Refused, TRIES};
+use crate::refused::{Refusals, TRIES, Tried};
 use crate::wrong::Wrong;
 use rd_bytes::no_memory::NoMemory;
 use rd_names::app::App;
@@ -72,13 +72,13 @@ fn try_to_make(alloc: Global, which: Which) -> Result<App, Option<Wrong>> {
 }
 
 /// Makes it, again where memory was refused.
-pub fn make(alloc: Global, which: Which, refused: &mut Refused) -> Result<App, Wrong> {
+pub fn make(alloc: Global, which: Which, refused: &mut Refusals) -> Result<App, Wrong> {
     for _ in 0..TRIES {
         match try_to_make(alloc, which) {
             Ok(app) => return Ok(app),
-            Err(None) => refused.note(At::Making),
+            Err(None) => refused.note(Tried::Making),
             Err(Some(wrong)) => return Err(wrong),
         }
     }
-    Err(Wrong::RefusedTwice { at: At::Making })
+    Err(Wrong::RefusedTwice { at: Tried::Making })
 }

@@ -2,9 +2,9 @@
 
 ghost use Rattle.std.specs.Prelude.{◌+◌, ◌≤◌, length, vec_capacity, vec_len};
 
-use crate::before::Host;
-use crate::refused::{At, Refused, TRIES};
-use crate::rows::{RUNS, Row};
+use crate::before::HallHost;
+use crate::refused::{Refusals, TRIES, Tried};
+use crate::rows::{RUNS, ReplyRow};
 use crate::sitting::join;
 use crate::wrong::Wrong;
 use rd_ends::over::Over;
@@ -26,15 +26,15 @@ const REFUSED: &[u8] = b"no NoMemory\n";
 // How far a session has come: how many rows were answered, how often a line was refused, and what
 // was wrong first.
 #[derive(Drop)]
-struct Progress {
+struct SessionProgress {
     answered: Cell<usize>,
     refused: Cell<u32>,
     wrong: Cell<Option<Wrong>>,
 }
 
-impl Progress {
-    fn new() -> Progress {
-        Progress {
+impl SessionProgress {
+    fn new() -> SessionProgress {
+        SessionProgress {
             answered: Cell::new(0),
             refused: Cell::new(0),
             wrong: Cell::new(None),
@@ -42,7 +42,7 @@ impl Progress {
     }
 
     // The row whose line is to be answered next. None where something was wrong.
-    fn row(&self) -> Option<Row> {
+    fn row(&self) -> Option<ReplyRow> {
         if self.wrong.get().is_some() {
             return None;
         }
@@ -65,7 +65,7 @@ impl Progress {
         let times = self.refused.get().saturating_add(1);
         self.refused.set(times);
         if times as usize >= TRIES {
-            self.fail(Wrong::RefusedTwice { at: At::Ask });
+            self.fail(Wrong::RefusedTwice { at: Tried::Ask });
         }
     }
 
@@ -82,14 +82,14 @@ impl Progress {
 // Gives the line of the next row, with its LF, and nothing once all rows were answered. What stood
 // behind the lock at the read before must stand there still, where that line was refused.
 #[derive(Drop)]
-struct Lines<'a, R: Wait, L: Setup> {
-    host: Host<'a, R, L>,
-    progress: &'a Progress,
+struct RowLines<'a, R: Wait, L: Setup> {
+    host: HallHost<'a, R, L>,
+    progress: &'a SessionProgress,
     refused: u32,
     before: Option<Look>,
 }
 
-impl<R: Wait, L: Setup> Lines<'_, R, L> {
+impl<R: Wait, L: Setup> RowLines<'_, R, L> {
     // Looks behind the lock. Where a line was refused, nothing has changed since the read before.
     fn look(&mut self) {
         let before = self.before;
@@ -100,7 +100,7 @@ impl<R: Wait, L: Setup> Lines<'_, R, L> {
         self.refused = times;
         if let Some(before) = before {
             if was_refused && before != after {
-                let at = At::Ask;
+                let at = Tried::Ask;
                 self.progress.fail(Wrong::Behind { at, before, after });
             }
         }
@@ -120,7 +120,7 @@ fn put_line(room: &mut [u8], line: &[u8]) -> usize
     line.len() + 1
 }
 
-impl<R: Wait, L: Setup> Read for Lines<'_, R, L> {
+impl<R: Wait, L: Setup> Read for RowLines<'_, R, L> {
     fn read(&mut self, room: &mut [u8]) -> io::Result<usize> {
         self.look();
         match self.progress.row() {
@@ -132,11 +132,11 @@ impl<R: Wait, L: Setup> Read for Lines<'_, R, L> {
 
 // Takes the answer to one line a write: the row's reply, or that there is no memory.
 #[derive(Drop)]
-struct Answers<'a> {
-    progress: &'a Progress,
+struct RowAnswers<'a> {
+    progress: &'a SessionProgress,
 }
 
-impl Write for Answers<'_> {
+impl Write for RowAnswers<'_> {
     fn write(&mut self, bytes: &[u8]) -> io::Result<usize> {
         match self.progress.row() {
             Some(row) if bytes == row.reply.as_bytes() => self.progress.answer(),
@@ -153,35 +153,35 @@ impl Write for Answers<'_> {
 }
 
 // The memory of a session, taken again where it was refused.
-fn make_buffers(alloc: Global, refused: &mut Refused) -> Result<Buffers, Wrong> {
+fn make_buffers(alloc: Global, refused: &mut Refusals) -> Result<Buffers, Wrong> {
     for _ in 0..TRIES {
         match Buffers::new(alloc) {
             Ok(buffers) => return Ok(buffers),
-            Err(_) => refused.note(At::Making),
+            Err(_) => refused.note(Tried::Making),
         }
     }
-    Err(Wrong::RefusedTwice { at: At::Making })
+    Err(Wrong::RefusedTwice { at: Tried::Making })
 }
 
 /// A session joins, reads the lines of `runs_to_a_condition`, answers them, and leaves. A line that
 /// is refused is answered so, and is the next one that it reads.
 pub fn attend<R: Wait, L: Setup>(
-    host: Host<'_, R, L>,
+    host: HallHost<'_, R, L>,
     pass: Pass<L>,
     gones: &mut Vec<Gone<L>>,
-    refused: &mut Refused,
+    refused: &mut Refusals,
 ) -> Result<(), Wrong>
     requires { vec_len gones.old + 1 ≤ vec_capacity gones.old }
 {
     let mut buffers = make_buffers(host.alloc, refused)?;
-    let progress = Progress::new();
-    let mut source = Over::new(Lines {
+    let progress = SessionProgress::new();
+    let mut source = Over::new(RowLines {
         host,
         progress: &progress,
         refused: 0,
         before: None,
     });
-    let mut sink = Over::new(Answers {
+    let mut sink = Over::new(RowAnswers {
         progress: &progress,
     });
     match join(host, pass, refused) {
@@ -196,7 +196,7 @@ pub fn attend<R: Wait, L: Setup>(
                 &mut buffers,
             );
             gones.push_reserved(gone);
-            refused.note_all(At::Ask, progress.refused.get());
+            refused.note_all(Tried::Ask, progress.refused.get());
             progress.end()
         }
         Err(wrong) => Err(wrong),

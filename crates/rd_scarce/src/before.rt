@@ -1,6 +1,6 @@
 //! What stands behind the lock before a call, and after it was refused.
 
-use crate::refused::{At, Refused, TRIES};
+use crate::refused::{Refusals, TRIES, Tried};
 use crate::wrong::Wrong;
 use rd_hall::hall::Hall;
 use rd_hall::look::Look;
@@ -11,7 +11,7 @@ use std::sync::Wait;
 
 /// A hall that is there, and what its calls take.
 #[derive_where(Clone, Copy)]
-pub struct Host<'a, R: Wait, L: Setup> {
+pub struct HallHost<'a, R: Wait, L: Setup> {
     pub rt: &'a R,
     pub alloc: Global,
     pub hall: &'a Hall<L>,
@@ -27,8 +27,8 @@ pub struct Before {
 impl Before {
     /// What stands there now. A copy that is refused is made again.
     pub fn of<R: Wait, L: Setup>(
-        host: Host<'_, R, L>,
-        refused: &mut Refused,
+        host: HallHost<'_, R, L>,
+        refused: &mut Refusals,
     ) -> Result<Before, Wrong> {
         for _ in 0..TRIES {
             match host.hall.copy_target(host.rt, host.alloc) {
@@ -36,14 +36,18 @@ impl Before {
                     let look = host.hall.look(host.rt);
                     return Ok(Before { target, look });
                 }
-                Err(_) => refused.note(At::Copy),
+                Err(_) => refused.note(Tried::Copy),
             }
         }
-        Err(Wrong::RefusedTwice { at: At::Copy })
+        Err(Wrong::RefusedTwice { at: Tried::Copy })
     }
 
     /// All still stands there as it did before the call that was refused.
-    pub fn stands<R: Wait, L: Setup>(&self, host: Host<'_, R, L>, at: At) -> Result<(), Wrong> {
+    pub fn stands<R: Wait, L: Setup>(
+        &self,
+        host: HallHost<'_, R, L>,
+        at: Tried,
+    ) -> Result<(), Wrong> {
         let after = host.hall.look(host.rt);
         if after != self.look {
             return Err(Wrong::Behind {

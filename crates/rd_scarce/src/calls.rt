@@ -6,7 +6,7 @@ ghost use Rattle.rd_condition.specs.declared.condition.Comparison.TheVariants.{E
 ghost use Rattle.rd_condition.specs.declared.condition.Condition.TheVariants.{Compares};
 ghost use Rattle.rd_moves.specs.Interrupts.{IsInterruptOf};
 
-use crate::refused::At;
+use crate::refused::Tried;
 use rd_bytes::bytes::Bytes;
 use rd_condition::condition::{Amount, Comparison, Condition};
 use rd_moves::carried::{Carried, Lent};
@@ -20,7 +20,7 @@ use rd_timeline::timeline::Timeline;
 
 /// A call of a timeline, and where it must lead.
 #[derive(Clone, Copy)]
-pub enum Call {
+pub enum TimelineCall {
     /// The task on core 0 does one instruction.
     Step,
     /// An interrupt sends an item of one byte.
@@ -66,26 +66,26 @@ pub enum Call {
     },
 }
 
-impl Call {
+impl TimelineCall {
     /// What is refused where this call is.
-    pub fn refused_at(self) -> At {
+    pub fn refused_at(self) -> Tried {
         match self {
-            Call::Send { .. } | Call::Notify { .. } => At::Interrupt,
-            Call::Step
-            | Call::Item { .. }
-            | Call::Back { .. }
-            | Call::Redo { .. }
-            | Call::BackUntil { .. }
-            | Call::Until { .. }
-            | Call::Forward { .. }
-            | Call::Trim { .. } => At::Ask,
+            TimelineCall::Send { .. } | TimelineCall::Notify { .. } => Tried::Interrupt,
+            TimelineCall::Step
+            | TimelineCall::Item { .. }
+            | TimelineCall::Back { .. }
+            | TimelineCall::Redo { .. }
+            | TimelineCall::BackUntil { .. }
+            | TimelineCall::Until { .. }
+            | TimelineCall::Forward { .. }
+            | TimelineCall::Trim { .. } => Tried::Ask,
         }
     }
 }
 
 /// Where a call ended: how many moves are done there.
 #[derive(Clone, Copy, PartialEq, Eq)]
-pub enum End {
+pub enum CallEnd {
     /// It made moves.
     At { at: usize },
     /// It was an interrupt, and was answered this.
@@ -98,9 +98,9 @@ pub enum End {
 
 /// A call, and where it must end.
 #[derive(Clone, Copy)]
-pub struct Row {
-    pub call: Call,
-    pub end: End,
+pub struct CallRow {
+    pub call: TimelineCall,
+    pub end: CallEnd,
 }
 
 // The first queue has so many items.
@@ -114,33 +114,33 @@ fn has_items(items: u32) -> Condition
     }
 }
 
-fn ended(found: FoundPlace) -> End {
+fn ended(found: FoundPlace) -> CallEnd {
     let at = found.at;
     if found.met {
-        End::Met { at }
+        CallEnd::Met { at }
     } else {
-        End::NotMet { at }
+        CallEnd::NotMet { at }
     }
 }
 
-fn step(timeline: &mut Timeline) -> Result<End, Refusal> {
+fn step(timeline: &mut Timeline) -> Result<CallEnd, Refusal> {
     if timeline.app().cores() == 0 {
         return Err(Refusal::NoSuch);
     }
     let at = timeline.go(&Move::Core { core: 0 })?;
-    Ok(End::At { at })
+    Ok(CallEnd::At { at })
 }
 
 // Makes an interrupt.
-fn interrupt(timeline: &mut Timeline, interrupt: Interrupt) -> Result<End, Refusal>
+fn interrupt(timeline: &mut Timeline, interrupt: Interrupt) -> Result<CallEnd, Refusal>
     requires { IsInterruptOf timeline.old.app interrupt }
 {
     let answer = timeline.isr(interrupt)?;
     let at = timeline.at();
-    Ok(End::Answered { at, answer })
+    Ok(CallEnd::Answered { at, answer })
 }
 
-fn send(timeline: &mut Timeline, queue: usize, byte: u8) -> Result<End, Refusal> {
+fn send(timeline: &mut Timeline, queue: usize, byte: u8) -> Result<CallEnd, Refusal> {
     if queue >= timeline.app().objects().queues().len() {
         return Err(Refusal::NoSuch);
     }
@@ -153,7 +153,7 @@ fn notify(
     task: usize,
     value: u32,
     action: Action,
-) -> Result<End, Refusal> {
+) -> Result<CallEnd, Refusal> {
     if task >= timeline.app().priorities().len() || timeline.app().entries() == 0 {
         return Err(Refusal::NoSuch);
     }
@@ -166,7 +166,7 @@ fn notify(
     interrupt(timeline, notification)
 }
 
-fn set_item(timeline: &mut Timeline, queue: usize, byte: u8) -> Result<End, Refusal> {
+fn set_item(timeline: &mut Timeline, queue: usize, byte: u8) -> Result<CallEnd, Refusal> {
     if queue >= timeline.app().objects().queues().len() {
         return Err(Refusal::NoSuch);
     }
@@ -180,54 +180,54 @@ fn set_item(timeline: &mut Timeline, queue: usize, byte: u8) -> Result<End, Refu
     let at = timeline.go(&Move::Carried {
         carried: Lent::new(&carried),
     })?;
-    Ok(End::At { at })
+    Ok(CallEnd::At { at })
 }
 
-fn until(timeline: &mut Timeline, items: u32, most: usize) -> Result<End, Refusal> {
+fn until(timeline: &mut Timeline, items: u32, most: usize) -> Result<CallEnd, Refusal> {
     if most == 0 || timeline.app().objects().queues().is_empty() {
         return Err(Refusal::NoSuch);
     }
     Ok(ended(timeline.until(has_items(items), most)?))
 }
 
-fn back_until(timeline: &mut Timeline, items: u32) -> Result<End, Refusal> {
+fn back_until(timeline: &mut Timeline, items: u32) -> Result<CallEnd, Refusal> {
     if timeline.app().objects().queues().is_empty() {
         return Err(Refusal::NoSuch);
     }
     Ok(ended(timeline.back_until(has_items(items))))
 }
 
-fn forward(timeline: &mut Timeline, count: usize) -> Result<End, Refusal> {
+fn forward(timeline: &mut Timeline, count: usize) -> Result<CallEnd, Refusal> {
     if count == 0 {
         return Err(Refusal::NoSuch);
     }
     let at = timeline.forward(count)?;
-    Ok(End::At { at })
+    Ok(CallEnd::At { at })
 }
 
 /// Makes a call.
-pub fn make_call(timeline: &mut Timeline, call: Call) -> Result<End, Refusal> {
+pub fn make_call(timeline: &mut Timeline, call: TimelineCall) -> Result<CallEnd, Refusal> {
     match call {
-        Call::Step => step(timeline),
-        Call::Send { queue, byte } => send(timeline, queue, byte),
-        Call::Notify {
+        TimelineCall::Step => step(timeline),
+        TimelineCall::Send { queue, byte } => send(timeline, queue, byte),
+        TimelineCall::Notify {
             task,
             value,
             action,
         } => notify(timeline, task, value, action),
-        Call::Item { queue, byte } => set_item(timeline, queue, byte),
-        Call::Back { count } => {
+        TimelineCall::Item { queue, byte } => set_item(timeline, queue, byte),
+        TimelineCall::Back { count } => {
             let at = timeline.back(count)?;
-            Ok(End::At { at })
+            Ok(CallEnd::At { at })
         }
-        Call::Redo { count } => {
+        TimelineCall::Redo { count } => {
             let at = timeline.redo(count)?;
-            Ok(End::At { at })
+            Ok(CallEnd::At { at })
         }
-        Call::BackUntil { items } => back_until(timeline, items),
-        Call::Until { items, most } => until(timeline, items, most),
-        Call::Forward { count } => forward(timeline, count),
-        Call::Trim { keep } => Ok(End::At {
+        TimelineCall::BackUntil { items } => back_until(timeline, items),
+        TimelineCall::Until { items, most } => until(timeline, items, most),
+        TimelineCall::Forward { count } => forward(timeline, count),
+        TimelineCall::Trim { keep } => Ok(CallEnd::At {
             at: timeline.trim(keep),
         }),
     }

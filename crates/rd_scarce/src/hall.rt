@@ -5,8 +5,8 @@ ghost use Rattle.rd_desk.specs.declared.sessions.TheConstants.{MAX_JOINS};
 
 use crate::applications::{Which, make};
 use crate::attending::attend;
-use crate::before::Host;
-use crate::refused::{At, Refused, TRIES};
+use crate::before::HallHost;
+use crate::refused::{Refusals, TRIES, Tried};
 use crate::rows::{RUNS, WHEEL};
 use crate::sitting::{ask_all, ask_in_turn, join};
 use crate::wrong::Wrong;
@@ -56,16 +56,16 @@ fn limits() -> Limits
 fn next_pass<L: Setup>(passes: &mut Vec<Pass<L>>) -> Result<Pass<L>, Wrong> {
     match passes.pop() {
         Some(pass) => Ok(pass),
-        None => Err(Wrong::Refusal { at: At::Join }),
+        None => Err(Wrong::Refusal { at: Tried::Join }),
     }
 }
 
 // One session asks all of its run.
 fn alone<R: Wait, L: Setup>(
-    host: Host<'_, R, L>,
+    host: HallHost<'_, R, L>,
     passes: &mut Vec<Pass<L>>,
     gones: &mut Vec<Gone<L>>,
-    refused: &mut Refused,
+    refused: &mut Refusals,
 ) -> Result<(), Wrong>
     requires { vec_len gones.old + 1 ≤ vec_capacity gones.old }
 {
@@ -82,11 +82,11 @@ fn alone<R: Wait, L: Setup>(
 
 // A second session joins, and both ask.
 fn with_second<R: Wait, L: Setup>(
-    host: Host<'_, R, L>,
+    host: HallHost<'_, R, L>,
     first: Seat<L>,
     passes: &mut Vec<Pass<L>>,
     gones: &mut Vec<Gone<L>>,
-    refused: &mut Refused,
+    refused: &mut Refusals,
 ) -> (Seat<L>, Result<(), Wrong>)
     requires { vec_len gones.old + 2 ≤ vec_capacity gones.old }
     ensures { vec_len gones.new + 1 ≤ vec_capacity gones.new }
@@ -107,10 +107,10 @@ fn with_second<R: Wait, L: Setup>(
 
 // Two sessions ask in turn.
 fn both<R: Wait, L: Setup>(
-    host: Host<'_, R, L>,
+    host: HallHost<'_, R, L>,
     passes: &mut Vec<Pass<L>>,
     gones: &mut Vec<Gone<L>>,
-    refused: &mut Refused,
+    refused: &mut Refusals,
 ) -> Result<(), Wrong>
     requires { vec_len gones.old + 2 ≤ vec_capacity gones.old }
 {
@@ -127,11 +127,11 @@ fn both<R: Wait, L: Setup>(
 
 // What is done in a hall.
 fn hold<R: Wait, L: Setup>(
-    host: Host<'_, R, L>,
+    host: HallHost<'_, R, L>,
     sitting: Sitting,
     passes: &mut Vec<Pass<L>>,
     gones: &mut Vec<Gone<L>>,
-    refused: &mut Refused,
+    refused: &mut Refusals,
 ) -> Result<(), Wrong>
     requires { vec_len gones.old + 2 ≤ vec_capacity gones.old }
 {
@@ -146,16 +146,16 @@ fn hold<R: Wait, L: Setup>(
 }
 
 // Room for the sessions that have left.
-fn room_for_two<L: Setup>(alloc: Global, refused: &mut Refused) -> Result<Vec<Gone<L>>, Wrong>
+fn room_for_two<L: Setup>(alloc: Global, refused: &mut Refusals) -> Result<Vec<Gone<L>>, Wrong>
     ensures { IfOk result (λ gones. vec_len gones + 2 ≤ vec_capacity gones) }
 {
     for _ in 0..TRIES {
         match Vec::with_capacity(alloc, 2) {
             Ok(gones) => return Ok(gones),
-            Err(_) => refused.note(At::Making),
+            Err(_) => refused.note(Tried::Making),
         }
     }
-    Err(Wrong::RefusedTwice { at: At::Making })
+    Err(Wrong::RefusedTwice { at: Tried::Making })
 }
 
 // Opens a hall, sits in it, and ends it: so many entries are in its history, or none where memory
@@ -166,7 +166,7 @@ fn sit_once<L: Setup, R: Wait>(
     blank: Blank,
     app: App,
     sitting: Sitting,
-    refused: &mut Refused,
+    refused: &mut Refusals,
 ) -> Result<Option<usize>, Wrong>
     requires name { blank.name ≡ L.name }
     requires parts { (blank.parts ≡ L.parts) × (blank.parts ≡ MAX_JOINS + 1) }
@@ -176,10 +176,10 @@ fn sit_once<L: Setup, R: Wait>(
 {
     let mut gones = room_for_two(alloc, refused)?;
     let Ok((hall, mut passes)) = Hall::<L>::open(alloc, blank, app, limits()) else {
-        refused.note(At::Open);
+        refused.note(Tried::Open);
         return Ok(None);
     };
-    let host = Host {
+    let host = HallHost {
         rt,
         alloc,
         hall: &hall,
@@ -198,7 +198,7 @@ pub fn sit<R: Wait>(
     rt: &R,
     alloc: Global,
     sitting: Sitting,
-    refused: &mut Refused,
+    refused: &mut Refusals,
 ) -> Result<usize, Wrong> {
     for _ in 0..TRIES {
         let app = make(alloc, sitting.application(), refused)?;
@@ -208,5 +208,5 @@ pub fn sit<R: Wait>(
             return Ok(entries);
         }
     }
-    Err(Wrong::RefusedTwice { at: At::Open })
+    Err(Wrong::RefusedTwice { at: Tried::Open })
 }

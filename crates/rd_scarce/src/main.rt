@@ -23,8 +23,8 @@ use crate::applications::Which;
 use crate::hall::{Sitting, sit};
 use crate::interrupted::INTERRUPTED;
 use crate::moves::{TWICE, go_both_ways};
-use crate::order::{Order, ROOM, Run, read_text};
-use crate::refused::Refused;
+use crate::order::{ROOM, RunKind, RunOrder, read_text};
+use crate::refused::Refusals;
 use crate::searching::{Sought, search};
 use crate::wrong::Wrong;
 use std::alloc::{AllocGlobal, Global};
@@ -40,21 +40,25 @@ fn waste(alloc: Global, count: usize) {
 
 // Does a run: at its end so many entries are in the history, so many moves are done, or a search
 // keeps so many places.
-fn run<H: Wait + AllocGlobal>(rt: &H, run: Run, refused: &mut Refused) -> Result<usize, Wrong> {
+fn run<H: Wait + AllocGlobal>(
+    rt: &H,
+    run: RunKind,
+    refused: &mut Refusals,
+) -> Result<usize, Wrong> {
     match run {
-        Run::Hall => sit(rt, rt.alloc(), Sitting::Alone, refused),
-        Run::Wheel => sit(rt, rt.alloc(), Sitting::Both, refused),
-        Run::Session => sit(rt, rt.alloc(), Sitting::Session, refused),
-        Run::Timeline => go_both_ways(rt.alloc(), Which::Twice, &TWICE, refused),
-        Run::Interrupts => go_both_ways(rt.alloc(), Which::Interrupted, &INTERRUPTED, refused),
-        Run::Search => search(rt.alloc(), Sought::Failure, refused),
-        Run::Orders => search(rt.alloc(), Sought::End, refused),
+        RunKind::Hall => sit(rt, rt.alloc(), Sitting::Alone, refused),
+        RunKind::Wheel => sit(rt, rt.alloc(), Sitting::Both, refused),
+        RunKind::Session => sit(rt, rt.alloc(), Sitting::Session, refused),
+        RunKind::Timeline => go_both_ways(rt.alloc(), Which::Twice, &TWICE, refused),
+        RunKind::Interrupts => go_both_ways(rt.alloc(), Which::Interrupted, &INTERRUPTED, refused),
+        RunKind::Search => search(rt.alloc(), Sought::Failure, refused),
+        RunKind::Orders => search(rt.alloc(), Sought::End, refused),
     }
 }
 
 // Does what is ordered, and says how it ended. Answers whether all was as it must be.
-fn obey<H: Wait + AllocGlobal + Print>(rt: &H, order: Order) -> bool {
-    let mut refused = Refused::none();
+fn obey<H: Wait + AllocGlobal + Print>(rt: &H, order: RunOrder) -> bool {
+    let mut refused = Refusals::none();
     waste(rt.alloc(), order.wasted);
     let ended = run(rt, order.run, &mut refused);
     let _ = match ended {
@@ -68,7 +72,7 @@ fn obey<H: Wait + AllocGlobal + Print>(rt: &H, order: Order) -> bool {
 fn obey_all<H: Wait + AllocGlobal + Print>(rt: &H, text: &str) -> bool {
     let mut all_well = true;
     for line in text.lines() {
-        all_well = match Order::read(line) {
+        all_well = match RunOrder::read(line) {
             Some(order) => obey(rt, order) && all_well,
             None => false,
         };

@@ -6,8 +6,8 @@ ghost use Rattle.rd_state.specs.Settled.{IsSettled};
 ghost use Rattle.rd_state.specs.Valid.{IsValid};
 
 use crate::applications::{Which, make};
-use crate::calls::{Call, End, Row, make_call};
-use crate::refused::{At, Refused, TRIES};
+use crate::calls::{CallEnd, CallRow, TimelineCall, make_call};
+use crate::refused::{Refusals, TRIES, Tried};
 use crate::wrong::Wrong;
 use rd_app::app::Program;
 use rd_refusal::refusal::Refusal;
@@ -19,74 +19,74 @@ use std::alloc::Global;
 const LIMIT: usize = 100;
 
 /// `runs_to_a_condition`, and behind it a run in whose middle lists grow.
-pub const TWICE: [Row; 17] = [
-    Row {
-        call: Call::Step,
-        end: End::At { at: 1 },
+pub const TWICE: [CallRow; 17] = [
+    CallRow {
+        call: TimelineCall::Step,
+        end: CallEnd::At { at: 1 },
     },
-    Row {
-        call: Call::Step,
-        end: End::At { at: 2 },
+    CallRow {
+        call: TimelineCall::Step,
+        end: CallEnd::At { at: 2 },
     },
-    Row {
-        call: Call::Step,
-        end: End::At { at: 3 },
+    CallRow {
+        call: TimelineCall::Step,
+        end: CallEnd::At { at: 3 },
     },
-    Row {
-        call: Call::Step,
-        end: End::At { at: 4 },
+    CallRow {
+        call: TimelineCall::Step,
+        end: CallEnd::At { at: 4 },
     },
-    Row {
-        call: Call::Step,
-        end: End::At { at: 5 },
+    CallRow {
+        call: TimelineCall::Step,
+        end: CallEnd::At { at: 5 },
     },
-    Row {
-        call: Call::Step,
-        end: End::At { at: 6 },
+    CallRow {
+        call: TimelineCall::Step,
+        end: CallEnd::At { at: 6 },
     },
-    Row {
-        call: Call::Step,
-        end: End::At { at: 7 },
+    CallRow {
+        call: TimelineCall::Step,
+        end: CallEnd::At { at: 7 },
     },
-    Row {
-        call: Call::BackUntil { items: 1 },
-        end: End::Met { at: 5 },
+    CallRow {
+        call: TimelineCall::BackUntil { items: 1 },
+        end: CallEnd::Met { at: 5 },
     },
-    Row {
-        call: Call::BackUntil { items: 1 },
-        end: End::Met { at: 2 },
+    CallRow {
+        call: TimelineCall::BackUntil { items: 1 },
+        end: CallEnd::Met { at: 2 },
     },
-    Row {
-        call: Call::BackUntil { items: 1 },
-        end: End::NotMet { at: 0 },
+    CallRow {
+        call: TimelineCall::BackUntil { items: 1 },
+        end: CallEnd::NotMet { at: 0 },
     },
-    Row {
-        call: Call::Until { items: 1, most: 9 },
-        end: End::Met { at: 3 },
+    CallRow {
+        call: TimelineCall::Until { items: 1, most: 9 },
+        end: CallEnd::Met { at: 3 },
     },
-    Row {
-        call: Call::Until { items: 2, most: 1 },
-        end: End::NotMet { at: 4 },
+    CallRow {
+        call: TimelineCall::Until { items: 2, most: 1 },
+        end: CallEnd::NotMet { at: 4 },
     },
-    Row {
-        call: Call::Trim { keep: 2 },
-        end: End::At { at: 4 },
+    CallRow {
+        call: TimelineCall::Trim { keep: 2 },
+        end: CallEnd::At { at: 4 },
     },
-    Row {
-        call: Call::BackUntil { items: 9 },
-        end: End::NotMet { at: 2 },
+    CallRow {
+        call: TimelineCall::BackUntil { items: 9 },
+        end: CallEnd::NotMet { at: 2 },
     },
-    Row {
-        call: Call::Forward { count: 22 },
-        end: End::At { at: 24 },
+    CallRow {
+        call: TimelineCall::Forward { count: 22 },
+        end: CallEnd::At { at: 24 },
     },
-    Row {
-        call: Call::Trim { keep: 10 },
-        end: End::At { at: 24 },
+    CallRow {
+        call: TimelineCall::Trim { keep: 10 },
+        end: CallEnd::At { at: 24 },
     },
-    Row {
-        call: Call::Forward { count: 20 },
-        end: End::At { at: 44 },
+    CallRow {
+        call: TimelineCall::Forward { count: 20 },
+        end: CallEnd::At { at: 44 },
     },
 ];
 
@@ -116,7 +116,7 @@ fn go_back_and_on(
         return Err(Wrong::Boot);
     }
     if timeline.redo(kept).is_err() {
-        return Err(Wrong::RefusedTwice { at: At::Ask });
+        return Err(Wrong::RefusedTwice { at: Tried::Ask });
     }
     stands(timeline, at, left)
 }
@@ -125,8 +125,8 @@ fn go_back_and_on(
 fn follow(
     timeline: &mut Timeline,
     boot: &State,
-    row: Row,
-    refused: &mut Refused,
+    row: CallRow,
+    refused: &mut Refusals,
 ) -> Result<(), Wrong> {
     let refused_at = row.call.refused_at();
     for _ in 0..TRIES {
@@ -150,8 +150,8 @@ fn follow(
 fn follow_all(
     timeline: &mut Timeline,
     boot: &State,
-    rows: &[Row],
-    refused: &mut Refused,
+    rows: &[CallRow],
+    refused: &mut Refusals,
 ) -> Result<usize, Wrong> {
     for row in rows {
         follow(timeline, boot, *row, refused)?;
@@ -160,17 +160,17 @@ fn follow_all(
 }
 
 /// The target at boot, made again where it was refused.
-pub fn make_boot(alloc: Global, app: &Program, refused: &mut Refused) -> Result<State, Wrong>
+pub fn make_boot(alloc: Global, app: &Program, refused: &mut Refusals) -> Result<State, Wrong>
     ensures valid { IfOk result (IsValid app.now) }
     ensures settled { IfOk result (IsSettled (priorities_of app.now)) }
 {
     for _ in 0..TRIES {
         match State::boot(alloc, app) {
             Ok(boot) => return Ok(boot),
-            Err(_) => refused.note(At::Copy),
+            Err(_) => refused.note(Tried::Copy),
         }
     }
-    Err(Wrong::RefusedTwice { at: At::Copy })
+    Err(Wrong::RefusedTwice { at: Tried::Copy })
 }
 
 /// These calls on a timeline of their own, of that application: so many moves are done at the end.
@@ -178,8 +178,8 @@ pub fn make_boot(alloc: Global, app: &Program, refused: &mut Refused) -> Result<
 pub fn go_both_ways(
     alloc: Global,
     which: Which,
-    rows: &[Row],
-    refused: &mut Refused,
+    rows: &[CallRow],
+    refused: &mut Refusals,
 ) -> Result<usize, Wrong> {
     for _ in 0..TRIES {
         let (program, _names) = make(alloc, which, refused)?.split();
@@ -191,8 +191,8 @@ pub fn go_both_ways(
                 timeline.close();
                 return ended;
             }
-            Err(_) => refused.note(At::Open),
+            Err(_) => refused.note(Tried::Open),
         }
     }
-    Err(Wrong::RefusedTwice { at: At::Open })
+    Err(Wrong::RefusedTwice { at: Tried::Open })
 }

@@ -5,7 +5,7 @@ use std::io::Read;
 
 /// Which run is done.
 #[derive(Clone, Copy)]
-pub enum Run {
+pub enum RunKind {
     /// `runs_to_a_condition`, by the hall's calls.
     Hall,
     /// The same, by the timeline's calls.
@@ -22,43 +22,43 @@ pub enum Run {
     Orders,
 }
 
-impl fmt::Display for Run {
+impl fmt::Display for RunKind {
     fn fmt<W: fmt::Write>(&self, f: &mut fmt::Formatter<W>) -> fmt::Result {
         f.write_str(match self {
-            Run::Hall => "hall",
-            Run::Timeline => "timeline",
-            Run::Interrupts => "interrupts",
-            Run::Wheel => "wheel",
-            Run::Session => "session",
-            Run::Search => "search",
-            Run::Orders => "orders",
+            RunKind::Hall => "hall",
+            RunKind::Timeline => "timeline",
+            RunKind::Interrupts => "interrupts",
+            RunKind::Wheel => "wheel",
+            RunKind::Session => "session",
+            RunKind::Search => "search",
+            RunKind::Orders => "orders",
         })
     }
 }
 
 /// A run, and how many allocations are made and dropped before it.
 #[derive(Clone, Copy)]
-pub struct Order {
-    pub run: Run,
+pub struct RunOrder {
+    pub run: RunKind,
     pub wasted: usize,
 }
 
-impl Order {
+impl RunOrder {
     /// The order that a line spells, if it spells one: a run and a number.
-    pub fn read(line: &str) -> Option<Order> {
+    pub fn read(line: &str) -> Option<RunOrder> {
         let (word, number) = line.split_once(' ')?;
         let run = match word {
-            "hall" => Run::Hall,
-            "timeline" => Run::Timeline,
-            "interrupts" => Run::Interrupts,
-            "wheel" => Run::Wheel,
-            "session" => Run::Session,
-            "search" => Run::Search,
-            "orders" => Run::Orders,
+            "hall" => RunKind::Hall,
+            "timeline" => RunKind::Timeline,
+            "interrupts" => RunKind::Interrupts,
+            "wheel" => RunKind::Wheel,
+            "session" => RunKind::Session,
+            "search" => RunKind::Search,
+            "orders" => RunKind::Orders,
             _ => return None,
         };
         let wasted = number.parse::<usize>().ok()?;
-        Some(Order { run, wasted })
+        Some(RunOrder { run, wasted })
     }
 }
 

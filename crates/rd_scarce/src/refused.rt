@@ -6,9 +6,9 @@ use std::fmt;
 /// time it must do.)
 pub const TRIES: usize = 2;
 
-/// What was refused.
+/// What was tried, and refused.
 #[derive(Clone, Copy, Debug, PartialEq, Eq)]
-pub enum At {
+pub enum Tried {
     /// To make what a call takes: an application, lists, the memory of a session.
     Making,
     /// A copy of the target, to compare it with later.
@@ -25,21 +25,21 @@ pub enum At {
     Search,
 }
 
-impl At {
+impl Tried {
     fn word(self) -> &'static str {
         match self {
-            At::Making => "making",
-            At::Copy => "copy",
-            At::Open => "open",
-            At::Join => "join",
-            At::Ask => "ask",
-            At::Interrupt => "interrupt",
-            At::Search => "search",
+            Tried::Making => "making",
+            Tried::Copy => "copy",
+            Tried::Open => "open",
+            Tried::Join => "join",
+            Tried::Ask => "ask",
+            Tried::Interrupt => "interrupt",
+            Tried::Search => "search",
         }
     }
 }
 
-impl fmt::Display for At {
+impl fmt::Display for Tried {
     fn fmt<W: fmt::Write>(&self, f: &mut fmt::Formatter<W>) -> fmt::Result {
         f.write_str(self.word())
     }
@@ -47,28 +47,28 @@ impl fmt::Display for At {
 
 /// How often memory was refused, and for what at last.
 #[derive(Clone, Copy)]
-pub struct Refused {
+pub struct Refusals {
     times: u32,
-    last: Option<At>,
+    last: Option<Tried>,
 }
 
-impl Refused {
+impl Refusals {
     /// Never so far.
-    pub fn none() -> Refused {
-        Refused {
+    pub fn none() -> Refusals {
+        Refusals {
             times: 0,
             last: None,
         }
     }
 
     /// It was refused once more.
-    pub fn note(&mut self, at: At) {
+    pub fn note(&mut self, at: Tried) {
         self.times = self.times.saturating_add(1);
         self.last = Some(at);
     }
 
     /// It was refused so often more.
-    pub fn note_all(&mut self, at: At, times: u32) {
+    pub fn note_all(&mut self, at: Tried, times: u32) {
         if times > 0 {
             self.times = self.times.saturating_add(times);
             self.last = Some(at);
@@ -76,7 +76,7 @@ impl Refused {
     }
 }
 
-impl fmt::Display for Refused {
+impl fmt::Display for Refusals {
     fn fmt<W: fmt::Write>(&self, f: &mut fmt::Formatter<W>) -> fmt::Result {
         let last = match self.last {
             Some(at) => at.word(),

@@ -3,7 +3,7 @@
 ghost use Rattle.rd_app.specs.Application.{Application};
 ghost use Rattle.rd_goal.specs.Goals.{IsGoalOf};
 
-use crate::refused::{At, Refused, TRIES};
+use crate::refused::{Refusals, TRIES, Tried};
 use crate::wrong::Wrong;
 use rd_app::app::Program;
 use rd_goal::goal::Goal;
@@ -33,19 +33,19 @@ fn make_choice(timeline: &mut Timeline, number: u8) -> Result<usize, Refusal> {
 }
 
 // Makes the move of a choice, again where it was refused.
-fn follow(timeline: &mut Timeline, number: u8, refused: &mut Refused) -> Result<(), Wrong> {
+fn follow(timeline: &mut Timeline, number: u8, refused: &mut Refusals) -> Result<(), Wrong> {
     for _ in 0..TRIES {
         match make_choice(timeline, number) {
             Ok(_) => return Ok(()),
-            Err(Refusal::NoMemory) => refused.note(At::Ask),
-            Err(_) => return Err(Wrong::Refusal { at: At::Ask }),
+            Err(Refusal::NoMemory) => refused.note(Tried::Ask),
+            Err(_) => return Err(Wrong::Refusal { at: Tried::Ask }),
         }
     }
-    Err(Wrong::RefusedTwice { at: At::Ask })
+    Err(Wrong::RefusedTwice { at: Tried::Ask })
 }
 
 // Makes the moves of an order.
-fn follow_all(timeline: &mut Timeline, order: &[u8], refused: &mut Refused) -> Result<(), Wrong> {
+fn follow_all(timeline: &mut Timeline, order: &[u8], refused: &mut Refusals) -> Result<(), Wrong> {
     for number in order {
         follow(timeline, *number, refused)?;
     }
@@ -59,17 +59,17 @@ pub fn replay(
     program: Program,
     order: &[u8],
     goal: &Goal,
-    refused: &mut Refused,
+    refused: &mut Refusals,
 ) -> Result<Option<usize>, Wrong>
     requires { (app : Application) → IsGoalOf app goal.now }
 {
     let Ok(timeline) = Timeline::new(alloc, program, LIMIT) else {
-        refused.note(At::Open);
+        refused.note(Tried::Open);
         return Ok(None);
     };
     let mut timeline = timeline;
     let followed = follow_all(&mut timeline, order, refused);
-    timeline.keeps();
+    timeline.by_invariant();
     let holds = goal.holds(timeline.app(), timeline.target());
     let at = timeline.at();
     timeline.close();

@@ -7,10 +7,10 @@ ghost use Rattle.rd_goal.specs.Goals.{IsGoalOf};
 ghost use Rattle.rd_state.specs.Settled.{IsSettled};
 ghost use Rattle.rd_state.specs.Valid.{IsValid};
 
-use crate::aim::{Aim, make_goal};
+use crate::aim::{AimedGoal, make_goal};
 use crate::applications::{Which, make};
 use crate::moves::make_boot;
-use crate::refused::{At, Refused, TRIES};
+use crate::refused::{Refusals, TRIES, Tried};
 use crate::replaying::replay;
 use crate::wrong::Wrong;
 use rd_app::app::Program;
@@ -108,18 +108,18 @@ fn search_from(
     start: State,
     goal: &Goal,
     sought: Sought,
-    refused: &mut Refused,
+    refused: &mut Refusals,
 ) -> Result<Option<SearchOutcome>, Wrong>
     requires goal { IsGoalOf program.now goal.now }
     requires valid { IsValid program.now start }
     requires settled { IsSettled (priorities_of program.now) start }
 {
     let Ok(logged) = Logged::new(alloc, start) else {
-        refused.note(At::Open);
+        refused.note(Tried::Open);
         return Ok(None);
     };
     let schedule = make_schedule(alloc, sought.at_least());
-    let aim = Aim { goal };
+    let aim = AimedGoal { goal };
     let most = sought.most();
     let (logged, outcome) = reach_orders(
         alloc,
@@ -136,7 +136,7 @@ fn search_from(
     let stands = logged.target().same(boot) && logged.kept() == 0;
     logged.retire();
     if !stands {
-        return Err(Wrong::Target { at: At::Search });
+        return Err(Wrong::Target { at: Tried::Search });
     }
     Ok(Some(outcome))
 }
@@ -149,7 +149,7 @@ fn come_of(
     goal: &Goal,
     sought: Sought,
     outcome: SearchOutcome,
-    refused: &mut Refused,
+    refused: &mut Refusals,
 ) -> Result<Option<usize>, Wrong>
     requires { (app : Application) → IsGoalOf app goal.now }
 {
@@ -157,7 +157,7 @@ fn come_of(
     let within = outcome.counts.within;
     match outcome.answer {
         SearchAnswer::Full(depth, FullCause::Memory) if depth <= without => {
-            refused.note(At::Search);
+            refused.note(Tried::Search);
             Ok(None)
         }
         SearchAnswer::NotWithin(most) if most == without => Ok(Some(outcome.counts.states)),
@@ -165,7 +165,7 @@ fn come_of(
             let led = replay(alloc, program, order.as_slice(), goal, refused)?;
             // Whether one with fewer choices leads there, too, couldn't be told.
             if led.is_some() && within < without {
-                refused.note(At::Search);
+                refused.note(Tried::Search);
                 return Ok(None);
             }
             Ok(led)
@@ -181,7 +181,7 @@ fn come_of(
 fn try_to_search(
     alloc: Global,
     sought: Sought,
-    refused: &mut Refused,
+    refused: &mut Refusals,
 ) -> Result<Option<usize>, Wrong> {
     let (program, _names) = make(alloc, sought.application(), refused)?.split();
     let boot = make_boot(alloc, &program, refused)?;
@@ -195,11 +195,11 @@ fn try_to_search(
 
 /// Searches: at the end so many places are kept, or the order that leads there has so many moves.
 /// Where a growth is refused all is made and searched again.
-pub fn search(alloc: Global, sought: Sought, refused: &mut Refused) -> Result<usize, Wrong> {
+pub fn search(alloc: Global, sought: Sought, refused: &mut Refusals) -> Result<usize, Wrong> {
     for _ in 0..TRIES {
         if let Some(end) = try_to_search(alloc, sought, refused)? {
             return Ok(end);
         }
     }
-    Err(Wrong::RefusedTwice { at: At::Search })
+    Err(Wrong::RefusedTwice { at: Tried::Search })
 }

@@ -3,9 +3,9 @@
 ghost use Rattle.std.specs.Prelude.{◌≡◌};
 ghost use Rattle.rd_command.specs.Bindings.{known_of};
 
-use crate::before::{Before, Host};
-use crate::refused::{At, Refused, TRIES};
-use crate::rows::{Row, Who};
+use crate::before::{Before, HallHost};
+use crate::refused::{Refusals, TRIES, Tried};
+use crate::rows::{ReplyRow, Who};
 use crate::told::is_told;
 use crate::wrong::Wrong;
 use rd_command::binding::bind;
@@ -20,9 +20,9 @@ use std::sync::Wait;
 /// A session joins. Where memory is refused nothing has changed, and it joins again, with the pass
 /// that was given back.
 pub fn join<R: Wait, L: Setup>(
-    host: Host<'_, R, L>,
+    host: HallHost<'_, R, L>,
     pass: Pass<L>,
-    refused: &mut Refused,
+    refused: &mut Refusals,
 ) -> Result<Seat<L>, Wrong> {
     let before = Before::of(host, refused)?;
     let mut pass = pass;
@@ -32,20 +32,20 @@ pub fn join<R: Wait, L: Setup>(
             Err((back, error)) => {
                 pass = back;
                 match error {
-                    EnterError::NoMemory => refused.note(At::Join),
+                    EnterError::NoMemory => refused.note(Tried::Join),
                     EnterError::Full | EnterError::HistoryFull { .. } => {
-                        return Err(Wrong::Refusal { at: At::Join });
+                        return Err(Wrong::Refusal { at: Tried::Join });
                     }
                 }
-                before.stands(host, At::Join)?;
+                before.stands(host, Tried::Join)?;
             }
         }
     }
-    Err(Wrong::RefusedTwice { at: At::Join })
+    Err(Wrong::RefusedTwice { at: Tried::Join })
 }
 
 // The seat's last reply is this one.
-fn judge<L: Setup>(seat: &Seat<L>, row: Row) -> Result<(), Wrong> {
+fn judge<L: Setup>(seat: &Seat<L>, row: ReplyRow) -> Result<(), Wrong> {
     if is_told(&seat.last().entry.reply, row.reply) {
         Ok(())
     } else {
@@ -55,27 +55,27 @@ fn judge<L: Setup>(seat: &Seat<L>, row: Row) -> Result<(), Wrong> {
 
 // A command wasn't served: for want of memory, and nothing has changed.
 fn note_refusal<R: Wait, L: Setup>(
-    host: Host<'_, R, L>,
+    host: HallHost<'_, R, L>,
     before: &Before,
     error: &NotServed,
-    refused: &mut Refused,
+    refused: &mut Refusals,
 ) -> Result<(), Wrong> {
     match error {
-        NotServed::NoMemory => refused.note(At::Ask),
+        NotServed::NoMemory => refused.note(Tried::Ask),
         NotServed::HistoryFull { .. } | NotServed::Broken => {
-            return Err(Wrong::Refusal { at: At::Ask });
+            return Err(Wrong::Refusal { at: Tried::Ask });
         }
     }
-    before.stands(host, At::Ask)
+    before.stands(host, Tried::Ask)
 }
 
 // Asks a command until it is served.
 fn ask_command<R: Wait, L: Setup>(
-    host: Host<'_, R, L>,
+    host: HallHost<'_, R, L>,
     seat: Seat<L>,
     order: &Order<'_, '_>,
     before: &Before,
-    refused: &mut Refused,
+    refused: &mut Refusals,
 ) -> (Seat<L>, Result<(), Wrong>)
     requires application { order.now.known ≡ known_of L.app }
 {
@@ -91,16 +91,16 @@ fn ask_command<R: Wait, L: Setup>(
             return (seat, noted);
         }
     }
-    (seat, Err(Wrong::RefusedTwice { at: At::Ask }))
+    (seat, Err(Wrong::RefusedTwice { at: Tried::Ask }))
 }
 
 /// A session asks a row's line, and is answered its reply. Where memory is refused nothing has
 /// changed, and it asks again.
 pub fn ask<R: Wait, L: Setup>(
-    host: Host<'_, R, L>,
+    host: HallHost<'_, R, L>,
     seat: Seat<L>,
-    row: Row,
-    refused: &mut Refused,
+    row: ReplyRow,
+    refused: &mut Refusals,
 ) -> (Seat<L>, Result<(), Wrong>) {
     let mut behind = Behind::new();
     let Ok(command) = parse_line(row.line.as_bytes(), &mut behind) else {
@@ -123,10 +123,10 @@ pub fn ask<R: Wait, L: Setup>(
 
 /// A session asks all this.
 pub fn ask_all<R: Wait, L: Setup>(
-    host: Host<'_, R, L>,
+    host: HallHost<'_, R, L>,
     seat: Seat<L>,
-    rows: &[Row],
-    refused: &mut Refused,
+    rows: &[ReplyRow],
+    refused: &mut Refusals,
 ) -> (Seat<L>, Result<(), Wrong>) {
     let mut seat = seat;
     for row in rows {
@@ -141,11 +141,11 @@ pub fn ask_all<R: Wait, L: Setup>(
 
 /// Two sessions ask all this, in turn.
 pub fn ask_in_turn<R: Wait, L: Setup>(
-    host: Host<'_, R, L>,
+    host: HallHost<'_, R, L>,
     first: Seat<L>,
     second: Seat<L>,
-    rows: &[Row],
-    refused: &mut Refused,
+    rows: &[ReplyRow],
+    refused: &mut Refusals,
 ) -> (Seat<L>, Seat<L>, Result<(), Wrong>) {
     let mut first = first;
     let mut second = second;

@@ -1,6 +1,6 @@
 //! What isn't as it must be.
 
-use crate::refused::At;
+use crate::refused::Tried;
 use rd_hall::look::Look;
 use thiserror::Error;
 
@@ -13,12 +13,12 @@ pub enum Wrong {
     /// It was refused, where only one allocation fails.
     #[error("{at} was refused twice")]
     RefusedTwice {
-        at: At,
+        at: Tried,
     },
     /// A call answers another error than that there is no memory.
     #[error("{at} is refused")]
     Refusal {
-        at: At,
+        at: Tried,
     },
     /// A line is no command.
     #[error("'{line}' is no command")]
@@ -33,12 +33,12 @@ pub enum Wrong {
     /// A refused call has changed the target.
     #[error("{at} was refused, and the target has changed")]
     Target {
-        at: At,
+        at: Tried,
     },
     /// A refused call has changed something else behind the lock.
     #[error("{at} was refused, and {before:?} has become {after:?}")]
     Behind {
-        at: At,
+        at: Tried,
         before: Look,
         after: Look,
     },

@@ -61,7 +61,7 @@ abbrev drafts_of : NamedApplication → List TaskDraft → Named TaskDraft
 drafts_of app drafts = record { names = app.tasks.names; things = drafts }
 
 -- the application was read so
-pub record IsRead (d : Data) (app : NamedApplication) (profile cores tasks : Data) (task_items : Items) (drafts : List TaskDraft)
+pub record IsAppRead (d : Data) (app : NamedApplication) (profile cores tasks : Data) (task_items : Items) (drafts : List TaskDraft)
     : Type 0 where
   pub keys : object_with file_keys d ≡ Ok tt
   pub profile_at : field (codes "profile") d ≡ Ok profile
@@ -77,7 +77,7 @@ pub record IsRead (d : Data) (app : NamedApplication) (profile cores tasks : Dat
   pub scripts : scripts_after (scope_of app) [] drafts ≡ Ok app.tasks.things
 
 pub read_takes : (d : Data) (app : NamedApplication) (profile cores tasks : Data) (task_items : Items) (drafts : List TaskDraft)
-    → IsRead d app profile cores tasks task_items drafts → Says d app task_items × IsNamedApplication app
+    → IsAppRead d app profile cores tasks task_items drafts → Says d app task_items × IsNamedApplication app
 read_takes d app profile cores tasks task_items drafts read =
     let profile_is = profile_ok profile app.profile read.profile_is in
     let core_count = number_ok 1 (max_cores app.profile) cores app.cores read.core_count in
@@ -95,7 +95,7 @@ read_takes d app profile cores tasks task_items drafts read =
     let scripts_said : AreScripts (scope_of app) drafts app.tasks.things = subst (AreScripts (scope_of app) drafts) (sym scripts.1) scripts.2 in
     let tasks_said = task.tasks_said (scope_of app) task_items app.tasks.names drafts app.tasks.things drafts_said scripts_said in
     let count = (length_named task.IsDraft task_items app.tasks.names drafts drafts_said).0 in
-    let within = task.scripts_in_limits app drafts app.tasks.things (record { objects = objects.1; tasks = tasks_said.1 }) taken.2.kept.are_things scripts_said in (
+    let within = task.scripts_in_limits app drafts app.tasks.things (record { objects = objects.1; tasks = tasks_said.1 }) taken.2.limits.are_things scripts_said in (
       record {
         keys = object_ok file_keys d tt read.keys;
         profile_at = field_ok (codes "profile") d profile read.profile_at ∙ ap Some profile_is;
@@ -116,7 +116,7 @@ read_takes d app profile cores tasks task_items drafts read =
         some_tasks = omega (arith, task_array, count, tasks_said.1);
         few_tasks = omega (arith, task_array, count, tasks_said.1);
         tasks = All-from_recursion (IsScript (runs_of app)) app.tasks.things within;
-        named_tasks = record { paired = tasks_said.1; names = taken.2.kept.are_names };
+        named_tasks = record { paired = tasks_said.1; names = taken.2.limits.are_names };
       },
     )
 
@@ -210,7 +210,7 @@ draft_from app drafts = record {
 
 -- what was read so is the answer
 draft_read : (d : Data) (app : NamedApplication) (profile cores tasks : Data) (task_items : Items) (drafts : List TaskDraft)
-    → IsRead d app profile cores tasks task_items drafts → draft_of d ≡ Ok (draft_from app drafts)
+    → IsAppRead d app profile cores tasks task_items drafts → draft_of d ≡ Ok (draft_from app drafts)
 unfolding draft_of
 draft_read d app profile cores tasks task_items drafts read =
     then_is (object_with file_keys d) _ tt _ read.keys
@@ -227,7 +227,7 @@ draft_read d app profile cores tasks task_items drafts read =
     refl))))))))))
 
 app_read : (d : Data) (app : NamedApplication) (profile cores tasks : Data) (task_items : Items) (drafts : List TaskDraft)
-    → IsRead d app profile cores tasks task_items drafts → app_of d ≡ Ok app
+    → IsAppRead d app profile cores tasks task_items drafts → app_of d ≡ Ok app
 app_read d app profile cores tasks task_items drafts read =
     then_is (draft_of d) with_scripts (draft_from app drafts) _ (draft_read d app profile cores tasks task_items drafts read)
     (then_is (scripts_after (scope_of app) [] drafts) _ app.tasks.things _ read.scripts refl)
@@ -295,28 +295,28 @@ pub at_any : (r : Result AppView AppError) (read : Result NamedApplication AppEr
 at_any (Ok app) read h = h
 at_any (Err e) read h = λ other. elim h [ inl is ↦ is | inr memory ↦ absurd (other memory.0) ]
 
-kept_app : (d : Data) (draft : AppDraft) (r : Result (List TaskScript) AppError) → draft_of d ≡ Ok draft → scripts_after (scope_of_draft draft) [] draft.tasks.things ≡ r
+checked_app_then : (d : Data) (draft : AppDraft) (r : Result (List TaskScript) AppError) → draft_of d ≡ Ok draft → scripts_after (scope_of_draft draft) [] draft.tasks.things ≡ r
     → checked r ≡ Ok tt
     → IsOkAnd (r >>= λ scripts. Ok (app_with draft scripts)) (λ app. IsApp (apart app))
-kept_app d draft (Ok scripts) drafted e h =
+checked_app_then d draft (Ok scripts) drafted e h =
     limits_apart (app_with draft scripts)
     (app_takes d (app_with draft scripts)
     (then_is (draft_of d) with_scripts draft _ drafted (then_is (scripts_after (scope_of_draft draft) [] draft.tasks.things) _ scripts _ e refl))).2
-kept_app d draft (Err x) drafted e h = absurd cc
+checked_app_then d draft (Err x) drafted e h = absurd cc
 
 -- a draft whose scripts were checked is an application within the limits
 pub checked_app : (d : Data) (draft : AppDraft) → draft_of d ≡ Ok draft → checked (scripts_after (scope_of_draft draft) [] draft.tasks.things) ≡ Ok tt
     → IsOkAnd (with_scripts draft) (λ app. IsApp (apart app))
-checked_app d draft drafted h = kept_app d draft (scripts_after (scope_of_draft draft) [] draft.tasks.things) drafted refl h
+checked_app d draft drafted h = checked_app_then d draft (scripts_after (scope_of_draft draft) [] draft.tasks.things) drafted refl h
 
-fault_kept : (r : Result (List TaskScript) AppError) (f : List TaskScript → Result NamedApplication AppError) (e : AppError) → checked r ≡ Err e → (r >>= f) ≡ Err e
-fault_kept (Ok scripts) f e h = absurd cc
-fault_kept (Err d) f e h = cc
+fault_stays : (r : Result (List TaskScript) AppError) (f : List TaskScript → Result NamedApplication AppError) (e : AppError) → checked r ≡ Err e → (r >>= f) ≡ Err e
+fault_stays (Ok scripts) f e h = absurd cc
+fault_stays (Err d) f e h = cc
 
 -- a draft with a fault in its scripts is no application
 pub fault_found : (d : Data) (draft : AppDraft) (e : AppError) → draft_of d ≡ Ok draft → checked (scripts_after (scope_of_draft draft) [] draft.tasks.things) ≡ Err e
     → app_of d ≡ Err e
-fault_found d draft e drafted h = then_is (draft_of d) with_scripts draft (Err e) drafted (fault_kept (scripts_after (scope_of_draft draft) [] draft.tasks.things) _ e h)
+fault_found d draft e drafted h = then_is (draft_of d) with_scripts draft (Err e) drafted (fault_stays (scripts_after (scope_of_draft draft) [] draft.tasks.things) _ e h)
 
 pub file_again : (bytes : List ℕ) (app : AppView) → FileSays bytes app → IsApp app → app_of_bytes bytes ≡ Ok (together app)
 file_again bytes app says limits =
@@ -341,9 +341,9 @@ pub draft_runs : (draft : AppDraft) (scripts : List TaskScript) (program : Appli
     → program_of draft ≡ Ok program
 draft_runs draft scripts program read is = rw (read, is) refl
 
--- the names of an application within the limits are all kept
-names_kept : (app : AppView) → IsApp app → named_by app.names ≡ app.names
-names_kept app is = λ i. record {
+-- the names of an application within the limits are the same again
+names_same : (app : AppView) → IsApp app → named_by app.names ≡ app.names
+names_same app is = λ i. record {
   queues = names_among-distinct app.names.queues (is.named kind.Queue) i;
   queue_sets = names_among-distinct app.names.queue_sets (is.named kind.QueueSet) i;
   streams = names_among-distinct app.names.streams (is.named kind.Stream) i;
@@ -353,14 +353,14 @@ names_kept app is = λ i. record {
 }
 
 -- what runs of an application, and its names, are the application
-pub record IsKept (r : Result NamedApplication AppError) (program : Application) (names : NamesView) : Type 0 where
+pub record IsTogether (r : Result NamedApplication AppError) (program : Application) (names : NamesView) : Type 0 where
   pub paired : AreAsMany program names
   pub is : r ≡ Ok (together (record { runs = program; names = names }))
 
-kept_apart : (app : NamedApplication) (program : Application) (names : NamesView) → runs_of app ≡ program → IsApp (apart app)
-    → names ≡ named_by (names_with app.objects app.tasks.names) → IsKept (Ok app) program names
-kept_apart app program names runs limits named =
-    let called : names ≡ (apart app).names = named ∙ names_kept (apart app) limits in
+apart_together : (app : NamedApplication) (program : Application) (names : NamesView) → runs_of app ≡ program → IsApp (apart app)
+    → names ≡ named_by (names_with app.objects app.tasks.names) → IsTogether (Ok app) program names
+apart_together app program names runs limits named =
+    let called : names ≡ (apart app).names = named ∙ names_same (apart app) limits in
     record {
       paired = subst (λ (program : Application). AreAsMany program names) {x = runs_of app} runs
           (subst (AreAsMany (runs_of app)) (sym called) limits.paired);
@@ -369,21 +369,21 @@ kept_apart app program names runs limits named =
     }
 
 -- what runs of the draft, and its names, are its application
-pub draft_is_kept : (draft : AppDraft) (program : Application) (names : NamesView) (scripts : Result (List TaskScript) AppError)
+pub draft_is_together : (draft : AppDraft) (program : Application) (names : NamesView) (scripts : Result (List TaskScript) AppError)
     → scripts_after (scope_of_draft draft) [] draft.tasks.things ≡ scripts
     → program_of draft ≡ Ok program → IsOkAnd (with_scripts draft) (λ app. IsApp (apart app))
-    → names ≡ named_by (names_with draft.objects draft.tasks.names) → IsKept (with_scripts draft) program names
-draft_is_kept draft program names (Err e) read = rw read (λ runs limits named. absurd cc)
-draft_is_kept draft program names (Ok scripts) read =
+    → names ≡ named_by (names_with draft.objects draft.tasks.names) → IsTogether (with_scripts draft) program names
+draft_is_together draft program names (Err e) read = rw read (λ runs limits named. absurd cc)
+draft_is_together draft program names (Ok scripts) read =
     rw read (λ runs limits named.
-    let same : runs_of (app_with draft scripts) ≡ program = cc in kept_apart (app_with draft scripts) program names same limits named)
+    let same : runs_of (app_with draft scripts) ≡ program = cc in apart_together (app_with draft scripts) program names same limits named)
 
 -- the same, of the names that were listed
-pub kept_by : (draft : AppDraft) (program : Application) (names lists : NamesView) → program_of draft ≡ Ok program
+pub together_by : (draft : AppDraft) (program : Application) (names lists : NamesView) → program_of draft ≡ Ok program
     → IsOkAnd (with_scripts draft) (λ app. IsApp (apart app)) → names ≡ named_by lists → lists ≡ names_with draft.objects draft.tasks.names
-    → IsKept (with_scripts draft) program names
-kept_by draft program names lists runs limits named is =
-    draft_is_kept draft program names _ refl runs limits (named ∙ ap named_by is)
+    → IsTogether (with_scripts draft) program names
+together_by draft program names lists runs limits named is =
+    draft_is_together draft program names _ refl runs limits (named ∙ ap named_by is)
 
 -- with as many names as things there is an application of them
 pub there_is : (o : Option AppView) (program : Application) (names : NamesView) → AreAsMany program names

@@ -55,22 +55,22 @@ check_is scope values = check_all scope (items_len values) [] values
 
 -- ---- scripts
 
-kept_next : (r : Result (List Instr) AppError) (scope : Scope) (drafts : List TaskDraft) (f g : List Instr → List TaskScript)
+checked_next : (r : Result (List Instr) AppError) (scope : Scope) (drafts : List TaskDraft) (f g : List Instr → List TaskScript)
     → ((code : List Instr) → checked (scripts_after scope (f code) drafts) ≡ checked (scripts_after scope (g code) drafts))
     → checked (r >>= λ code. scripts_after scope (f code) drafts) ≡ checked (r >>= λ code. scripts_after scope (g code) drafts)
-kept_next (Ok code) scope drafts f g h = h code
-kept_next (Err e) scope drafts f g h = refl
+checked_next (Ok code) scope drafts f g h = h code
+checked_next (Err e) scope drafts f g h = refl
 
 -- the scripts before don't count
-kept_any : (scope : Scope) (before others : List TaskScript) (drafts : List TaskDraft)
+checked_any : (scope : Scope) (before others : List TaskScript) (drafts : List TaskDraft)
     → checked (scripts_after scope before drafts) ≡ checked (scripts_after scope others drafts)
-kept_any scope before others [] = refl
-kept_any scope before others (draft ∷ drafts) =
-    kept_next (instrs_of scope draft.code) scope drafts _ _ (λ code. kept_any scope _ _ drafts)
+checked_any scope before others [] = refl
+checked_any scope before others (draft ∷ drafts) =
+    checked_next (instrs_of scope draft.code) scope drafts _ _ (λ code. checked_any scope _ _ drafts)
 
 first_checked : (r : Result (List Instr) AppError) (scope : Scope) (drafts : List TaskDraft) (f : List Instr → List TaskScript)
     → checked r ≡ Ok tt → checked (r >>= λ code. scripts_after scope (f code) drafts) ≡ checked (scripts_after scope [] drafts)
-first_checked (Ok code) scope drafts f e = kept_any scope (f code) [] drafts
+first_checked (Ok code) scope drafts f e = checked_any scope (f code) [] drafts
 first_checked (Err d) scope drafts f e = absurd cc
 
 -- a script without a fault
@@ -92,9 +92,9 @@ pub values_are_ok : (scope : Scope) (values : Items) → IsOk (instrs_of scope v
 unfolding instrs_of
 values_are_ok scope values h = bind_is_ok (instrs_after scope (items_len values) [] values) _ h
 
-closed_kept : (b : Bool) (code : List Instr) → IsOk (cond b (Ok code) (Err fault.Instr)) → cond b (Ok code) (Err fault.Instr) ≡ Ok code
-closed_kept true code h = refl
-closed_kept false code h = absurd cc
+closed_same : (b : Bool) (code : List Instr) → IsOk (cond b (Ok code) (Err fault.Instr)) → cond b (Ok code) (Err fault.Instr) ≡ Ok code
+closed_same true code h = refl
+closed_same false code h = absurd cc
 
 -- the instructions that were kept are the script's
 pub code_kept : (scope : Scope) (values : Items) (code : List Instr) → IsOk (instrs_of scope values)
@@ -102,7 +102,7 @@ pub code_kept : (scope : Scope) (values : Items) (code : List Instr) → IsOk (i
 unfolding instrs_of
 code_kept scope values code ok is =
     let all : (instrs_after scope (items_len values) [] values >>= closed) ≡ closed code = ap (λ (r : Result (List Instr) AppError). r >>= closed) is in
-    all ∙ closed_kept (ends code) code (ap is_ok (sym all) ∙ ok)
+    all ∙ closed_same (ends code) code (ap is_ok (sym all) ∙ ok)
 
 -- the values from an index on, each as it is seen
 pub map_from : {X Y : Type 0} (f : X → Y) (xs : List X) (i : ℕ) (x : X) → i < length xs → x ≡ get_or xs i x → map f (drop i xs) ≡ f x ∷ map f (drop (i + 1) xs)

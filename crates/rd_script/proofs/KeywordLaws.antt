@@ -28,7 +28,7 @@ use Rattle.rd_script.specs.declared.keyword.GroupKeyword.{GroupKeyword}
 use Rattle.rd_script.specs.declared.keyword.GroupKeyword.TheVariants as group_keyword
 use Rattle.rd_script.specs.declared.keyword.NotifyKeyword.{NotifyKeyword}
 use Rattle.rd_script.specs.declared.keyword.NotifyKeyword.TheVariants as told
-use Rattle.rd_script.specs.Keywords.{Makes, Row, Value, Written, first_written, group_row, keyword_of, local_row, message_row, notify_row, operands_of, queue_row, row_of, queue_set_row, stream_row, text_of, texts_of}
+use Rattle.rd_script.specs.Keywords.{Makes, InstrRow, Value, Written, first_written, group_row, keyword_of, local_row, message_row, notify_row, operands_of, queue_row, row_of, queue_set_row, stream_row, text_of, texts_of}
 use Rattle.rd_script.specs.Spelling.{IsForQueue}
 
 same_bytes : (xs ys : List ℕ) → bytes_eq xs ys ≡ true → xs ≡ ys
@@ -168,7 +168,7 @@ abbrev pub MakesWithin : NamedApplication → ℕ → (parameters : List Paramet
 MakesWithin app len [] made = IsForQueue app.objects made → IsWithin (runs_of app) len made
 MakesWithin app len (parameter ∷ others) make = (value : Value parameter) → IsValue app len parameter value → MakesWithin app len others (make value)
 
-abbrev pub RowWithin : NamedApplication → ℕ → Row → Type 0
+abbrev pub RowWithin : NamedApplication → ℕ → InstrRow → Type 0
 RowWithin app len (Written text operands make) = MakesWithin app len operands make
 
 local_within : (app : NamedApplication) (len : ℕ) (k : LocalKeyword) → RowWithin app len (local_row k)

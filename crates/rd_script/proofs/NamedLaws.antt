@@ -43,7 +43,7 @@ length_named Is (item d ds) [] things h = absurd h
 length_named Is (item d ds) (n ∷ names) [] h = absurd h
 length_named Is (item d ds) (n ∷ names) (x ∷ things) h = let rest = length_named Is ds names things h.1 in (ap suc rest.0, ap suc rest.1)
 
-pub record AreKept {X : Type 0} (InLimits : List X → Type 0) (named : Named X) : Type 0 where
+pub record AreNamedInLimits {X : Type 0} (InLimits : List X → Type 0) (named : Named X) : Type 0 where
   pub are_names : AreDistinctNames named.names
   pub are_things : InLimits named.things
 
@@ -53,14 +53,14 @@ pub record Adds {X : Type 0} (Is : Data → List ℕ → X → Type 0) (InLimits
   pub names_are : after.names ≡ before.names ++ more
   pub things_are : after.things ≡ before.things ++ others
   pub said : SayEach Is ds more others
-  pub kept : AreKept InLimits after
+  pub limits : AreNamedInLimits InLimits after
 
 pub named_take : {X : Type 0} (read : Named X → Data → Result (List ℕ × X) AppError) (Is : Data → List ℕ → X → Type 0) (InLimits : List X → Type 0)
     → ((before : Named X) (d : Data) (t : List ℕ × X) → read before d ≡ Ok t → InLimits before.things
     → Is d t.0 t.1 × IsNewName before.names t.0 × InLimits (before.things ++ t.1 ∷ []))
     → (ds : Items) (before after : Named X) → named_after read before ds ≡ Ok after
-    → AreKept InLimits before → (more : List (List ℕ)) × (others : List X) × Adds Is InLimits ds before after more others
-named_take {X = X} read Is InLimits takes no_items before after e kept =
+    → AreNamedInLimits InLimits before → (more : List (List ℕ)) × (others : List X) × Adds Is InLimits ds before after more others
+named_take {X = X} read Is InLimits takes no_items before after e limits =
     let is : before ≡ after = cc in (
       [],
       [],
@@ -68,15 +68,15 @@ named_take {X = X} read Is InLimits takes no_items before after e kept =
         names_are = ap (λ (named : Named X). named.names) (sym is) ∙ sym (append-nil before.names);
         things_are = ap (λ (named : Named X). named.things) (sym is) ∙ sym (append-nil before.things);
         said = tt;
-        kept = subst (AreKept InLimits) is kept;
+        limits = subst (AreNamedInLimits InLimits) is limits;
       },
     )
-named_take read Is InLimits takes (item d ds) before after e kept =
+named_take read Is InLimits takes (item d ds) before after e limits =
     let first = bind_ok (read before d) _ after e in
-    let taken = takes before d first.0 first.1 kept.are_things in
+    let taken = takes before d first.0 first.1 limits.are_things in
     let rest =
     named_take read Is InLimits takes ds (with_named before first.0.0 first.0.1) after first.2 (record {
-      are_names = AreDistinctNames-push before.names first.0.0 kept.are_names taken.1;
+      are_names = AreDistinctNames-push before.names first.0.0 limits.are_names taken.1;
       are_things = taken.2;
     }) in (
       first.0.0 ∷ rest.0,
@@ -85,7 +85,7 @@ named_take read Is InLimits takes (item d ds) before after e kept =
         names_are = rest.2.names_are ∙ append_assoc before.names (first.0.0 ∷ []) rest.0;
         things_are = rest.2.things_are ∙ append_assoc before.things (first.0.1 ∷ []) rest.1;
         said = (taken.0, rest.2.said);
-        kept = rest.2.kept;
+        limits = rest.2.limits;
       },
     )
 

@@ -54,9 +54,9 @@ named_taken read Is InLimits takes none most key d named e =
     let sizes = length_named Is ds.0 named.names named.things said in
     record {
       said = (ds.0, are.0, said);
-      named_each = record { paired = omega (arith, sizes); names = taken.2.kept.are_names };
+      named_each = record { paired = omega (arith, sizes); names = taken.2.limits.are_names };
       few = omega (arith, are.1, sizes);
-      in_limits = taken.2.kept.are_things;
+      in_limits = taken.2.limits.are_things;
     }
 
 named_read : {X : Type 0} (read : Named X → Data → Result (List ℕ × X) AppError) (Is : Data → List ℕ → X → Type 0) (InLimits : List X → Type 0)

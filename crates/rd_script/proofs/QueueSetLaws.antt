@@ -174,10 +174,10 @@ record IsQueueSetRead (queues names : List (List ℕ)) (queue_sets : List QueueS
 read_takes : (queues names : List (List ℕ)) (queue_sets : List QueueSetShapeView) (d text length_value members_value : Data) (texts : Items) (name : List ℕ)
     (queue_set : QueueSetShapeView) → IsQueueSetRead queues names queue_sets d text length_value members_value texts name queue_set → AreQueueSetsOf (length queues) queue_sets
     → SaysQueueSet queues d name queue_set × IsNewName names name × AreQueueSetsOf (length queues) (queue_sets ++ queue_set ∷ [])
-read_takes queues names queue_sets d text length_value members_value texts name queue_set read kept =
+read_takes queues names queue_sets d text length_value members_value texts name queue_set read are_sets =
     let named = name_ok names text name read.named in
     let capacity = number_ok 1 2048 length_value queue_set.capacity read.capacity in
-    let before : IsDistinct nat_eq (members_of queue_sets ++ []) = subst (IsDistinct nat_eq) (sym (append-nil (members_of queue_sets))) kept.one_each in
+    let before : IsDistinct nat_eq (members_of queue_sets ++ []) = subst (IsDistinct nat_eq) (sym (append-nil (members_of queue_sets))) are_sets.one_each in
     let adds = members_take queues (members_of queue_sets) [] texts queue_set.members read.members before in
     let of_queues : IsQueueSetOf (length queues) queue_set = record {
       some = capacity.1;
@@ -196,7 +196,7 @@ read_takes queues names queue_sets d text length_value members_value texts name 
       ),
       record { named = named.1; fresh = named.2 },
       record {
-        shapes = AllByRecursion-push (IsQueueSetOf (length queues)) queue_sets queue_set kept.shapes of_queues;
+        shapes = AllByRecursion-push (IsQueueSetOf (length queues)) queue_sets queue_set are_sets.shapes of_queues;
         one_each = subst (IsDistinct nat_eq) (sym (members_of-push queue_sets queue_set)) adds.once;
       },
     )
@@ -205,7 +205,7 @@ pub queue_set_takes : (queues : List (List ℕ)) (before : Named QueueSetShapeVi
     → AreQueueSetsOf (length queues) before.things
     → SaysQueueSet queues d t.0 t.1 × IsNewName before.names t.0 × AreQueueSetsOf (length queues) (before.things ++ t.1 ∷ [])
 unfolding queue_set_of
-queue_set_takes queues before d t e kept =
+queue_set_takes queues before d t e are_sets =
     let names = before.names in
     let queue_sets = before.things in
     let keys = bind_ok (object_with queue_set_keys d) _ t e in
@@ -227,7 +227,7 @@ queue_set_takes queues before d t e kept =
       capacity = capacity.1 ∙ ap (λ (queue_set : QueueSetShapeView). Ok queue_set.capacity) queue_set_is;
       texts_are = ok_or_ok (as_array members_value.0) texts.0 _ texts.1;
       members = members.1 ∙ ap (λ (queue_set : QueueSetShapeView). Ok queue_set.members) queue_set_is;
-    }) kept
+    }) are_sets
 
 pub queue_set_again : (queues : List (List ℕ)) (before : Named QueueSetShapeView) (d : Data) (name : List ℕ) (queue_set : QueueSetShapeView) → SaysQueueSet queues d name queue_set
     → IsNewName before.names name → AreQueueSetsOf (length queues) (before.things ++ queue_set ∷ []) → queue_set_of queues before d ≡ Ok (name, queue_set)

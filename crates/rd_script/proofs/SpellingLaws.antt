@@ -23,9 +23,9 @@ use Rattle.rd_script.specs.Scope.{Scope, scope_of}
 use Rattle.rd_script.specs.declared.error.AppError.TheVariants as fault
 use Rattle.rd_script.specs.declared.keyword.Parameter.{Parameter}
 use Rattle.rd_script.specs.declared.keyword.Parameter.TheVariants.{Register, Number, Target, Data, Time, Operand, Index, Room, Action, OnExit, WaitFor, OnMet, Name}
-use Rattle.rd_script.specs.Keywords.{Makes, Row, Value, keywords, keyword_of, operands_of, row_of, text_of, Written}
+use Rattle.rd_script.specs.Keywords.{Makes, InstrRow, Value, keywords, keyword_of, operands_of, row_of, text_of, Written}
 use Rattle.rd_script.specs.Spelling.{register_of, number_below, room_of, operand_of, time_of, index_named, index_of, value_of, is_formed, are_formed}
-use Rattle.rd_script.specs.Spelling.{made_of, instr_made, is_call_for, is_for_queue, instr_named, instr_of, next_value, Reading, AreOperands, IsForQueue, Spells, SpellsRow}
+use Rattle.rd_script.specs.Spelling.{made_of, instr_made, is_call_for, is_for_queue, instr_named, instr_of, next_value, InstrReading, AreOperands, IsForQueue, Spells, SpellsRow}
 use Rattle.rd_text.specs.Words.{bytes_of, is_name, is_some_word, name_of, number_of}
 use Rattle.rd_text.proofs.Offered.{and_left, and_right}
 use Rattle.rd_script.proofs.KeywordLaws.{AreThere, IsValue, MakesWithin, RowWithin, keyword_again, row_within, text_found}
@@ -71,7 +71,7 @@ no_words scope len (parameter ∷ others) zero there = refl
 no_words scope len (parameter ∷ others) (suc index) there = no_words scope len others index (omega (arith, there))
 
 -- the words that are left
-reading : Scope → ℕ → List (List ℕ) → Reading
+reading : Scope → ℕ → List (List ℕ) → InstrReading
 reading scope len words = record { scope = scope; len = len; words = words }
 
 mapped : {X Y : Type 0} (f : X → Y) (o : Option X) (y : Y) → option_map f o ≡ Some y → (x : X) × (o ≡ Some x) × (f x ≡ y)
@@ -89,10 +89,10 @@ made_takes scope len (parameter ∷ others) make (word ∷ words) i formed e =
     let next = then_some (λ next. made_of others (make next.0) next.1) (next_value parameter (reading scope len (word ∷ words))) i e in
     let value = mapped (λ value. (value, reading scope len words)) (value_of scope len parameter word) next.0 next.1 in
     let rest = and_right (is_formed scope len parameter word) (are_formed scope len others words) formed in
-    let made = subst (λ (next : Value parameter × Reading). made_of others (make next.0) next.1 ≡ Some i) (sym value.2) next.2 in
+    let made = subst (λ (next : Value parameter × InstrReading). made_of others (make next.0) next.1 ≡ Some i) (sym value.2) next.2 in
     (word, words, value.0, refl, value.1, made_takes scope len others (make value.0) words i rest made)
 
-row_takes : (scope : Scope) (len : ℕ) (of : Row) (words : List (List ℕ)) (i : Instr)
+row_takes : (scope : Scope) (len : ℕ) (of : InstrRow) (words : List (List ℕ)) (i : Instr)
     → are_formed scope len (operands_of of) words ≡ true → instr_made of (reading scope len words) ≡ Some i
     → SpellsRow scope len of (text_of of ∷ words) i
 row_takes scope len (Written text operands make) words i formed made = (words, refl, made_takes scope len operands make words i formed made)
@@ -186,7 +186,7 @@ made_again scope len (parameter ∷ others) make words i h =
     ∙ then_some_is (λ next. made_of others (make next.0) next.1) (next_value parameter (reading scope len (h.0 ∷ h.1))) (h.2, reading scope len h.1) (Some i)
     next (made_again scope len others (make h.2) h.1 i h.5)
 
-row_formed : (scope : Scope) (len : ℕ) (of : Row) (words : List (List ℕ)) (i : Instr) → SpellsRow scope len of words i
+row_formed : (scope : Scope) (len : ℕ) (of : InstrRow) (words : List (List ℕ)) (i : Instr) → SpellsRow scope len of words i
     → (left : List (List ℕ)) × (words ≡ text_of of ∷ left) × (are_formed scope len (operands_of of) left ≡ true)
     × (instr_made of (reading scope len left) ≡ Some i)
 row_formed scope len (Written text operands make) words i h =
@@ -312,7 +312,7 @@ operands_within app len (parameter ∷ others) make words i within h fits =
     let there = value_there app len parameter h.0 h.2 h.4 in
     operands_within app len others (make h.2) h.1 i (within h.2 there) h.5 fits
 
-spelled_within : (app : NamedApplication) (len : ℕ) (of : Row) (words : List (List ℕ)) (i : Instr)
+spelled_within : (app : NamedApplication) (len : ℕ) (of : InstrRow) (words : List (List ℕ)) (i : Instr)
     → RowWithin app len of → SpellsRow (scope_of app) len of words i → IsForQueue app.objects i → IsWithin (runs_of app) len i
 spelled_within app len (Written text operands make) words i within h fits = operands_within app len operands make h.0 i within h.2 fits
 

@@ -67,13 +67,13 @@ Makes [] = Instr
 Makes (parameter ∷ others) = Value parameter → Makes others
 
 -- how a keyword is written, its operands, and what they make
-pub data Row : Type 0 where
-  Written : List ℕ → (operands : List Parameter) → Makes operands → Row
+pub data InstrRow : Type 0 where
+  Written : List ℕ → (operands : List Parameter) → Makes operands → InstrRow
 
-abbrev pub text_of : Row → List ℕ
+abbrev pub text_of : InstrRow → List ℕ
 text_of (Written text operands make) = text
 
-abbrev pub operands_of : Row → List Parameter
+abbrev pub operands_of : InstrRow → List Parameter
 operands_of (Written text operands make) = operands
 
 abbrev queue_name : Parameter
@@ -96,7 +96,7 @@ task_name = Name kind.Task
 
 -- ---- the rows
 
-abbrev pub local_row : LocalKeyword → Row
+abbrev pub local_row : LocalKeyword → InstrRow
 local_row of.Set =
     Written (codes "set") (Register ∷ Number ∷ [])
     (λ register value. instruction.Local (local.Set register value))
@@ -119,7 +119,7 @@ local_row of.JumpZero =
     (λ register target. instruction.Local (local.JumpZero register target))
 local_row of.End = Written (codes "end") [] (instruction.Local local.End)
 
-abbrev pub queue_row : QueueKeyword → Row
+abbrev pub queue_row : QueueKeyword → InstrRow
 queue_row Send =
     Written (codes "send") (queue_name ∷ Time ∷ [])
     (λ queue wait. instruction.Queue queue (call.Send end.Back wait))
@@ -147,12 +147,12 @@ queue_row RemoveFromSet =
     Written (codes "setdel") (queue_name ∷ queue_set_name ∷ [])
     (λ queue queue_set. instruction.Queue queue (call.RemoveFromSet queue_set))
 
-abbrev pub queue_set_row : QueueSetKeyword → Row
+abbrev pub queue_set_row : QueueSetKeyword → InstrRow
 queue_set_row Select =
     Written (codes "select") (queue_set_name ∷ Time ∷ [])
     (λ queue_set wait. instruction.QueueSet queue_set (queue_set_call.Select wait))
 
-abbrev pub stream_row : StreamKeyword → Row
+abbrev pub stream_row : StreamKeyword → InstrRow
 stream_row stream_keyword.Write =
     Written (codes "swrite") (stream_name ∷ Time ∷ [])
     (λ stream wait. instruction.Stream stream (stream_call.Write wait))
@@ -172,7 +172,7 @@ stream_row stream_keyword.Spaces =
     Written (codes "sspaces") (stream_name ∷ [])
     (λ stream. instruction.Stream stream stream_call.Spaces)
 
-abbrev pub message_row : MessageKeyword → Row
+abbrev pub message_row : MessageKeyword → InstrRow
 message_row message_keyword.Write =
     Written (codes "mwrite") (message_name ∷ Time ∷ [])
     (λ message wait. instruction.Message message (message_call.Write wait))
@@ -189,7 +189,7 @@ message_row message_keyword.NextLength =
     Written (codes "mnext") (message_name ∷ [])
     (λ message. instruction.Message message message_call.NextLength)
 
-abbrev pub group_row : GroupKeyword → Row
+abbrev pub group_row : GroupKeyword → InstrRow
 group_row group_keyword.Set =
     Written (codes "gset") (group_name ∷ Operand ∷ [])
     (λ group bits. instruction.Group group (group_call.Set bits))
@@ -206,7 +206,7 @@ group_row group_keyword.Sync =
     Written (codes "gsync") (group_name ∷ Operand ∷ Operand ∷ Time ∷ [])
     (λ group set bits wait. instruction.Group group (group_call.Sync set bits wait))
 
-abbrev pub notify_row : NotifyKeyword → Row
+abbrev pub notify_row : NotifyKeyword → InstrRow
 notify_row told.Notify =
     Written (codes "notify") (task_name ∷ Index ∷ Operand ∷ Action ∷ [])
     (λ task index value action. instruction.Notify (notify.Notify task index value action))
@@ -227,7 +227,7 @@ notify_row told.ClearValue =
     Written (codes "vclear") (task_name ∷ Index ∷ Operand ∷ [])
     (λ task index bits. instruction.Notify (notify.ClearValue task index bits))
 
-abbrev pub row_of : Keyword → Row
+abbrev pub row_of : Keyword → InstrRow
 row_of (keyword.Local of) = local_row of
 row_of (keyword.Queue of) = queue_row of
 row_of (keyword.QueueSet of) = queue_set_row of

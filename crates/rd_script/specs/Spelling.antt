@@ -34,7 +34,7 @@ use Rattle.rd_script.specs.declared.keyword.Parameter.TheVariants.{OnMet, Name}
 use Rattle.rd_script.specs.declared.keyword.Keyword.{Keyword}
 use Rattle.rd_script.specs.Named.{NamedObjects, names_in, shapes_of}
 use Rattle.rd_script.specs.Scope.{Scope}
-use Rattle.rd_script.specs.Keywords.{Makes, Row, Value, keyword_of, operands_of, row_of, Written}
+use Rattle.rd_script.specs.Keywords.{Makes, InstrRow, Value, keyword_of, operands_of, row_of, Written}
 
 -- ---- what a word stands for
 
@@ -140,7 +140,7 @@ abbrev pub index_of : List (List ℕ) → List ℕ → Result ℕ AppError
 index_of names name = ok_or (position (bytes_eq name) names) fault.Name
 
 -- the words after a keyword that are left, in that scope, in a script of that length
-pub record Reading : Type 0 where
+pub record InstrReading : Type 0 where
   pub scope : Scope
   pub len : ℕ
   pub words : List (List ℕ)
@@ -154,11 +154,11 @@ are_formed scope len (parameter ∷ others) (word ∷ words) =
     is_formed scope len parameter word && are_formed scope len others words
 
 -- what is left behind the next word
-abbrev pub after_word : Reading → Reading
+abbrev pub after_word : InstrReading → InstrReading
 after_word reading = record reading { words = drop 1 reading.words }
 
 -- what the next word stands for, and what is left
-unfoldable pub next_value : (parameter : Parameter) → Reading → Option (Value parameter × Reading)
+unfoldable pub next_value : (parameter : Parameter) → InstrReading → Option (Value parameter × InstrReading)
 next_value parameter reading =
     option_and_then (λ word.
     option_map (λ value. (value, after_word reading))
@@ -166,17 +166,17 @@ next_value parameter reading =
     (slice_get reading.words 0)
 
 -- The operand that was read, and the reading that is left, are what reading the next word gives.
-abbrev pub Takes : (parameter : Parameter) → Reading → Option (Value parameter) → Reading → Type 0
+abbrev pub Takes : (parameter : Parameter) → InstrReading → Option (Value parameter) → InstrReading → Type 0
 Takes parameter old (Some value) new = next_value parameter old ≡ Some (value, new)
 Takes parameter old None new = next_value parameter old ≡ None
 
 -- the instruction that the words make, if each stands for something
-abbrev pub made_of : (parameters : List Parameter) → Makes parameters → Reading → Option Instr
+abbrev pub made_of : (parameters : List Parameter) → Makes parameters → InstrReading → Option Instr
 made_of [] instr reading = Some instr
 made_of (parameter ∷ others) make reading =
     option_and_then (λ next. made_of others (make next.0) next.1) (next_value parameter reading)
 
-abbrev pub instr_made : Row → Reading → Option Instr
+abbrev pub instr_made : InstrRow → InstrReading → Option Instr
 instr_made (Written text operands make) reading = made_of operands make reading
 
 -- is the call one for a queue of that shape? Only a queue with room for one item is overwritten.
@@ -198,7 +198,7 @@ is_for_queue objects instr =
     (queue_call_of instr) true
 
 -- the instruction that the words make, and else the fault of words that have the forms asked for
-abbrev pub instr_named : Row → Reading → Result Instr AppError
+abbrev pub instr_named : InstrRow → InstrReading → Result Instr AppError
 instr_named row reading = do
   instr ← ok_or (instr_made row reading) fault.Name
   if is_for_queue reading.scope.objects instr then Ok instr else Err fault.OverwriteLength
@@ -228,7 +228,7 @@ AreOperands scope len (parameter ∷ others) make words instr =
     × (value_of scope len parameter word ≡ Some value)
     × AreOperands scope len others (make value) left instr
 
-abbrev pub SpellsRow : Scope → ℕ → Row → List (List ℕ) → Instr → Type 0
+abbrev pub SpellsRow : Scope → ℕ → InstrRow → List (List ℕ) → Instr → Type 0
 SpellsRow scope len (Written text operands make) words instr =
     (left : List (List ℕ))
     × (words ≡ text ∷ left)

@@ -155,9 +155,9 @@ pub(crate) struct Reader<'a> {
 
 impl<'a> Model for Reader<'a> {
     ghost use Rattle.rd_script.specs.Draft.{scope_view};
-    ghost use Rattle.rd_script.specs.Spelling.{Reading};
+    ghost use Rattle.rd_script.specs.Spelling.{InstrReading};
 
-    ghost Value = { Reading };
+    ghost Value = { InstrReading };
 
     ghost view = { λ r. record {
       scope = scope_view r.scope;

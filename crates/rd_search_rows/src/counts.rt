@@ -67,7 +67,7 @@ const WAITING: &str = concat!(
 
 // An answer, an order by its length.
 #[derive(Clone, Copy, Debug, PartialEq)]
-enum Ended {
+enum SearchEnded {
     Found(usize),
     NotWithin(u32),
     Never,
@@ -77,7 +77,7 @@ enum Ended {
 // What was gone through for an answer.
 #[derive(Clone, Copy, Debug, PartialEq)]
 struct Figures {
-    ended: Ended,
+    ended: SearchEnded,
     states: usize,
     moves: u64,
     deepest: usize,
@@ -88,7 +88,7 @@ struct Figures {
 // surprises, for which goal, within how many choices and with room for how many places. What was
 // gone through for it, and a mark for each instruction of each task: '#' where an order came to it.
 #[derive(Clone, Copy)]
-struct Row {
+struct SearchRow {
     app: &'static str,
     lines: &'static str,
     goal: &'static str,
@@ -101,7 +101,7 @@ struct Row {
 }
 
 // All orders of at most so many choices, from boot, for a call that fails.
-const PLAIN: Row = Row {
+const PLAIN: SearchRow = SearchRow {
     app: STEPS,
     lines: "",
     goal: "failed",
@@ -110,7 +110,7 @@ const PLAIN: Row = Row {
     most: 20,
     room: 1_000,
     figures: Figures {
-        ended: Ended::Never,
+        ended: SearchEnded::Never,
         states: 0,
         moves: 0,
         deepest: 0,
@@ -119,13 +119,13 @@ const PLAIN: Row = Row {
     came: "",
 };
 
-const ROWS: [Row; 11] = [
+const ROWS: [SearchRow; 11] = [
     // 1 place at the start, 2 by moves alone, 3 by ticks alone, and 2 for each of (1, 1), (1, 2) and
     // (2, 1). From each of depth 0, 1 and 2 there is a tick, and from all but (2, 0) a move.
-    Row {
+    SearchRow {
         most: 3,
         figures: Figures {
-            ended: Ended::NotWithin(3),
+            ended: SearchEnded::NotWithin(3),
             states: 12,
             moves: 13,
             deepest: 3,
@@ -136,10 +136,10 @@ const ROWS: [Row; 11] = [
     },
     // Within 8 choices there are 37 places and 53 moves, within 10 there are 47 and 69. Both are gone
     // through, one after the other.
-    Row {
+    SearchRow {
         most: 10,
         figures: Figures {
-            ended: Ended::NotWithin(10),
+            ended: SearchEnded::NotWithin(10),
             states: 47,
             moves: 122,
             deepest: 10,
@@ -149,10 +149,10 @@ const ROWS: [Row; 11] = [
         ..PLAIN
     },
     // Within 8 choices all was gone through; of 16 there is no room for the 41st place.
-    Row {
+    SearchRow {
         room: 40,
         figures: Figures {
-            ended: Ended::Full(8, FullCause::States),
+            ended: SearchEnded::Full(8, FullCause::States),
             states: 40,
             moves: 106,
             deepest: 16,
@@ -162,10 +162,10 @@ const ROWS: [Row; 11] = [
         ..PLAIN
     },
     // It is so at the start, so nothing is gone through.
-    Row {
+    SearchRow {
         goal: "reg a 1 = 0",
         figures: Figures {
-            ended: Ended::Found(0),
+            ended: SearchEnded::Found(0),
             states: 0,
             moves: 0,
             deepest: 0,
@@ -176,11 +176,11 @@ const ROWS: [Row; 11] = [
     },
     // Without a surprise there is one order: a move, a tick, a move. Then it is looked for within 2
     // choices.
-    Row {
+    SearchRow {
         goal: "ended a",
         surprises: Some(0),
         figures: Figures {
-            ended: Ended::Found(3),
+            ended: SearchEnded::Found(3),
             states: 3,
             moves: 5,
             deepest: 3,
@@ -190,11 +190,11 @@ const ROWS: [Row; 11] = [
         ..PLAIN
     },
     // One move from tick to tick: there is one order, of a move, a tick, a move, and ticks.
-    Row {
+    SearchRow {
         pace: (1, Some(1)),
         most: 4,
         figures: Figures {
-            ended: Ended::NotWithin(4),
+            ended: SearchEnded::NotWithin(4),
             states: 5,
             moves: 4,
             deepest: 4,
@@ -204,11 +204,11 @@ const ROWS: [Row; 11] = [
         ..PLAIN
     },
     // As the first, by three moves.
-    Row {
+    SearchRow {
         app: BRANCH,
         most: 4,
         figures: Figures {
-            ended: Ended::NotWithin(4),
+            ended: SearchEnded::NotWithin(4),
             states: 20,
             moves: 25,
             deepest: 4,
@@ -219,10 +219,10 @@ const ROWS: [Row; 11] = [
     },
     // At the start the turn is another one than behind a move. The second move leads to where the
     // first did.
-    Row {
+    SearchRow {
         app: ROUND,
         figures: Figures {
-            ended: Ended::Never,
+            ended: SearchEnded::Never,
             states: 2,
             moves: 2,
             deepest: 2,
@@ -231,10 +231,10 @@ const ROWS: [Row; 11] = [
         came: "#",
         ..PLAIN
     },
-    Row {
+    SearchRow {
         app: MEETING,
         figures: Figures {
-            ended: Ended::Never,
+            ended: SearchEnded::Never,
             states: 8,
             moves: 7,
             deepest: 7,
@@ -245,10 +245,10 @@ const ROWS: [Row; 11] = [
     },
     // Whether the receiver waits or not, it comes to the same places, without a wait by one move
     // less: from these all is gone through again.
-    Row {
+    SearchRow {
         app: APART,
         figures: Figures {
-            ended: Ended::Never,
+            ended: SearchEnded::Never,
             states: 21,
             moves: 39,
             deepest: 7,
@@ -258,12 +258,12 @@ const ROWS: [Row; 11] = [
         ..PLAIN
     },
     // Nothing comes but ticks. The task is on no core, and is in the instruction in which it waits.
-    Row {
+    SearchRow {
         app: WAITING,
         lines: "step 0",
         most: 2,
         figures: Figures {
-            ended: Ended::NotWithin(2),
+            ended: SearchEnded::NotWithin(2),
             states: 3,
             moves: 2,
             deepest: 2,
@@ -275,7 +275,7 @@ const ROWS: [Row; 11] = [
 ];
 
 // The application of a row, and where it is searched from.
-fn begin(alloc: Global, row: Row) -> Result<(App, State), Fail>
+fn begin(alloc: Global, row: SearchRow) -> Result<(App, State), Fail>
     ensures valid { IfOk result (λ begun. IsValid begun.0.runs begun.1) }
     ensures settled { IfOk result (λ begun. IsSettled (priorities_of begun.0.runs) begun.1) }
 {
@@ -285,7 +285,7 @@ fn begin(alloc: Global, row: Row) -> Result<(App, State), Fail>
 }
 
 // The answer to what a row asks.
-fn ask(alloc: Global, app: &App, start: State, row: Row) -> Result<SearchOutcome, Fail>
+fn ask(alloc: Global, app: &App, start: State, row: SearchRow) -> Result<SearchOutcome, Fail>
     requires valid { IsValid app.now.runs start }
     requires settled { IsSettled (priorities_of app.now.runs) start }
 {
@@ -316,10 +316,10 @@ fn ask(alloc: Global, app: &App, start: State, row: Row) -> Result<SearchOutcome
 
 fn figures_of(outcome: &SearchOutcome) -> Figures {
     let ended = match &outcome.answer {
-        SearchAnswer::Found(order) => Ended::Found(order.len()),
-        SearchAnswer::NotWithin(most) => Ended::NotWithin(*most),
-        SearchAnswer::Never => Ended::Never,
-        SearchAnswer::Full(depth, cause) => Ended::Full(*depth, *cause),
+        SearchAnswer::Found(order) => SearchEnded::Found(order.len()),
+        SearchAnswer::NotWithin(most) => SearchEnded::NotWithin(*most),
+        SearchAnswer::Never => SearchEnded::Never,
+        SearchAnswer::Full(depth, cause) => SearchEnded::Full(*depth, *cause),
     };
     Figures {
         ended,

@@ -53,7 +53,7 @@ const LOST_WAKEUP: &str = concat!(
 
 // What is said of a goal, an order by its length.
 #[derive(Clone, Copy, Debug, PartialEq)]
-enum Told {
+enum GoalTold {
     Still(usize),
     At(usize, usize),
     Never,
@@ -66,178 +66,178 @@ enum Told {
 // told apart to the last field, within how many choices, if not by any number, and with room for how
 // many places. What is told, and of how many places it was asked.
 #[derive(Clone, Copy)]
-struct Row {
+struct LostRow {
     app: &'static str,
     lines: &'static str,
     goal: &'static str,
     exact: bool,
     most: Option<u32>,
     room: usize,
-    told: Told,
+    told: GoalTold,
     asked: usize,
 }
 
 // Whether the one that counts can still come to 9, before anything is done: it counts, jumps and
 // sets.
-const LOOKED: Row = Row {
+const LOOKED: LostRow = LostRow {
     app: LOOK,
     lines: "",
     goal: "reg a 2 = 9",
     exact: true,
     most: None,
     room: 1_000,
-    told: Told::Still(3),
+    told: GoalTold::Still(3),
     asked: 1,
 };
 
 // Whether the one that counts in a register can come to 9: never. Asked of 5, 2, 1 and 0.
-const COUNTED: Row = Row {
+const COUNTED: LostRow = LostRow {
     app: COUNT,
     lines: "step 0\nstep 0\nstep 0\nstep 0\nstep 0",
     goal: "reg a 1 = 9",
     exact: true,
     most: None,
     room: 1_000,
-    told: Told::Never,
+    told: GoalTold::Never,
     asked: 4,
 };
 
-const ROWS: [Row; 19] = [
+const ROWS: [LostRow; 19] = [
     LOOKED,
     // It has counted: jumps and sets. The item comes too late.
-    Row {
+    LostRow {
         lines: "step 0\nstep 1\nstep 1",
-        told: Told::Still(2),
+        told: GoalTold::Still(2),
         ..LOOKED
     },
     // The goal holds at the last place.
-    Row {
+    LostRow {
         lines: "step 0\nstep 0\nstep 0",
-        told: Told::Still(0),
+        told: GoalTold::Still(0),
         asked: 0,
         ..LOOKED
     },
     // The last move puts the item there. Asked of the last place and of 1.
-    Row {
+    LostRow {
         lines: "step 1\nstep 1",
-        told: Told::At(2, 3),
+        told: GoalTold::At(2, 3),
         asked: 2,
         ..LOOKED
     },
     // The first does: asked of 4, 2, 1 and 0.
-    Row {
+    LostRow {
         app: concat!(
             r#"{"profile":1,"cores":2,"tick":4294967295,"queues":[{"name":"q","length":1,"item":1}],"#,
             r#""tasks":[{"name":"a","priority":1,"code":["count q","jumpz r0 3","end","set r2 9","end"]},"#,
             r#"{"name":"b","priority":1,"code":["send q 0","end"]}]}"#,
         ),
         lines: "step 1\nstep 0\nstep 0\nstep 0",
-        told: Told::At(1, 3),
+        told: GoalTold::At(1, 3),
         asked: 4,
         ..LOOKED
     },
     // That the item comes is undone.
-    Row {
+    LostRow {
         lines: "step 1\nstep 1\nback 1",
         ..LOOKED
     },
     // It is lost at the first place that is kept, 2. Asked of 4, 3 and 2.
-    Row {
+    LostRow {
         lines: "step 1\nstep 1\nstep 0\nstep 0\ntrim 2",
-        told: Told::Never,
+        told: GoalTold::Never,
         asked: 3,
         ..LOOKED
     },
     // It is lost by the second move, and the records of the last two are kept. Asked of 3, 2 and 1.
-    Row {
+    LostRow {
         lines: "step 1\nstep 1\nstep 0\ntrim 2",
-        told: Told::At(2, 3),
+        told: GoalTold::At(2, 3),
         asked: 3,
         ..LOOKED
     },
     // Of at most three choices an order comes from place 1. None comes from 2, and longer ones aren't
     // looked for. Asked of 2 and 1.
-    Row {
+    LostRow {
         lines: "step 1\nstep 1",
         most: Some(3),
-        told: Told::Full(None, Some((1, 3)), 2, Untold::NotWithin(3)),
+        told: GoalTold::Full(None, Some((1, 3)), 2, Untold::NotWithin(3)),
         asked: 2,
         ..LOOKED
     },
     // Of at most two choices none comes from any. Asked of 2, 1 and 0.
-    Row {
+    LostRow {
         lines: "step 1\nstep 1",
         most: Some(2),
-        told: Told::Full(None, None, 0, Untold::NotWithin(2)),
+        told: GoalTold::Full(None, None, 0, Untold::NotWithin(2)),
         asked: 3,
         ..LOOKED
     },
     COUNTED,
     // Nothing was done. Asked of 0.
-    Row {
+    LostRow {
         lines: "",
         asked: 1,
         ..COUNTED
     },
     // It has come to 2 once, behind two moves, and never does again: asked of 5, 4 and 3.
-    Row {
+    LostRow {
         goal: "reg a 1 = 2",
-        told: Told::At(3, 0),
+        told: GoalTold::At(3, 0),
         asked: 3,
         ..COUNTED
     },
     // An edit, the ninth of eleven moves, brings it to 9; no order does. So it is lost by the tenth.
     // Asked of 11 and 10.
-    Row {
+    LostRow {
         lines: concat!(
             "step 0\nstep 0\npoke pc a 0\nstep 0\nstep 0\npoke pc a 0\nstep 0\nstep 0\n",
             "poke reg a 1 9\nstep 0\nstep 0",
         ),
-        told: Told::At(10, 0),
+        told: GoalTold::At(10, 0),
         asked: 2,
         ..COUNTED
     },
     // An edit brings it back to its first instruction: it comes to 1 again, and is lost again, by
     // the same move.
-    Row {
+    LostRow {
         lines: "step 0\nstep 0\npoke pc a 0\nstep 0\nstep 0",
         goal: "reg a 1 = 1",
-        told: Told::At(5, 0),
+        told: GoalTold::At(5, 0),
         asked: 1,
         ..COUNTED
     },
     // From place N there are 6 - N places left to come to, and there is room for three. So nothing
     // is told of 2, 1 and 0. Asked of 5, 2, 1, 0 and 3.
-    Row {
+    LostRow {
         room: 3,
-        told: Told::Full(Some(3), None, 0, Untold::Full(0, FullCause::States)),
+        told: GoalTold::Full(Some(3), None, 0, Untold::Full(0, FullCause::States)),
         asked: 5,
         ..COUNTED
     },
     // The same where it was 1 behind the first move, and there is room for two: of 5 and 4 it is
     // known to be lost, of 3 and 2 nothing is told. Asked of 5, 3, 2 and 4.
-    Row {
+    LostRow {
         goal: "reg a 1 = 1",
         room: 2,
-        told: Told::Full(Some(4), Some((1, 0)), 2, Untold::Full(0, FullCause::States)),
+        told: GoalTold::Full(Some(4), Some((1, 0)), 2, Untold::Full(0, FullCause::States)),
         asked: 4,
         ..COUNTED
     },
     // The poller takes the job with the eighth of nine moves. Before it a tick and then the worker are
     // no surprise. Asked of 9, 4, 7 and 8.
-    Row {
+    LostRow {
         app: LOST_ITEM,
         lines: "until count jobs > 0 50\nstep 1\nstep 1\nstep 1\nstep 0",
         goal: "at worker 1",
         exact: false,
-        told: Told::At(8, 2),
+        told: GoalTold::At(8, 2),
         asked: 4,
         ..LOOKED
     },
     // The gate has seen that nothing is there, and then the radio puts a frame there: nobody is left
     // to ring behind it. Without the frame 38 moves of the policy lead to where the uplink has a key.
     // Asked of 24, 12, 6, 3, 1 and 2.
-    Row {
+    LostRow {
         app: LOST_WAKEUP,
         lines: concat!(
             "step 0\nisr send in 72\nisr notify gate 0 0 inc\nstep 1\nstep 2\nstep 3\ntick\n",
@@ -247,14 +247,14 @@ const ROWS: [Row; 19] = [
         goal: "at uplink 1",
         exact: false,
         room: 100_000,
-        told: Told::At(2, 38),
+        told: GoalTold::At(2, 38),
         asked: 6,
         ..LOOKED
     },
 ];
 
 // What is told of a run of the application, which is ended.
-fn ask(alloc: Global, app: &App, row: Row, run: &mut Run) -> Result<LostOutcome, Fail>
+fn ask(alloc: Global, app: &App, row: LostRow, run: &mut Run) -> Result<LostOutcome, Fail>
     requires { run.old.app ≡ app.now.runs }
 {
     let words = words_of(alloc, row.goal.as_bytes())?;
@@ -282,11 +282,11 @@ fn ask(alloc: Global, app: &App, row: Row, run: &mut Run) -> Result<LostOutcome,
     ))
 }
 
-fn told_of(lost: &Lost) -> Told {
+fn told_of(lost: &Lost) -> GoalTold {
     match lost {
-        Lost::Still(order) => Told::Still(order.len()),
-        Lost::At { place, before } => Told::At(*place, before.len()),
-        Lost::Never => Told::Never,
+        Lost::Still(order) => GoalTold::Still(order.len()),
+        Lost::At { place, before } => GoalTold::At(*place, before.len()),
+        Lost::Never => GoalTold::Never,
         Lost::Full {
             known_lost,
             can_come,
@@ -297,7 +297,7 @@ fn told_of(lost: &Lost) -> Told {
                 Some(way) => Some((way.place, way.order.len())),
                 None => None,
             };
-            Told::Full(*known_lost, can_come, *place, *untold)
+            GoalTold::Full(*known_lost, can_come, *place, *untold)
         }
     }
 }

@@ -58,7 +58,7 @@ enum Handled {
 
 // What comes of what is said of the second interrupt, where the first comes so often: how often it
 // comes, what it follows, and how far it is apart.
-type Row = (
+type HandlerRow = (
     Option<u8>,
     Option<&'static str>,
     Option<&'static str>,
@@ -66,7 +66,7 @@ type Row = (
     Handled,
 );
 
-const HANDLED: [Row; 13] = [
+const HANDLED: [HandlerRow; 13] = [
     (Some(1), None, None, None, Handled::As(2, Some(1), None, 0)),
     (
         Some(1),

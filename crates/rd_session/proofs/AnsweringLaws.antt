@@ -4,7 +4,7 @@ use Rattle.std.specs.Prelude.{Option, Some, Result, Ok, Err, OnErr, OnOk}
 use Rattle.rd_ends.specs.Ends.{SinkView}
 use Rattle.rd_hall.specs.SeatView.{SeatView}
 use Rattle.rd_session.specs.BuffersView.{PendingView}
-use Rattle.rd_session.specs.Calls.{Adds, Before, Call}
+use Rattle.rd_session.specs.Calls.{Adds, Before, GateCall}
 use Rattle.rd_session.specs.Lines.{Line, Whole, Long, last_of}
 use Rattle.rd_session.specs.Replies.{TooLong, text}
 use Rattle.std.proofs.lemmas.List.{append-nil}
@@ -30,7 +30,7 @@ on_err (Err fault) f a = f a
 -- ---- one line
 
 -- its answer was told
-pub Answered-told : {T E : Type 0} (who : ℕ) (line : Line) (seat after : SeatView) (said : List ℕ) (sink sink' : SinkView) (calls calls' : Option (List Call)) (pending pending' : PendingView) (result : Result T E)
+pub Answered-told : {T E : Type 0} (who : ℕ) (line : Line) (seat after : SeatView) (said : List ℕ) (sink sink' : SinkView) (calls calls' : Option (List GateCall)) (pending pending' : PendingView) (result : Result T E)
     → Answers line seat after said → OnOk result (IsSaid who said sink calls pending sink' calls' pending') → OnErr result (IsUnsaid who said sink calls pending sink' calls')
     → Answered who line seat after sink calls pending sink' calls' pending' result
 Answered-told who line seat after said sink sink' calls calls' pending pending' result a ok err = record {
@@ -42,7 +42,7 @@ Answered-told who line seat after said sink sink' calls calls' pending pending' 
 }
 
 -- its answer was gathered
-pub Answered-gathered : {T E : Type 0} (who : ℕ) (line : Line) (seat after : SeatView) (said : List ℕ) (sink : SinkView) (calls : Option (List Call)) (pending pending' : PendingView) (done : T)
+pub Answered-gathered : {T E : Type 0} (who : ℕ) (line : Line) (seat after : SeatView) (said : List ℕ) (sink : SinkView) (calls : Option (List GateCall)) (pending pending' : PendingView) (done : T)
     → Answers line seat after said → pending'.bytes ≡ pending.bytes ++ said → pending'.begun ≡ pending.begun → pending'.out ≡ pending.out
     → Answered {T = T} {E = E} who line seat after sink calls pending sink calls pending' (Ok done)
 Answered-gathered who line seat after said sink calls pending pending' done a bytes begun out = record {
@@ -54,7 +54,7 @@ Answered-gathered who line seat after said sink calls pending pending' done a by
 }
 
 -- there was room for its answer, and the gate was called
-pub Begins-of : (who : ℕ) (sink sink' : SinkView) (calls calls' calls'' : Option (List Call)) (pending pending' pending'' : PendingView) (number : ℕ)
+pub Begins-of : (who : ℕ) (sink sink' : SinkView) (calls calls' calls'' : Option (List GateCall)) (pending pending' pending'' : PendingView) (number : ℕ)
     → GoesOn who sink calls pending sink' calls' pending' → pending'' ≡ record pending' { begun = pending'.begun + 1 } → number ≡ pending''.begun → Adds calls' calls'' (Before who number ∷ [])
     → Begins who sink calls pending sink' calls'' pending''
 Begins-of who sink sink' calls calls' calls'' pending pending' pending'' number goes_on is number_is added start heard seat after line answer who_is to_line gained t =
@@ -64,7 +64,7 @@ Begins-of who sink sink' calls calls' calls'' pending pending' pending'' number 
     (goes_on start heard seat who_is t)
 
 -- it was heard, or the sink failed
-pub line_heard : {T E : Type 0} (line : Line) (seat after : SeatView) (sink sink' sink'' : SinkView) (calls calls' calls'' : Option (List Call)) (pending pending' pending'' : PendingView) (result : Result T E)
+pub line_heard : {T E : Type 0} (line : Line) (seat after : SeatView) (sink sink' sink'' : SinkView) (calls calls' calls'' : Option (List GateCall)) (pending pending' pending'' : PendingView) (result : Result T E)
     → Begins seat.who sink calls pending sink' calls' pending' → Answered seat.who line seat after sink' calls' pending' sink'' calls'' pending'' result
     → OnOk result (HearsMore (line ∷ []) (spot seat sink calls pending) (spot after sink'' calls'' pending''))
     × OnErr result (BreaksAmid (line ∷ []) (spot seat sink calls pending) (record { seat = after; sink = sink''; calls = calls'' }))
@@ -78,12 +78,12 @@ line_heard line seat after sink sink' sink'' calls calls' calls'' pending pendin
 )
 
 -- it wasn't begun
-pub line_lost : (line : Line) (seat : SeatView) (sink sink' : SinkView) (calls calls' : Option (List Call)) (pending : PendingView)
+pub line_lost : (line : Line) (seat : SeatView) (sink sink' : SinkView) (calls calls' : Option (List GateCall)) (pending : PendingView)
     → IsLost seat.who sink calls pending sink' calls' → BreaksAmid (line ∷ []) (spot seat sink calls pending) (record { seat = seat; sink = sink'; calls = calls' })
 line_lost line seat sink sink' calls calls' pending lost start heard who t = BreaksOff-more heard (line ∷ []) start _ (lost start heard [] seat who tt t)
 
 -- one that is too long
-pub long_heard : (seat : SeatView) (sink sink' : SinkView) (calls calls' : Option (List Call)) (pending pending' pending'' : PendingView)
+pub long_heard : (seat : SeatView) (sink sink' : SinkView) (calls calls' : Option (List GateCall)) (pending pending' pending'' : PendingView)
     → Begins seat.who sink calls pending sink' calls' pending' → pending''.bytes ≡ pending'.bytes ++ text TooLong → pending''.begun ≡ pending'.begun → pending''.out ≡ pending'.out
     → HearsMore (Long ∷ []) (spot seat sink calls pending) (spot seat sink' calls' pending'')
 long_heard seat sink sink' calls calls' pending pending' pending'' begins bytes begun out start heard who t =
@@ -93,27 +93,27 @@ long_heard seat sink sink' calls calls' pending pending' pending'' begins bytes 
 
 -- ---- all answers are written
 
-pub all_heard : (who : ℕ) (lines : List Line) (old : Spot) (seat : SeatView) (sink sink' : SinkView) (calls calls' : Option (List Call)) (pending pending' : PendingView)
+pub all_heard : (who : ℕ) (lines : List Line) (old : Spot) (seat : SeatView) (sink sink' : SinkView) (calls calls' : Option (List GateCall)) (pending pending' : PendingView)
     → who ≡ old.talk.seat.who → HearsMore lines old (spot seat sink calls pending) → IsFlushed who pending.begun sink calls pending sink' calls' pending'
     → HearsMore lines old (spot seat sink' calls' pending')
 all_heard who lines old seat sink sink' calls calls' pending pending' is more flushed start heard who_is t =
     flushed start (heard ++ lines) [] seat (who_is ∙ sym is) (omega arith) (more start heard who_is t)
 
-pub all_said : (who : ℕ) (lines : List Line) (old : Spot) (seat : SeatView) (sink sink' : SinkView) (calls calls' : Option (List Call)) (pending pending' : PendingView)
+pub all_said : (who : ℕ) (lines : List Line) (old : Spot) (seat : SeatView) (sink sink' : SinkView) (calls calls' : Option (List GateCall)) (pending pending' : PendingView)
     → who ≡ old.talk.seat.who → HearsMore lines old (spot seat sink calls pending) → IsFlushed who pending.begun sink calls pending sink' calls' pending'
     → pending' ≡ record pending { bytes = []; out = pending.begun } → SaysAll lines old (record { seat = seat; sink = sink'; calls = calls' })
 all_said who lines old seat sink sink' calls calls' pending pending' is more flushed now start heard who_is t =
     Talks-of (heard ++ lines) start (spot seat sink' calls' pending') (ap (λ (q : PendingView). q.out) now ∙ sym (ap (λ (q : PendingView). q.begun) now))
     (all_heard who lines old seat sink sink' calls calls' pending pending' is more flushed start heard who_is t)
 
-pub all_lost : (who : ℕ) (lines : List Line) (old : Spot) (seat : SeatView) (sink sink' : SinkView) (calls calls' : Option (List Call)) (pending : PendingView)
+pub all_lost : (who : ℕ) (lines : List Line) (old : Spot) (seat : SeatView) (sink sink' : SinkView) (calls calls' : Option (List GateCall)) (pending : PendingView)
     → who ≡ old.talk.seat.who → HearsMore lines old (spot seat sink calls pending) → IsLost who sink calls pending sink' calls'
     → BreaksAmid lines old (record { seat = seat; sink = sink'; calls = calls' })
 all_lost who lines old seat sink sink' calls calls' pending is more lost start heard who_is t =
     lost start (heard ++ lines) [] seat (who_is ∙ sym is) tt (more start heard who_is t)
 
 -- nothing was pending
-pub nothing_said : (seat : SeatView) (sink : SinkView) (calls : Option (List Call)) (pending : PendingView) → pending.out ≡ pending.begun
+pub nothing_said : (seat : SeatView) (sink : SinkView) (calls : Option (List GateCall)) (pending : PendingView) → pending.out ≡ pending.begun
     → SaysAll [] (spot seat sink calls pending) (record { seat = seat; sink = sink; calls = calls })
 nothing_said seat sink calls pending all start heard who t =
     subst (λ (ls : List Line). Talks ls start (record { seat = seat; sink = sink; calls = calls })) (sym (append-nil heard)) (Talks-of heard start (spot seat sink calls pending) all t)
@@ -125,7 +125,7 @@ rest_said rest old new some said = subst (λ (ls : List Line). SaysAll ls old ne
 pub rest_breaks : (rest : List ℕ) (old : Spot) (new : Talk) → 0 < length rest → BreaksAmid (Whole rest ∷ []) old new → BreaksAmid (last_of (Some rest)) old new
 rest_breaks rest old new some off = subst (λ (ls : List Line). BreaksAmid ls old new) (sym (last_line rest some)) off
 
-pub no_rest_said : (rest : List ℕ) (seat : SeatView) (sink : SinkView) (calls : Option (List Call)) (pending : PendingView) → length rest ≡ 0 → pending.out ≡ pending.begun
+pub no_rest_said : (rest : List ℕ) (seat : SeatView) (sink : SinkView) (calls : Option (List GateCall)) (pending : PendingView) → length rest ≡ 0 → pending.out ≡ pending.begun
     → SaysAll (last_of (Some rest)) (spot seat sink calls pending) (record { seat = seat; sink = sink; calls = calls })
 no_rest_said rest seat sink calls pending none all =
     subst (λ (ls : List Line). SaysAll ls (spot seat sink calls pending) (record { seat = seat; sink = sink; calls = calls })) (sym (no_last_line rest none)) (nothing_said seat sink calls pending all)

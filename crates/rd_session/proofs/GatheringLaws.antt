@@ -15,22 +15,22 @@ use Rattle.rd_desk.specs.declared.entry.Receipt.{Receipt}
 use Rattle.rd_hall.specs.SeatView.{SeatView}
 use Rattle.rd_hall.specs.Seats.{Gains}
 use Rattle.rd_session.specs.BuffersView.{PendingView}
-use Rattle.rd_session.specs.Calls.{Adds, Before, Call}
+use Rattle.rd_session.specs.Calls.{Adds, Before, GateCall}
 use Rattle.rd_session.specs.Lines.{Line, Whole, Long}
-use Rattle.rd_session.specs.Replies.{Answer, Served, Unserved, Syntax, TooLong, refusal_line, refusal_of, reply_line, text}
+use Rattle.rd_session.specs.Replies.{LineAnswer, Served, Unserved, Syntax, TooLong, refusal_line, refusal_of, reply_line, text}
 use Rattle.rd_session.specs.Answers.{AreAnswers, BreaksOff, HasNoRoom, IsAnswerTo, Talk, Talks, receipt_in, receipts_in, texts, with_all}
 use Rattle.rd_session.specs.Gathering.{AreOut, Spot, Talking, spot}
-use Rattle.rd_session.proofs.CallLaws.{Called-begun, Called-none, Called-out, Called-same, Called-weak}
+use Rattle.rd_session.proofs.CallLaws.{GateCalled-begun, GateCalled-none, GateCalled-out, GateCalled-same, GateCalled-weak}
 
 -- ---- texts and receipts
 
-texts_append : (xs ys : List Answer) → texts (xs ++ ys) ≡ texts xs ++ texts ys
+texts_append : (xs ys : List LineAnswer) → texts (xs ++ ys) ≡ texts xs ++ texts ys
 texts_append xs ys = flat_map-append text xs ys
 
-texts_push : (xs : List Answer) (answer : Answer) → texts (xs ++ answer ∷ []) ≡ texts xs ++ text answer
+texts_push : (xs : List LineAnswer) (answer : LineAnswer) → texts (xs ++ answer ∷ []) ≡ texts xs ++ text answer
 texts_push xs answer = texts_append xs (answer ∷ []) ∙ ap (λ (bs : List ℕ). texts xs ++ bs) (append-nil (text answer))
 
-no_answers : (xs : List Answer) → length xs ≡ 0 → xs ≡ []
+no_answers : (xs : List LineAnswer) → length xs ≡ 0 → xs ≡ []
 no_answers [] none = refl
 no_answers (x ∷ xs) none = absurd (omega (arith, none))
 
@@ -57,7 +57,7 @@ gained_nothing : (seat after : SeatView) → after ≡ seat → after ≡ with_a
 gained_nothing seat after same =
     same ∙ seat_same seat.who seat.receipts (seat.receipts ++ []) seat.share (seat.share + 0) (sym (append-nil seat.receipts)) (omega arith)
 
-gained_more : (seat mid after : SeatView) (xs : List Answer) (answer : Answer) → mid ≡ with_all seat (receipts_in xs) → after ≡ with_all mid (receipt_in answer) → after ≡ with_all seat (receipts_in (xs ++ answer ∷ []))
+gained_more : (seat mid after : SeatView) (xs : List LineAnswer) (answer : LineAnswer) → mid ≡ with_all seat (receipts_in xs) → after ≡ with_all mid (receipt_in answer) → after ≡ with_all seat (receipts_in (xs ++ answer ∷ []))
 gained_more seat mid after xs answer one two =
     let all : receipts_in (xs ++ answer ∷ []) ≡ receipts_in xs ++ receipt_in answer =
     flat_map-append receipt_in xs (answer ∷ []) ∙ ap (λ (rs : List Receipt). receipts_in xs ++ rs) (append-nil (receipt_in answer)) in
@@ -71,7 +71,7 @@ gained_more seat mid after xs answer one two =
 
 -- what is known of an answer: to which line it is, and what the seat has by it
 pub record Answers (line : Line) (seat after : SeatView) (said : List ℕ) : Type 0 where
-  pub answer : Answer
+  pub answer : LineAnswer
   pub to_line : IsAnswerTo line answer
   pub gained : after ≡ with_all seat (receipt_in answer)
   pub says : text answer ≡ said
@@ -109,7 +109,7 @@ answer_syntax line seat is = record {
 pub answer_long : (seat : SeatView) → Answers Long seat seat (text TooLong)
 answer_long seat = record { answer = TooLong; to_line = tt; gained = gained_nothing seat seat refl; says = refl }
 
-AreAnswers-append : (xs ys : List Line) (as' bs : List Answer) → AreAnswers xs as' → AreAnswers ys bs → AreAnswers (xs ++ ys) (as' ++ bs)
+AreAnswers-append : (xs ys : List Line) (as' bs : List LineAnswer) → AreAnswers xs as' → AreAnswers ys bs → AreAnswers (xs ++ ys) (as' ++ bs)
 AreAnswers-append [] ys [] bs one two = two
 AreAnswers-append [] ys (a ∷ as') bs one two = absurd one
 AreAnswers-append (x ∷ xs) ys [] bs one two = absurd one
@@ -131,11 +131,11 @@ Talking-new start pending bytes begun out = record {
   gathered = bytes;
   begun_is = begun;
   out_is = out;
-  called = Called-none start.seat.who start.calls;
+  called = GateCalled-none start.seat.who start.calls;
 }
 
 -- a line was begun, and this is its answer
-pub Talking-begun : (who : ℕ) (start : Talk) (heard : List Line) (seat after : SeatView) (line : Line) (answer : Answer) (sink : SinkView) (calls calls' : Option (List Call)) (pending pending' : PendingView) (number : ℕ)
+pub Talking-begun : (who : ℕ) (start : Talk) (heard : List Line) (seat after : SeatView) (line : Line) (answer : LineAnswer) (sink : SinkView) (calls calls' : Option (List GateCall)) (pending pending' : PendingView) (number : ℕ)
     → start.seat.who ≡ who → IsAnswerTo line answer → after ≡ with_all seat (receipt_in answer)
     → Adds calls calls' (Before who number ∷ []) → number ≡ pending.begun + 1 → pending'.bytes ≡ pending.bytes → pending'.begun ≡ pending.begun + 1 → pending'.out ≡ pending.out
     → Talking start heard [] 0 (spot seat sink calls pending) → Talking start (heard ++ line ∷ []) (answer ∷ []) 0 (spot after sink calls' pending')
@@ -143,7 +143,7 @@ Talking-begun who start heard seat after line answer sink calls calls' pending p
   answers = t.answers ++ answer ∷ [];
   told = t.told;
   waiting = t.waiting;
-  split = ap (λ (l : List Answer). l ++ answer ∷ []) (t.split ∙ append-nil (t.told ++ t.waiting));
+  split = ap (λ (l : List LineAnswer). l ++ answer ∷ []) (t.split ∙ append-nil (t.told ++ t.waiting));
   each = AreAnswers-append heard (line ∷ []) t.answers (answer ∷ []) t.each (to_line, tt);
   gained = gained_more start.seat seat after t.answers answer t.gained gained;
   out = t.out;
@@ -152,12 +152,12 @@ Talking-begun who start heard seat after line answer sink calls calls' pending p
   gathered = bytes ∙ t.gathered;
   begun_is = omega (arith, begun, t.begun_is, length_push t.answers answer);
   out_is = out ∙ t.out_is;
-  called = Called-begun start.seat.who start.calls calls calls' number (length t.answers) (length (t.answers ++ answer ∷ [])) (length t.told) t.called
+  called = GateCalled-begun start.seat.who start.calls calls calls' number (length t.answers) (length (t.answers ++ answer ∷ [])) (length t.told) t.called
       (subst (λ (w : ℕ). Adds calls calls' (Before w number ∷ [])) (sym is) added) (omega (arith, number_is, t.begun_is)) (length_push t.answers answer);
 }
 
 -- a text was gathered
-pub Talking-gathered : (start : Talk) (heard : List Line) (seat : SeatView) (answer : Answer) (line : List ℕ) (sink : SinkView) (calls : Option (List Call)) (pending pending' : PendingView)
+pub Talking-gathered : (start : Talk) (heard : List Line) (seat : SeatView) (answer : LineAnswer) (line : List ℕ) (sink : SinkView) (calls : Option (List GateCall)) (pending pending' : PendingView)
     → text answer ≡ line → pending'.bytes ≡ pending.bytes ++ line → pending'.begun ≡ pending.begun → pending'.out ≡ pending.out
     → Talking start heard (answer ∷ []) 0 (spot seat sink calls pending) → Talking start heard [] 0 (spot seat sink calls pending')
 Talking-gathered start heard seat answer line sink calls pending pending' says bytes begun out t = record {
@@ -177,12 +177,12 @@ Talking-gathered start heard seat answer line sink calls pending pending' says b
 }
 
 -- these bytes were taken behind those
-taken : (old between new : Option (List ℕ)) (xs ys : List Answer) (bytes : List ℕ) → Appends old between (texts xs) → Appends between new bytes → bytes ≡ texts ys → Appends old new (texts (xs ++ ys))
+taken : (old between new : Option (List ℕ)) (xs ys : List LineAnswer) (bytes : List ℕ) → Appends old between (texts xs) → Appends between new bytes → bytes ≡ texts ys → Appends old new (texts (xs ++ ys))
 taken old between new xs ys bytes one two is =
     subst (λ (bs : List ℕ). Appends old new bs) (ap (λ (bs : List ℕ). texts xs ++ bs) is ∙ sym (texts_append xs ys)) (Appends-append old between new (texts xs) bytes one two)
 
 -- all that was gathered is written
-pub Talking-flushed : (who upto : ℕ) (start : Talk) (heard : List Line) (unsaid : List Answer) (seat : SeatView) (sink sink' : SinkView) (calls calls' : Option (List Call)) (pending pending' : PendingView)
+pub Talking-flushed : (who upto : ℕ) (start : Talk) (heard : List Line) (unsaid : List LineAnswer) (seat : SeatView) (sink sink' : SinkView) (calls calls' : Option (List GateCall)) (pending pending' : PendingView)
     → start.seat.who ≡ who → upto + length unsaid ≡ pending.begun
     → Appends sink.contents sink'.contents pending.bytes → Appends sink.given sink'.given pending.bytes → sink'.faults ≡ sink.faults → AreOut who pending.out upto calls calls'
     → pending'.bytes ≡ [] → pending'.begun ≡ pending.begun → pending'.out ≡ upto
@@ -194,7 +194,7 @@ Talking-flushed who upto start heard unsaid seat sink sink' calls calls' pending
       answers = t.answers;
       told = t.told ++ t.waiting;
       waiting = [];
-      split = t.split ∙ ap (λ (l : List Answer). l ++ unsaid) (sym (append-nil (t.told ++ t.waiting)));
+      split = t.split ∙ ap (λ (l : List LineAnswer). l ++ unsaid) (sym (append-nil (t.told ++ t.waiting)));
       each = t.each;
       gained = t.gained;
       out = taken start.sink.contents sink.contents sink'.contents t.told t.waiting pending.bytes t.out contents t.gathered;
@@ -203,12 +203,12 @@ Talking-flushed who upto start heard unsaid seat sink sink' calls calls' pending
       gathered = bytes;
       begun_is = begun ∙ t.begun_is;
       out_is = out ∙ reached;
-      called = Called-out start.seat.who start.calls calls calls' pending.out upto (length t.answers) (length t.told) (length (t.told ++ t.waiting)) 0 (length unsaid) t.called
+      called = GateCalled-out start.seat.who start.calls calls calls' pending.out upto (length t.answers) (length t.told) (length (t.told ++ t.waiting)) 0 (length unsaid) t.called
           (subst (λ (w : ℕ). AreOut w pending.out upto calls calls') (sym is) outs) t.out_is reached (sym sum);
     }
 
 -- nothing waits, and a text was written by itself
-pub Talking-alone : (who : ℕ) (start : Talk) (heard : List Line) (seat : SeatView) (answer : Answer) (line : List ℕ) (sink sink' : SinkView) (calls calls' : Option (List Call)) (pending pending' : PendingView)
+pub Talking-alone : (who : ℕ) (start : Talk) (heard : List Line) (seat : SeatView) (answer : LineAnswer) (line : List ℕ) (sink sink' : SinkView) (calls calls' : Option (List GateCall)) (pending pending' : PendingView)
     → start.seat.who ≡ who → text answer ≡ line → pending.bytes ≡ []
     → Appends sink.contents sink'.contents line → Appends sink.given sink'.given line → sink'.faults ≡ sink.faults → AreOut who pending.out pending.begun calls calls'
     → pending'.bytes ≡ [] → pending'.begun ≡ pending.begun → pending'.out ≡ pending.begun
@@ -229,14 +229,14 @@ Talking-alone who start heard seat answer line sink sink' calls calls' pending p
       gathered = bytes;
       begun_is = begun ∙ t.begun_is;
       out_is = out ∙ t.begun_is ∙ ap length t.split;
-      called = Called-out start.seat.who start.calls calls calls' pending.out pending.begun (length t.answers) (length t.told) (length ((t.told ++ t.waiting) ++ answer ∷ [])) 1 0 t.called
+      called = GateCalled-out start.seat.who start.calls calls calls' pending.out pending.begun (length t.answers) (length t.told) (length ((t.told ++ t.waiting) ++ answer ∷ [])) 1 0 t.called
           (subst (λ (w : ℕ). AreOut w pending.out pending.begun calls calls') (sym is) outs) t.out_is (t.begun_is ∙ ap length t.split) (omega (arith, ap length t.split));
     }
 
 -- ---- a write has failed
 
 -- It was given all that was gathered.
-pub Talking-lost : (start : Talk) (heard : List Line) (unsaid : List Answer) (seat : SeatView) (sink sink' : SinkView) (calls : Option (List Call)) (pending : PendingView)
+pub Talking-lost : (start : Talk) (heard : List Line) (unsaid : List LineAnswer) (seat : SeatView) (sink sink' : SinkView) (calls : Option (List GateCall)) (pending : PendingView)
     → HasNoRoom pending.bytes unsaid → (front : List ℕ) × IsFront front pending.bytes × Appends sink.contents sink'.contents front → Appends sink.given sink'.given pending.bytes
     → sink'.faults ≡ sink.faults + 1
     → Talking start heard unsaid 0 (spot seat sink calls pending) → BreaksOff heard start (record { seat = seat; sink = sink'; calls = calls })
@@ -248,19 +248,19 @@ Talking-lost start heard unsaid seat sink sink' calls pending room says given fa
   lost = t.waiting;
   unsaid = unsaid;
   no_room = subst (λ (bs : List ℕ). HasNoRoom bs unsaid) t.gathered room;
-  each = subst (λ (l : List Answer). AreAnswers heard l) t.split t.each;
-  gained = t.gained ∙ ap (λ (l : List Answer). with_all start.seat (receipts_in l)) t.split;
+  each = subst (λ (l : List LineAnswer). AreAnswers heard l) t.split t.each;
+  gained = t.gained ∙ ap (λ (l : List LineAnswer). with_all start.seat (receipts_in l)) t.split;
   front = says.0;
   is_front = subst (λ (bs : List ℕ). IsFront says.0 bs) t.gathered says.1;
   out = Appends-append start.sink.contents sink.contents sink'.contents (texts t.told) says.0 t.out says.2;
   given = taken start.sink.given sink.given sink'.given t.told t.waiting pending.bytes t.given given t.gathered;
   faults = omega (arith, faults, t.faults);
-  called = Called-same start.seat.who start.calls calls (length t.answers) (length ((t.told ++ t.waiting) ++ unsaid)) (length t.told) (length t.told) 1
-      (Called-weak start.seat.who start.calls calls (length t.answers) (length t.told) 0 1 (omega arith) t.called) (ap length t.split) refl;
+  called = GateCalled-same start.seat.who start.calls calls (length t.answers) (length ((t.told ++ t.waiting) ++ unsaid)) (length t.told) (length t.told) 1
+      (GateCalled-weak start.seat.who start.calls calls (length t.answers) (length t.told) 0 1 (omega arith) t.called) (ap length t.split) refl;
 }
 
 -- It was given a text by itself, where nothing waits.
-pub Talking-lost_alone : (start : Talk) (heard : List Line) (seat : SeatView) (answer : Answer) (line : List ℕ) (sink sink' : SinkView) (calls : Option (List Call)) (pending : PendingView)
+pub Talking-lost_alone : (start : Talk) (heard : List Line) (seat : SeatView) (answer : LineAnswer) (line : List ℕ) (sink sink' : SinkView) (calls : Option (List GateCall)) (pending : PendingView)
     → text answer ≡ line → pending.bytes ≡ [] → pending.out + 1 ≡ pending.begun
     → (front : List ℕ) × IsFront front line × Appends sink.contents sink'.contents front → Appends sink.given sink'.given line → sink'.faults ≡ sink.faults + 1
     → Talking start heard (answer ∷ []) 1 (spot seat sink calls pending) → BreaksOff heard start (record { seat = seat; sink = sink'; calls = calls })
@@ -268,7 +268,7 @@ Talking-lost_alone start heard seat answer line sink sink' calls pending says no
     let sum : length t.answers ≡ length (t.told ++ t.waiting) + 1 = ap length t.split ∙ length_push (t.told ++ t.waiting) answer in
     let nobody : t.waiting ≡ [] = no_answers t.waiting (omega (arith, sum, length-append t.told t.waiting, counts, t.begun_is, t.out_is)) in
     let split : t.answers ≡ (t.told ++ answer ∷ []) ++ [] =
-    t.split ∙ ap (λ (l : List Answer). (t.told ++ l) ++ answer ∷ []) nobody ∙ ap (λ (l : List Answer). l ++ answer ∷ []) (append-nil t.told) ∙ sym (append-nil (t.told ++ answer ∷ [])) in
+    t.split ∙ ap (λ (l : List LineAnswer). (t.told ++ l) ++ answer ∷ []) nobody ∙ ap (λ (l : List LineAnswer). l ++ answer ∷ []) (append-nil t.told) ∙ sym (append-nil (t.told ++ answer ∷ [])) in
     let one : line ≡ texts (answer ∷ []) = sym says ∙ sym (append-nil (text answer)) in
     record {
       heard = heard;
@@ -278,14 +278,14 @@ Talking-lost_alone start heard seat answer line sink sink' calls pending says no
       lost = answer ∷ [];
       unsaid = [];
       no_room = tt;
-      each = subst (λ (l : List Answer). AreAnswers heard l) split t.each;
-      gained = t.gained ∙ ap (λ (l : List Answer). with_all start.seat (receipts_in l)) split;
+      each = subst (λ (l : List LineAnswer). AreAnswers heard l) split t.each;
+      gained = t.gained ∙ ap (λ (l : List LineAnswer). with_all start.seat (receipts_in l)) split;
       front = fails.0;
       is_front = subst (λ (bs : List ℕ). IsFront fails.0 bs) one fails.1;
       out = Appends-append start.sink.contents sink.contents sink'.contents (texts t.told) fails.0 t.out fails.2;
       given = taken start.sink.given sink.given sink'.given t.told (answer ∷ []) line t.given given one;
       faults = omega (arith, faults, t.faults);
-      called = Called-same start.seat.who start.calls calls (length t.answers) (length ((t.told ++ answer ∷ []) ++ [])) (length t.told) (length t.told) 1 t.called (ap length split) refl;
+      called = GateCalled-same start.seat.who start.calls calls (length t.answers) (length ((t.told ++ answer ∷ []) ++ [])) (length t.told) (length t.told) 1 t.called (ap length split) refl;
     }
 
 -- lines that nobody came to
@@ -315,13 +315,13 @@ Talks-of heard start now all t =
     let sum : length t.answers ≡ length (t.told ++ t.waiting) + 0 = ap length t.split ∙ length-append (t.told ++ t.waiting) [] in
     let nobody : t.waiting ≡ [] = no_answers t.waiting (omega (arith, sum, length-append t.told t.waiting, all, t.begun_is, t.out_is)) in
     let same : t.told ≡ t.answers =
-    sym (t.split ∙ append-nil (t.told ++ t.waiting) ∙ ap (λ (l : List Answer). t.told ++ l) nobody ∙ append-nil t.told) in
+    sym (t.split ∙ append-nil (t.told ++ t.waiting) ∙ ap (λ (l : List LineAnswer). t.told ++ l) nobody ∙ append-nil t.told) in
     record {
       answers = t.answers;
       each = t.each;
       gained = t.gained;
-      out = subst (λ (l : List Answer). Appends start.sink.contents now.talk.sink.contents (texts l)) same t.out;
-      given = subst (λ (l : List Answer). Appends start.sink.given now.talk.sink.given (texts l)) same t.given;
+      out = subst (λ (l : List LineAnswer). Appends start.sink.contents now.talk.sink.contents (texts l)) same t.out;
+      given = subst (λ (l : List LineAnswer). Appends start.sink.given now.talk.sink.given (texts l)) same t.given;
       faults = t.faults;
-      called = Called-same start.seat.who start.calls now.talk.calls (length t.answers) (length t.answers) (length t.told) (length t.answers) 0 t.called refl (ap length same);
+      called = GateCalled-same start.seat.who start.calls now.talk.calls (length t.answers) (length t.answers) (length t.told) (length t.answers) 0 t.called refl (ap length same);
     }

@@ -6,7 +6,7 @@ use Rattle.std.specs.Io.KnownBytes.{Consumes, IsAtEnd, Keeps}
 use Rattle.std.proofs.lemmas.List.{append_assoc, append-nil, length_push}
 use Rattle.std.proofs.lemmas.Grind.{flat_map-append}
 use Rattle.rd_ends.specs.Ends.{IsUnread, SourceView}
-use Rattle.rd_ends.proofs.Offered.{Consumes-append, Consumes-kept, Consumes-none}
+use Rattle.rd_ends.proofs.Offered.{Consumes-append, Consumes-same, Consumes-none}
 use Rattle.rd_session.specs.Lines.{AddsRead, Line, Whole, Long, front_of, last_of, lines_from, lines_of, rest_from, without_return}
 use Rattle.rd_session.specs.declared.lines.Front.TheVariants as front
 use Rattle.rd_session.specs.declared.session.Ended.{Ended}
@@ -250,7 +250,7 @@ pub Heard-failed : (had now later : SourceView) (start : Talk) (spot : Spot) (he
 Heard-failed had now later start spot held hears all keeps reads ends faults = record {
   pages = hears.pages;
   are_pages = hears.are_pages;
-  read = Consumes-kept had.remaining now.remaining later.remaining (bytes_of hears.pages) hears.read keeps;
+  read = Consumes-same had.remaining now.remaining later.remaining (bytes_of hears.pages) hears.read keeps;
   end = ReadFailed;
   ends = ends ∙ hears.ends;
   faults = omega (arith, faults, hears.faults);
@@ -299,7 +299,7 @@ no_bytes [] count len none = refl
 no_bytes (x ∷ xs) count len none = absurd (omega (arith, len, none))
 
 -- What a read has found that found the end.
-record Ending (had later : SourceView) (start : Talk) (spot : Spot) (all : List ℕ) : Type 0 where
+record HeardEnd (had later : SourceView) (start : Talk) (spot : Spot) (all : List ℕ) : Type 0 where
   pages : List (List ℕ)
   are_pages : ArePages (Some []) pages
   read : Consumes had.remaining later.remaining (bytes_of pages)
@@ -311,11 +311,11 @@ record Ending (had later : SourceView) (start : Talk) (spot : Spot) (all : List 
   ends : later.ends ≡ 1
   faults : later.faults ≡ 0
 
-Ending-of : (had now later : SourceView) (start : Talk) (spot : Spot) (held all : List ℕ) (count : ℕ)
+HeardEnd-of : (had now later : SourceView) (start : Talk) (spot : Spot) (held all : List ℕ) (count : ℕ)
     → Hears had now start spot held → AddsRead held all now.remaining later.remaining count → count ≡ 0
     → later.reads ≡ now.reads + 1 → later.ends ≡ ends_with now.ends count → later.faults ≡ now.faults
-    → Ending had later start spot all
-Ending-of had now later start spot held all count hears adds none reads ends faults =
+    → HeardEnd had later start spot all
+HeardEnd-of had now later start spot held all count hears adds none reads ends faults =
     let empty = no_bytes adds.bytes count adds.len none in
     let left : all ≡ held = adds.added ∙ ap (λ (bs : List ℕ). held ++ bs) empty ∙ append-nil held in
     record {
@@ -338,7 +338,7 @@ pub Heard-end : (had now later : SourceView) (start : Talk) (spot : Spot) (new :
     → later.reads ≡ now.reads + 1 → later.ends ≡ ends_with now.ends count → later.faults ≡ now.faults
     → IsAtEnd later.remaining → SaysAll (last_of (Some all)) spot new → Heard had later start new
 Heard-end had now later start spot new held all count hears adds none reads ends faults at_end said =
-    let e = Ending-of had now later start spot held all count hears adds none reads ends faults in
+    let e = HeardEnd-of had now later start spot held all count hears adds none reads ends faults in
     record {
       pages = e.pages;
       are_pages = e.are_pages;
@@ -355,7 +355,7 @@ pub Heard-end_breaks : (had now later : SourceView) (start : Talk) (spot : Spot)
     → later.reads ≡ now.reads + 1 → later.ends ≡ ends_with now.ends count → later.faults ≡ now.faults
     → IsAtEnd later.remaining → BreaksAmid (last_of (Some all)) spot new → Heard had later start new
 Heard-end_breaks had now later start spot new held all count hears adds none reads ends faults at_end off =
-    let e = Ending-of had now later start spot held all count hears adds none reads ends faults in
+    let e = HeardEnd-of had now later start spot held all count hears adds none reads ends faults in
     record {
       pages = e.pages;
       are_pages = e.are_pages;

@@ -28,14 +28,14 @@ refusal_of not_served.Broken = refusal.Broken
 
 -- What is answered to a line: the receipt of what it asked for, why that wasn't served, that it is
 -- no command, or that it is too long.
-pub data Answer : Type 0 where
-  Served : Receipt → Answer
-  Unserved : NotServed → Answer
-  Syntax : Answer
-  TooLong : Answer
+pub data LineAnswer : Type 0 where
+  Served : Receipt → LineAnswer
+  Unserved : NotServed → LineAnswer
+  Syntax : LineAnswer
+  TooLong : LineAnswer
 
 -- the text of an answer
-abbrev pub text : Answer → List ℕ
+abbrev pub text : LineAnswer → List ℕ
 text (Served receipt) = reply_line receipt.entry.reply
 text (Unserved error) = refusal_line (refusal_of error)
 text Syntax = refusal_line refusal.Syntax

@@ -164,7 +164,7 @@ fn read_after<S: ByteSource>(
     ensures end { IfOk result (λ count. count ≡ 0 → IsAtEnd (S.seen source.new).remaining) }
     ensures err { OnErr result
         (Keeps (S.seen source.old).remaining (S.seen source.new).remaining) }
-    ensures kept { take end buffer.new ≡ take end buffer.old }
+    ensures front { take end buffer.new ≡ take end buffer.old }
     ensures reads { (S.seen source.new).reads ≡ (S.seen source.old).reads + 1 }
     ensures ends { (S.seen source.new).ends ≡ ends_after (S.seen source.old).ends result }
     ensures faults { (S.seen source.new).faults ≡ faults_after (S.seen source.old).faults result }

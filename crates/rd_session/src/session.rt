@@ -105,7 +105,7 @@ fn make_room<G: Gate, W: ByteSink>(
 ) -> Result<(), WriteFault>
     requires out { pending.old.out ≤ pending.old.begun }
     requires counts { (W.seen sink.old).faults ≡ 0 }
-    ensures kept { OnOk result (GoesOn who (W.seen sink.old) (G.calls gate.old) pending.old
+    ensures goes_on { OnOk result (GoesOn who (W.seen sink.old) (G.calls gate.old) pending.old
         (W.seen sink.new) (G.calls gate.new) pending.new) }
     ensures room { OnOk result (length pending.new.bytes + MAX_REPLY ≤ pending.new.capacity) }
     ensures begun { OnOk result (pending.new.begun ≡ pending.old.begun) }

@@ -42,15 +42,15 @@ neither (k ∷ ks) b e = absurd cc
 none_of : (k : ErrorKind) → k ∷ [] ≡ [] → ⊥
 none_of k e = cc
 
--- ---- what each use of an argument keeps of the rows, a walk keeps
+-- ---- what each use of an argument preserves of the rows, a walk preserves
 
 module _ (s : Shape) (names : Names) (Good : List Row → Type 0)
-    (keep : (q : Rule → Bool) (a : Rule) (values : List Text) (rows : List Row) → find q s.rules ≡ Some a
+    (preserve : (q : Rule → Bool) (a : Rule) (values : List Text) (rows : List Row) → find q s.rules ≡ Some a
     → use_fault s.args_override_self a values rows ≡ [] → Good rows → Good (used a values rows)) where
   by_id : (found : Option Rule) (id : Text) (values : List Text) (rows : List Row) → found ≡ arg_by_id s.rules id
       → option_map_or (λ a. use_fault s.args_override_self a values rows) found [] ≡ [] → Good rows → Good (used_by_id found values rows)
   by_id None id values rows is e good = good
-  by_id (Some a) id values rows is e good = keep (λ r. bytes_eq r.id id) a values rows (sym is) e good
+  by_id (Some a) id values rows is e good = preserve (λ r. bytes_eq r.id id) a values rows (sym is) e good
 
   settle : (pending : Option (Text × List Text)) (rows : List Row)
       → option_map_or (λ p. option_map_or (λ a. use_fault s.args_override_self a p.1 rows) (arg_by_id s.rules p.0) []) pending [] ≡ []
@@ -62,7 +62,7 @@ module _ (s : Shape) (names : Names) (Good : List Row → Type 0)
       → react_fault s.rules s.args_override_self a values h ≡ [] → Good h.rows → Good (reacted s.rules a values h).rows
   react q a values h is e good =
       let parts = neither (settle_fault s.rules s.args_override_self h) _ e in
-      keep q a values _ is parts.1 (settle h.pending h.rows parts.0 good)
+      preserve q a values _ is parts.1 (settle h.pending h.rows parts.0 good)
 
   an_option : (q : Rule → Bool) (a : Rule) (v : Option Text) (h : Held) → find q s.rules ≡ Some a
       → option_fault s.rules s.args_override_self a v h ≡ [] → Good h.rows → Good (option_met s.rules a v h).0.rows
@@ -189,20 +189,20 @@ module _ (s : Shape) (names : Names) (Good : List Row → Type 0)
       let met = a_word w.is_trailing w.waiting w.position word w.held parts.0 good in
       after_word _ word w _ parts.1 met
 
-  pub walk_keeps : (words : List Text) (w : Walk) → walk_fault s names w words ≡ [] → Good w.held.rows
+  pub walk_preserves : (words : List Text) (w : Walk) → walk_fault s names w words ≡ [] → Good w.held.rows
       → Good (fold (walked s.rules names) w words).held.rows
   unfolding walk_fault walked
-  walk_keeps [] w e good = good
-  walk_keeps (word ∷ words) w e good =
+  walk_preserves [] w e good = good
+  walk_preserves (word ∷ words) w e good =
       let parts = neither (turn_fault s names w word) _ e in
-      walk_keeps words _ parts.1 (a_turn w.stopped w word parts.0 good)
+      walk_preserves words _ parts.1 (a_turn w.stopped w word parts.0 good)
 
-  pub level_keeps : (words : List Text) → walk_fault s names (walk_from nothing_held) words ≡ []
+  pub level_preserves : (words : List Text) → walk_fault s names (walk_from nothing_held) words ≡ []
       → settle_fault s.rules s.args_override_self (walk s.rules names nothing_held words).held ≡ [] → Good []
       → Good (settled s.rules (walk s.rules names nothing_held words).held).rows
-  level_keeps words e settles good =
+  level_preserves words e settles good =
       let end = (walk s.rules names nothing_held words).held in
-      settle end.pending end.rows settles (walk_keeps words (walk_from nothing_held) e good)
+      settle end.pending end.rows settles (walk_preserves words (walk_from nothing_held) e good)
 
 -- ---- no walk over words that pass ends at `help`
 
@@ -391,8 +391,8 @@ none_added a rows none =
     ap (λ (texts : List Text). cond (has_row a.id rows) rows (default_rows a.id (reading_by a) texts rows)) none
     ∙ same_either (has_row a.id rows) rows
 
-abbrev Keeps : (List Row → Type 0) → List Text → List Row → Rule → Type 0
-Keeps P values rows a = use_fault false a values rows ≡ [] → P rows → P (used a values rows)
+abbrev UsePreserves : (List Row → Type 0) → List Text → List Row → Rule → Type 0
+UsePreserves P values rows a = use_fault false a values rows ≡ [] → P rows → P (used a values rows)
 
 -- ---- the row of an option: its one value is one that the option takes
 
@@ -440,9 +440,9 @@ module _ (name : Text) (Takes : Text → Type 0) where
   others_stay other change missing (r ∷ rest) differs none stay =
       other_row other change r rest _ differs (others_stay other change missing rest differs none stay) stay (bytes_eq r.id other) refl
 
-  other_keeps : (other : Text) (values : List Text) (row : Row) (rows : List Row) → bytes_eq other name ≡ false → is_it row ≡ false → Good rows
+  other_preserves : (other : Text) (values : List Text) (row : Row) (rows : List Row) → bytes_eq other name ≡ false → is_it row ≡ false → Good rows
       → Good (at_row other (more_values CommandLine values) (row ∷ []) (without other rows))
-  other_keeps other values row rows differs new good =
+  other_preserves other values row rows differs new good =
       let change = more_values CommandLine values in
       let same = others_stay other change (row ∷ []) (without other rows) differs (absent row new) (more_stay CommandLine values)
       ∙ others_stay other (λ (_ : Row). []) [] rows differs refl none_stay in
@@ -474,12 +474,12 @@ module _ (name : Text) (Takes : Text → Type 0) where
   is_itself : bytes_eq name name ≡ true
   is_itself = (bytes_eq-Decides name name).1 refl
 
-  -- a use of another option keeps it
+  -- a use of another option preserves it
   other_rule : (a : Rule) (values : List Text) (rows : List Row) → action_of a ≡ Set → bytes_eq a.id name ≡ false
-      → Keeps Good values rows a
+      → UsePreserves Good values rows a
   other_rule a values rows sets differs = λ e good.
       subst (λ (action : ArgAction). Good (used_as action a.id (reading_by a) (values_or_missing a values) rows)) (sym sets)
-      (other_keeps a.id (values_or_missing a values) _ rows differs differs good)
+      (other_preserves a.id (values_or_missing a values) _ rows differs differs good)
 
   -- ---- at the end, its default where no row of it is there
 
@@ -544,13 +544,13 @@ module _ (name : Text) (Takes : Text → Type 0) where
       (has.0, ap (option_and_then row_text) (default_stays other from rows differs) ∙ has.1, has.2)
 
 -- a use of an option of one number: the number is within the limits
-number_keeps : (name : Text) (least most : ℕ) (defaults : List Text) (required : Bool) (values : List Text) (rows : List Row)
-    → Keeps (Good name (IsUnsignedIn least most)) values rows (number_rule name least most defaults required)
-number_keeps name least most defaults required [] rows = λ e _. absurd (none_of kind.InvalidValue e)
-number_keeps name least most defaults required (v ∷ u ∷ rest) rows = λ e _.
+number_preserves : (name : Text) (least most : ℕ) (defaults : List Text) (required : Bool) (values : List Text) (rows : List Row)
+    → UsePreserves (Good name (IsUnsignedIn least most)) values rows (number_rule name least most defaults required)
+number_preserves name least most defaults required [] rows = λ e _. absurd (none_of kind.InvalidValue e)
+number_preserves name least most defaults required (v ∷ u ∷ rest) rows = λ e _.
     let one = one_value (length (v ∷ u ∷ rest)) (neither (range_kinds 1 1 (length (v ∷ u ∷ rest))) _ e).0 in
     absurd (omega arith)
-number_keeps name least most defaults required (v ∷ []) rows = λ e _.
+number_preserves name least most defaults required (v ∷ []) rows = λ e _.
     let parts = neither (cond (has_row name rows && true) (kind.ArgumentConflict ∷ []) []) _ e in
     let none = not_there (has_row name rows) parts.0 in
     let passed = it_passes (accepts false (Unsigned least most) v) parts.1 in
@@ -558,18 +558,18 @@ number_keeps name least most defaults required (v ∷ []) rows = λ e _.
     (v, refl, accepts-Accepts false (Unsigned least most) v passed) none
 
 -- a use of the application's option: there is a text
-app_keeps : (values : List Text) (rows : List Row) → Keeps (Good (codes "app") (λ _. ⊤)) values rows served_app_rule
-app_keeps [] rows = λ e _. absurd (none_of kind.InvalidValue e)
-app_keeps (v ∷ u ∷ rest) rows = λ e _.
+app_preserves : (values : List Text) (rows : List Row) → UsePreserves (Good (codes "app") (λ _. ⊤)) values rows served_app_rule
+app_preserves [] rows = λ e _. absurd (none_of kind.InvalidValue e)
+app_preserves (v ∷ u ∷ rest) rows = λ e _.
     let one = one_value (length (v ∷ u ∷ rest)) (neither (range_kinds 1 1 (length (v ∷ u ∷ rest))) _ e).0 in
     absurd (omega arith)
-app_keeps (v ∷ []) rows = λ e _.
+app_preserves (v ∷ []) rows = λ e _.
     let none = not_there (has_row (codes "app") rows) (neither (cond (has_row (codes "app") rows && true) (kind.ArgumentConflict ∷ []) []) _ e).0 in
     used_first (codes "app") (λ _. ⊤) (more_values CommandLine (v ∷ [])) _ rows refl (v, refl, tt) none
 
 -- ---- the words behind a subcommand
 
--- what each of the arguments keeps, the one that is used keeps
+-- what each of the arguments preserves, the one that is used preserves
 abbrev Each : (Rule → Type 0) → List Rule → Type 0
 Each Holds [] = ⊤
 Each Holds (a ∷ rest) = Holds a × Each Holds rest
@@ -598,21 +598,21 @@ InSessions = IsUnsignedIn 1 64
 abbrev AnyText : Text → Type 0
 AnyText text = ⊤
 
--- help keeps what there is, since it ends the parse
-help_keeps : (name : Text) (Takes : Text → Type 0) (values : List Text) (rows : List Row) → Keeps (Good name Takes) values rows help_flag
-help_keeps name Takes values rows = λ e good. absurd (help_fails values rows e)
+-- help preserves what there is, since it ends the parse
+help_preserves : (name : Text) (Takes : Text → Type 0) (values : List Text) (rows : List Row) → UsePreserves (Good name Takes) values rows help_flag
+help_preserves name Takes values rows = λ e good. absurd (help_fails values rows e)
 
-moves_kept : (values : List Text) (rows : List Row) → Keeps (Good (codes "moves") InMoves) values rows moves_rule
-moves_kept = number_keeps (codes "moves") 1 1000000 (codes "100000" ∷ []) false
+moves_preserved : (values : List Text) (rows : List Row) → UsePreserves (Good (codes "moves") InMoves) values rows moves_rule
+moves_preserved = number_preserves (codes "moves") 1 1000000 (codes "100000" ∷ []) false
 
-history_kept : (values : List Text) (rows : List Row) → Keeps (Good (codes "history") InHistory) values rows history_rule
-history_kept = number_keeps (codes "history") 2 1000000 (codes "100000" ∷ []) false
+history_preserved : (values : List Text) (rows : List Row) → UsePreserves (Good (codes "history") InHistory) values rows history_rule
+history_preserved = number_preserves (codes "history") 2 1000000 (codes "100000" ∷ []) false
 
-port_kept : (values : List Text) (rows : List Row) → Keeps (Good (codes "port") InPort) values rows port_rule
-port_kept = number_keeps (codes "port") 1 65535 [] true
+port_preserved : (values : List Text) (rows : List Row) → UsePreserves (Good (codes "port") InPort) values rows port_rule
+port_preserved = number_preserves (codes "port") 1 65535 [] true
 
-sessions_kept : (values : List Text) (rows : List Row) → Keeps (Good (codes "sessions") InSessions) values rows sessions_rule
-sessions_kept = number_keeps (codes "sessions") 1 64 [] true
+sessions_preserved : (values : List Text) (rows : List Row) → UsePreserves (Good (codes "sessions") InSessions) values rows sessions_rule
+sessions_preserved = number_preserves (codes "sessions") 1 64 [] true
 
 -- what the defaults of moves and history add at the end
 abbrev with_defaults : List Row → List Row
@@ -648,13 +648,13 @@ run_ends rows =
     none_added help_flag (with_defaults (with_default rows app_rule)) refl ∙ ap with_defaults (none_added app_rule rows refl)
 
 module _ (name : Text) (Takes : Text → Type 0)
-    (keep : (values : List Text) (rows : List Row) → Each (Keeps (Good name Takes) values rows) run_shape.rules) where
-  run_keeps : (words : List Text) → walk_fault run_shape [] (walk_from nothing_held) words ≡ []
+    (preserve : (values : List Text) (rows : List Row) → Each (UsePreserves (Good name Takes) values rows) run_shape.rules) where
+  run_preserves : (words : List Text) → walk_fault run_shape [] (walk_from nothing_held) words ≡ []
       → settle_fault run_shape.rules false (walk run_shape.rules [] nothing_held words).held ≡ []
       → Good name Takes (settled run_shape.rules (walk run_shape.rules [] nothing_held words).held).rows
-  run_keeps words walks settles =
-      level_keeps run_shape [] (Good name Takes)
-      (λ q a values rows is. found_holds (Keeps (Good name Takes) values rows) run_shape.rules (keep values rows) q a is)
+  run_preserves words walks settles =
+      level_preserves run_shape [] (Good name Takes)
+      (λ q a values rows is. found_holds (UsePreserves (Good name Takes) values rows) run_shape.rules (preserve values rows) q a is)
       words walks settles tt
 
 in_run : (words : List Text) → level_fault run_shape [] nothing_held words false [] ≡ [] → HasLimits (rows_after run_shape.rules [] words)
@@ -662,23 +662,23 @@ in_run words e =
     let parts = neither (walk_fault run_shape [] (walk_from nothing_held) words) _ e in
     let more = neither (settle_fault run_shape.rules false (walk run_shape.rules [] nothing_held words).held) _ parts.1 in
     let end = (settled run_shape.rules (walk run_shape.rules [] nothing_held words).held).rows in
-    let moves = run_keeps (codes "moves") InMoves (λ values rows. (
+    let moves = run_preserves (codes "moves") InMoves (λ values rows. (
       other_rule (codes "moves") InMoves app_rule values rows refl refl,
       (
-        moves_kept values rows,
+        moves_preserved values rows,
         (
           other_rule (codes "moves") InMoves history_rule values rows refl refl,
-          (help_keeps (codes "moves") InMoves values rows, tt),
+          (help_preserves (codes "moves") InMoves values rows, tt),
         ),
       ),
     )) words parts.0 more.0 in
-    let history = run_keeps (codes "history") InHistory (λ values rows. (
+    let history = run_preserves (codes "history") InHistory (λ values rows. (
       other_rule (codes "history") InHistory app_rule values rows refl refl,
       (
         other_rule (codes "history") InHistory moves_rule values rows refl refl,
         (
-          history_kept values rows,
-          (help_keeps (codes "history") InHistory values rows, tt),
+          history_preserved values rows,
+          (help_preserves (codes "history") InHistory values rows, tt),
         ),
       ),
     )) words parts.0 more.0 in
@@ -694,13 +694,13 @@ serve_ends rows =
     none_added help_flag (with_defaults (with_default at_port sessions_rule)) refl ∙ ap with_defaults first
 
 module _ (name : Text) (Takes : Text → Type 0)
-    (keep : (values : List Text) (rows : List Row) → Each (Keeps (Good name Takes) values rows) serve_shape.rules) where
-  serve_keeps : (words : List Text) → walk_fault serve_shape [] (walk_from nothing_held) words ≡ []
+    (preserve : (values : List Text) (rows : List Row) → Each (UsePreserves (Good name Takes) values rows) serve_shape.rules) where
+  serve_preserves : (words : List Text) → walk_fault serve_shape [] (walk_from nothing_held) words ≡ []
       → settle_fault serve_shape.rules false (walk serve_shape.rules [] nothing_held words).held ≡ []
       → Good name Takes (settled serve_shape.rules (walk serve_shape.rules [] nothing_held words).held).rows
-  serve_keeps words walks settles =
-      level_keeps serve_shape [] (Good name Takes)
-      (λ q a values rows is. found_holds (Keeps (Good name Takes) values rows) serve_shape.rules (keep values rows) q a is)
+  serve_preserves words walks settles =
+      level_preserves serve_shape [] (Good name Takes)
+      (λ q a values rows is. found_holds (UsePreserves (Good name Takes) values rows) serve_shape.rules (preserve values rows) q a is)
       words walks settles tt
 
 -- the three that are required are given
@@ -738,8 +738,8 @@ in_serve words e =
     let last = neither (defaults_fault end serve_shape.rules) _ more.1 in
     let all = required_given (with_defaults end)
     (subst (λ (rows : List Row). check_fault serve_shape rows false ≡ []) (serve_ends end) last.1) in
-    let app = serve_keeps (codes "app") AnyText (λ values rows. (
-      app_keeps values rows,
+    let app = serve_preserves (codes "app") AnyText (λ values rows. (
+      app_preserves values rows,
       (
         other_rule (codes "app") AnyText port_rule values rows refl refl,
         (
@@ -748,61 +748,61 @@ in_serve words e =
             other_rule (codes "app") AnyText moves_rule values rows refl refl,
             (
               other_rule (codes "app") AnyText history_rule values rows refl refl,
-              (help_keeps (codes "app") AnyText values rows, tt),
+              (help_preserves (codes "app") AnyText values rows, tt),
             ),
           ),
         ),
       ),
     )) words parts.0 more.0 in
-    let port = serve_keeps (codes "port") InPort (λ values rows. (
+    let port = serve_preserves (codes "port") InPort (λ values rows. (
       other_rule (codes "port") InPort served_app_rule values rows refl refl,
       (
-        port_kept values rows,
+        port_preserved values rows,
         (
           other_rule (codes "port") InPort sessions_rule values rows refl refl,
           (
             other_rule (codes "port") InPort moves_rule values rows refl refl,
             (
               other_rule (codes "port") InPort history_rule values rows refl refl,
-              (help_keeps (codes "port") InPort values rows, tt),
+              (help_preserves (codes "port") InPort values rows, tt),
             ),
           ),
         ),
       ),
     )) words parts.0 more.0 in
-    let sessions = serve_keeps (codes "sessions") InSessions (λ values rows. (
+    let sessions = serve_preserves (codes "sessions") InSessions (λ values rows. (
       other_rule (codes "sessions") InSessions served_app_rule values rows refl refl,
       (
         other_rule (codes "sessions") InSessions port_rule values rows refl refl,
         (
-          sessions_kept values rows,
+          sessions_preserved values rows,
           (
             other_rule (codes "sessions") InSessions moves_rule values rows refl refl,
             (
               other_rule (codes "sessions") InSessions history_rule values rows refl refl,
-              (help_keeps (codes "sessions") InSessions values rows, tt),
+              (help_preserves (codes "sessions") InSessions values rows, tt),
             ),
           ),
         ),
       ),
     )) words parts.0 more.0 in
-    let moves = serve_keeps (codes "moves") InMoves (λ values rows. (
+    let moves = serve_preserves (codes "moves") InMoves (λ values rows. (
       other_rule (codes "moves") InMoves served_app_rule values rows refl refl,
       (
         other_rule (codes "moves") InMoves port_rule values rows refl refl,
         (
           other_rule (codes "moves") InMoves sessions_rule values rows refl refl,
           (
-            moves_kept values rows,
+            moves_preserved values rows,
             (
               other_rule (codes "moves") InMoves history_rule values rows refl refl,
-              (help_keeps (codes "moves") InMoves values rows, tt),
+              (help_preserves (codes "moves") InMoves values rows, tt),
             ),
           ),
         ),
       ),
     )) words parts.0 more.0 in
-    let history = serve_keeps (codes "history") InHistory (λ values rows. (
+    let history = serve_preserves (codes "history") InHistory (λ values rows. (
       other_rule (codes "history") InHistory served_app_rule values rows refl refl,
       (
         other_rule (codes "history") InHistory port_rule values rows refl refl,
@@ -811,8 +811,8 @@ in_serve words e =
           (
             other_rule (codes "history") InHistory moves_rule values rows refl refl,
             (
-              history_kept values rows,
-              (help_keeps (codes "history") InHistory values rows, tt),
+              history_preserved values rows,
+              (help_preserves (codes "history") InHistory values rows, tt),
             ),
           ),
         ),

@@ -80,7 +80,7 @@ IsValid-boot app s limits sized e =
     let n = length app.tasks in
     let before = before_scheduling app in
     let cores : length before.cores ≡ app.cores = length-replicate app.cores None in
-    let kept : Rescheduled priorities (lineup_of before) (lineup_of (boot_of app)) =
+    let rescheduled : Rescheduled priorities (lineup_of before) (lineup_of (boot_of app)) =
     Rescheduled-settled priorities before (omega (arith, cores, limits.some_cores)) in
     let tasks : length before.tasks ≡ n = length-replicate n (fresh_task app.entries) in
     let there : (task : ℕ) → task < length before.tasks → task_at before task ≡ fresh_task app.entries =
@@ -88,7 +88,7 @@ IsValid-boot app s limits sized e =
     let valid : IsSized (boot_of app) → IsValid app (boot_of app) = λ z. record {
       in_limits = record {
         sized = z;
-        cores = kept.cores ∙ cores;
+        cores = rescheduled.cores ∙ cores;
         tasks = tasks;
         pcs = λ task h.
             let script : IsScript app (get_or app.tasks task (record { priority = 0; code = [] })) =
@@ -100,13 +100,13 @@ IsValid-boot app s limits sized e =
       lined_up_once = λ task h.
           omega (
             arith,
-            kept.lined_up task,
+            rescheduled.lined_up task,
             (times_in_list-all_joined priorities n task).0 (omega (arith, h, tasks)),
             times_on_cores-idle task app.cores,
             ap (λ (t : TaskSnapshot). times_to_run t.phase) (there task h),
           );
       waiting_lists = record {
-        ready = kept.order (IsInOrder-all_joined priorities n);
+        ready = rescheduled.order (IsInOrder-all_joined priorities n);
         waiting = λ place by. subst (IsInOrder priorities) (sym (waiting_at-before_scheduling app place)) tt;
       };
       places = λ place task h.

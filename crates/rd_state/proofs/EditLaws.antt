@@ -8,9 +8,9 @@ use Rattle.rd_state.specs.Change.{Change}
 use Rattle.rd_state.specs.Change.{SetTick, SetTurn, SetCore, InsReady, DelReady, Task, Object}
 use Rattle.rd_state.specs.Snapshot.{Snapshot}
 use Rattle.rd_state.specs.Change.{applied, inverse_of, cost_of, moves_lineup, weight_of, Fits}
-use Rattle.rd_state.specs.Edit.{Outset, Edit, GoesOn, IsCalmSince, SameShape, LineupStays, Reaches, begun_at, capacity_of, edit_of}
+use Rattle.rd_state.specs.EditingView.{Outset, EditingView, GoesOn, IsCalmSince, SameShape, LineupStays, Reaches, begun_at, capacity_of, editing_of}
 use Rattle.std.proofs.Common.{Bool, true, false, zero, suc, ◌+◌, ◌<◌, ap₂, length-append}
-use Rattle.rd_state.specs.Edit.{room_for, room_of}
+use Rattle.rd_state.specs.EditingView.{room_for, room_of}
 use Rattle.rd_state.specs.PackedChanges.{all_packed, packed, ChangeListView}
 use Rattle.rd_state.proofs.PackingLaws.{all_packed-push, packed_short}
 use Rattle.rd_state.specs.Sizes.{IsSized}
@@ -76,24 +76,24 @@ all_packed-take-le (suc n) (change ∷ later) =
       length-append (packed change) (all_packed (take n later)),
     )
 
-pub room_back : (edit : Edit) (s : Snapshot) (list list' : ChangeListView) (start n : ℕ) (was calm : Bool) → edit_of s list start was calm ≡ edit → list'.changes ≡ take n list.changes
+pub room_back : (edit : EditingView) (s : Snapshot) (list list' : ChangeListView) (start n : ℕ) (was calm : Bool) → editing_of s list start was calm ≡ edit → list'.changes ≡ take n list.changes
     → list'.capacity ≡ list.capacity → edit.room ≤ room_of list'
 room_back edit s list list' start n was calm e f same =
     omega (
       arith,
-      ap (λ (old : Edit). old.room) e,
+      ap (λ (old : EditingView). old.room) e,
       ap (λ changes. length (all_packed changes)) f,
       all_packed-take-le n list.changes,
       same,
     )
 
-pub capacity_back : (edit : Edit) (s : Snapshot) (list list' : ChangeListView) (start n : ℕ) (was calm : Bool) → edit_of s list start was calm ≡ edit
+pub capacity_back : (edit : EditingView) (s : Snapshot) (list list' : ChangeListView) (start n : ℕ) (was calm : Bool) → editing_of s list start was calm ≡ edit
     → length (all_packed list.changes) ≤ list.capacity → list'.changes ≡ take n list.changes → list'.capacity ≡ list.capacity
     → length (all_packed list'.changes) + room_of list' ≡ capacity_of edit
 capacity_back edit s list list' start n was calm e within f same =
     omega (
       arith,
-      ap (λ (old : Edit). capacity_of old) e,
+      ap (λ (old : EditingView). capacity_of old) e,
       within,
       ap (λ left. length (all_packed left)) f,
       all_packed-take-le n list.changes,
@@ -103,7 +103,7 @@ capacity_back edit s list list' start n was calm e within f same =
 -- what `act` makes of a state and its record
 pub Reaches-act : (s s' : Snapshot) (list list' : ChangeListView) (start : ℕ) (was calm calm' : Bool) (change : Change) → IsSized s → Fits s change → start ≤ length list.changes
     → list.capacity ≤ list'.capacity → s' ≡ applied s change → list'.changes ≡ list.changes ++ inverse_of s change ∷ []
-    → Reaches (edit_of s list start was calm) (edit_of s' list' start was calm') (applied s change) (cost_of (inverse_of s change))
+    → Reaches (editing_of s list start was calm) (editing_of s' list' start was calm') (applied s change) (cost_of (inverse_of s change))
 Reaches-act s s' list list' start was calm calm' change sized fits within grows e f =
     let law = each_is_undone s change sized fits in
     let back = inverse_of s change in
@@ -138,52 +138,52 @@ CanUndo-act s s' changes changes' start change sized fits within e f can =
     )
 
 -- the same, seen by what `act` returns
-pub Reaches-from_act : {T E : Type 0} (r : Result T E) (old : Edit) (s s' : Snapshot) (list list' : ChangeListView) (start : ℕ) (was calm calm' : Bool) (change : Change)
-    → edit_of s list start was calm ≡ old → IsSized s → Fits old.now change → start ≤ length list.changes → list.capacity ≤ list'.capacity
+pub Reaches-from_act : {T E : Type 0} (r : Result T E) (old : EditingView) (s s' : Snapshot) (list list' : ChangeListView) (start : ℕ) (was calm calm' : Bool) (change : Change)
+    → editing_of s list start was calm ≡ old → IsSized s → Fits old.now change → start ≤ length list.changes → list.capacity ≤ list'.capacity
     → OnOk r (s' ≡ applied s change) → OnOk r (list'.changes ≡ list.changes ++ inverse_of s change ∷ [])
-    → OnOk r (Reaches old (edit_of s' list' start was calm') (applied old.now change) (cost_of (inverse_of old.now change)))
+    → OnOk r (Reaches old (editing_of s' list' start was calm') (applied old.now change) (cost_of (inverse_of old.now change)))
 Reaches-from_act r old s s' list list' start was calm calm' change e sized =
-    let P : Edit → Type 0 = λ f. Fits f.now change → start ≤ length list.changes → list.capacity ≤ list'.capacity
+    let P : EditingView → Type 0 = λ f. Fits f.now change → start ≤ length list.changes → list.capacity ≤ list'.capacity
     → OnOk r (s' ≡ applied s change) → OnOk r (list'.changes ≡ list.changes ++ inverse_of s change ∷ [])
-    → OnOk r (Reaches f (edit_of s' list' start was calm') (applied f.now change) (cost_of (inverse_of f.now change))) in
+    → OnOk r (Reaches f (editing_of s' list' start was calm') (applied f.now change) (cost_of (inverse_of f.now change))) in
     subst P e
     (λ fits within grows.
     elim r as (λ q. OnOk q (s' ≡ applied s change) → OnOk q (list'.changes ≡ list.changes ++ inverse_of s change ∷ [])
-    → OnOk q (Reaches (edit_of s list start was calm) (edit_of s' list' start was calm') (applied s change) (cost_of (inverse_of s change))))
+    → OnOk q (Reaches (editing_of s list start was calm) (editing_of s' list' start was calm') (applied s change) (cost_of (inverse_of s change))))
     [ Ok x ↦ λ f g. Reaches-act s s' list list' start was calm calm' change sized fits within grows f g | Err y ↦ λ f g. tt ])
 
 -- the room that was short, where `act` found no memory
-pub short-from_act : {T E : Type 0} (r : Result T E) (old : Edit) (s : Snapshot) (list : ChangeListView) (start : ℕ) (was calm : Bool) (change : Change)
-    → edit_of s list start was calm ≡ old → OnErr r (list.capacity < length (all_packed list.changes ++ packed (inverse_of s change)))
+pub short-from_act : {T E : Type 0} (r : Result T E) (old : EditingView) (s : Snapshot) (list : ChangeListView) (start : ℕ) (was calm : Bool) (change : Change)
+    → editing_of s list start was calm ≡ old → OnErr r (list.capacity < length (all_packed list.changes ++ packed (inverse_of s change)))
     → OnErr r (old.room < room_for (cost_of (inverse_of old.now change)))
 short-from_act r old s list start was calm change e =
-    subst (λ (f : Edit). OnErr r (list.capacity < length (all_packed list.changes ++ packed (inverse_of s change))) → OnErr r (f.room < room_for (cost_of (inverse_of f.now change)))) e
+    subst (λ (f : EditingView). OnErr r (list.capacity < length (all_packed list.changes ++ packed (inverse_of s change))) → OnErr r (f.room < room_for (cost_of (inverse_of f.now change)))) e
     (elim r as (λ q. OnErr q (list.capacity < length (all_packed list.changes ++ packed (inverse_of s change)))
     → OnErr q (room_of list < room_for (cost_of (inverse_of s change))))
     [ Ok x ↦ λ f. tt | Err y ↦ λ f. short_of_room list (inverse_of s change) f ])
 
-pub CanUndo-from_act : {T E : Type 0} (r : Result T E) (old : Edit) (s s' : Snapshot) (list list' : ChangeListView) (start : ℕ) (was calm : Bool) (change : Change)
-    → edit_of s list start was calm ≡ old → IsSized s → Fits old.now change → (start ≤ length list.changes) × CanUndo s (drop start list.changes)
+pub CanUndo-from_act : {T E : Type 0} (r : Result T E) (old : EditingView) (s s' : Snapshot) (list list' : ChangeListView) (start : ℕ) (was calm : Bool) (change : Change)
+    → editing_of s list start was calm ≡ old → IsSized s → Fits old.now change → (start ≤ length list.changes) × CanUndo s (drop start list.changes)
     → OnOk r (s' ≡ applied s change) → OnOk r (list'.changes ≡ list.changes ++ inverse_of s change ∷ []) → OnErr r (s' ≡ s) → OnErr r (list' ≡ list)
     → (start ≤ length list'.changes) × CanUndo s' (drop start list'.changes)
 CanUndo-from_act r old s s' list list' start was calm change e sized fits can =
-    let fits_here = subst (λ (f : Edit). Fits f.now change) (sym e) fits in
+    let fits_here = subst (λ (f : EditingView). Fits f.now change) (sym e) fits in
     elim r as (λ q. OnOk q (s' ≡ applied s change) → OnOk q (list'.changes ≡ list.changes ++ inverse_of s change ∷ []) → OnErr q (s' ≡ s) → OnErr q (list' ≡ list)
     → (start ≤ length list'.changes) × CanUndo s' (drop start list'.changes))
     [ Ok x ↦ λ f g h k. CanUndo-act s s' list.changes list'.changes start change sized fits_here can.0 f g can.1 | Err y ↦ λ f g h k. rw (h, k) can ]
 
 -- A move begins where it is, with nothing recorded.
-pub edit_of-begin : (s : Snapshot) (list : ChangeListView) (start : ℕ) (calm : Bool) → start ≡ length list.changes
-    → edit_of s list start calm calm ≡ begun_at s list.changes (room_of list) calm
-edit_of-begin s list start calm e = rw (e, drop-length list.changes, take-length list.changes) refl
+pub editing_of-begin : (s : Snapshot) (list : ChangeListView) (start : ℕ) (calm : Bool) → start ≡ length list.changes
+    → editing_of s list start calm calm ≡ begun_at s list.changes (room_of list) calm
+editing_of-begin s list start calm e = rw (e, drop-length list.changes, take-length list.changes) refl
 
 -- What a step recorded goes on from what was there before.
-pub GoesOn-edit_of : (edit : Edit) (s : Snapshot) (list : ChangeListView) (start : ℕ) (was calm : Bool) → edit_of s list start was calm ≡ edit
+pub GoesOn-editing_of : (edit : EditingView) (s : Snapshot) (list : ChangeListView) (start : ℕ) (was calm : Bool) → editing_of s list start was calm ≡ edit
     → start ≤ length list.changes → CanUndo s (drop start list.changes) → GoesOn edit edit.changes
-GoesOn-edit_of edit s list start was calm e within can =
+GoesOn-editing_of edit s list start was calm e within can =
     let changes = list.changes in
     let count : length (take start changes) ≡ start = length-take-le start changes within in
-    subst (λ (f : Edit). GoesOn f f.changes) e (record {
+    subst (λ (f : EditingView). GoesOn f f.changes) e (record {
       before = ap (λ n. take n changes) count;
       leads_back = ap (λ n. undone s (drop n changes)) count;
       can_undo = subst (λ n. CanUndo s (drop n changes)) (sym count) can;
@@ -214,28 +214,28 @@ stay_on outset s s' calm stay = record {
 }
 
 -- What `act` makes of a move that was calm: it stays so where the change leaves the line-up, or isn't made.
-pub calm-from_act : {T E : Type 0} (r : Result T E) (old : Edit) (s s' : Snapshot) (list list' : ChangeListView) (start : ℕ) (was calm calm' : Bool) (change : Change)
-    → edit_of s list start was calm ≡ old → IsSized s → Fits old.now change → start ≤ length list.changes → list.capacity ≤ list'.capacity
+pub calm-from_act : {T E : Type 0} (r : Result T E) (old : EditingView) (s s' : Snapshot) (list list' : ChangeListView) (start : ℕ) (was calm calm' : Bool) (change : Change)
+    → editing_of s list start was calm ≡ old → IsSized s → Fits old.now change → start ≤ length list.changes → list.capacity ≤ list'.capacity
     → OnOk r (s' ≡ applied s change) → OnOk r (list'.changes ≡ list.changes ++ inverse_of s change ∷ []) → OnErr r (s' ≡ s) → OnErr r (list' ≡ list)
-    → (calm ≡ true → IsCalmSince (edit_of s list start was calm).outset s) → (calm' ≡ true → calm ≡ true) → (calm' ≡ true → OnOk r (moves_lineup change ≡ false))
-    → calm' ≡ true → IsCalmSince (edit_of s' list' start was calm').outset s'
+    → (calm ≡ true → IsCalmSince (editing_of s list start was calm).outset s) → (calm' ≡ true → calm ≡ true) → (calm' ≡ true → OnOk r (moves_lineup change ≡ false))
+    → calm' ≡ true → IsCalmSince (editing_of s' list' start was calm').outset s'
 calm-from_act r old s s' list list' start was calm calm' change e sized fits within grows f g h k since only still here =
-    let fits_here : Fits s change = subst (λ (edit : Edit). Fits edit.now change) (sym e) fits in
+    let fits_here : Fits s change = subst (λ (edit : EditingView). Fits edit.now change) (sym e) fits in
     let before = since (only here) in
     (elim r as (λ q. OnOk q (s' ≡ applied s change) → OnOk q (list'.changes ≡ list.changes ++ inverse_of s change ∷ []) → OnErr q (s' ≡ s) → OnErr q (list' ≡ list)
-    → OnOk q (moves_lineup change ≡ false) → IsCalmSince (edit_of s' list' start was calm').outset s') [
+    → OnOk q (moves_lineup change ≡ false) → IsCalmSince (editing_of s' list' start was calm').outset s') [
       | Ok x ↦ λ now record_now _ _ same.
           subst (λ (b : Outset). IsCalmSince b s') (sym (Reaches-act s s' list list' start was calm calm' change sized fits_here within grows now record_now).outset)
-          (stay_on (edit_of s list start was calm).outset s s' before (subst (LineupStays s) (sym now) (lineup_stays s change fits_here same)))
+          (stay_on (editing_of s list start was calm).outset s s' before (subst (LineupStays s) (sym now) (lineup_stays s change fits_here same)))
       | Err y ↦ λ _ _ now record_now _. rw (now, record_now) before
     ]) f g h k (still here)
 
 -- A change that leaves the line-up, whichever it is, leaves a move as calm as it was.
-pub calm-from_still_act : {T E : Type 0} (r : Result T E) (old : Edit) (s s' : Snapshot) (list list' : ChangeListView) (start : ℕ) (was calm : Bool) (change : Change)
-    → edit_of s list start was calm ≡ old → IsSized s → Fits old.now change → start ≤ length list.changes → list.capacity ≤ list'.capacity
+pub calm-from_still_act : {T E : Type 0} (r : Result T E) (old : EditingView) (s s' : Snapshot) (list list' : ChangeListView) (start : ℕ) (was calm : Bool) (change : Change)
+    → editing_of s list start was calm ≡ old → IsSized s → Fits old.now change → start ≤ length list.changes → list.capacity ≤ list'.capacity
     → OnOk r (s' ≡ applied s change) → OnOk r (list'.changes ≡ list.changes ++ inverse_of s change ∷ []) → OnErr r (s' ≡ s) → OnErr r (list' ≡ list)
-    → (calm ≡ true → IsCalmSince (edit_of s list start was calm).outset s) → moves_lineup change ≡ false
-    → calm ≡ true → IsCalmSince (edit_of s' list' start was calm).outset s'
+    → (calm ≡ true → IsCalmSince (editing_of s list start was calm).outset s) → moves_lineup change ≡ false
+    → calm ≡ true → IsCalmSince (editing_of s' list' start was calm).outset s'
 calm-from_still_act r old s s' list list' start was calm change e sized fits within grows f g h k since still =
     calm-from_act r old s s' list list' start was calm calm change e sized fits within grows f g h k since (λ c. c)
     (λ _. (elim r as (λ q. OnOk q (moves_lineup change ≡ false)) [ Ok x ↦ still | Err y ↦ tt ]))

@@ -12,7 +12,7 @@ use Rattle.rd_wait.specs.Joined.{is_at_least, IsInOrder}
 use Rattle.rd_wait.proofs.Offered.{All-insert, AllByRecursion-insert}
 use Rattle.rd_state.specs.Settled.{Lineup, running_on, rank_of, weakest_up_to, weakest_of, head_of, takes_core, with_displaced, with_lineup, with_head_on}
 use Rattle.rd_state.specs.Settled.{after_one_round, after_rounds, lineup_of, settled, rotated, IsSettled, SchedulingSettles}
-use Rattle.rd_state.specs.Edit.{LineupStays}
+use Rattle.rd_state.specs.EditingView.{LineupStays}
 use Rattle.rd_state.specs.Snapshot.{Snapshot}
 use Rattle.rd_state.proofs.ScheduleLaws.{Rescheduled-after_one_round, Rescheduled-after_rounds, one_if, weakest_of-lt}
 use Rattle.rd_state.proofs.SettleLaws.{after_rounds-still, settled_in-still}
@@ -136,11 +136,11 @@ last_round priorities (suc rounds) lineup some order few =
     elim (round_cases priorities lineup.cores lineup.ready) [
       | inl leaves ↦ let still = after_rounds-still priorities (suc rounds) lineup leaves.0 in
           ap (after_one_round priorities) still ∙ leaves.0 ∙ sym still
-      | inr takes ↦ let kept = Rescheduled-after_one_round priorities lineup some in
+      | inr takes ↦ let rescheduled = Rescheduled-after_one_round priorities lineup some in
           let fewer = fewer_weak priorities lineup (weakest_of priorities lineup.cores) (weakest_of-lt priorities lineup.cores some) order takes.1 in
           let same : weak_cores priorities next ≡ weak_cores priorities (with_head_on priorities lineup (weakest_of priorities lineup.cores)) =
           ap (weak_cores priorities) takes.0 in
-          last_round priorities rounds next (omega (arith, kept.cores, some)) (kept.order order) (omega (arith, few, fewer, same))
+          last_round priorities rounds next (omega (arith, rescheduled.cores, some)) (rescheduled.order order) (omega (arith, few, fewer, same))
     ]
 
 -- Where a round leaves everything, the weakest core outranks all who are ready.
@@ -174,13 +174,13 @@ pub scheduling_settles : SchedulingSettles
 scheduling_settles priorities s some order =
     let lineup = lineup_of s in
     let end = after_rounds priorities (length s.cores) lineup in
-    let kept = Rescheduled-after_rounds priorities (length s.cores) lineup some in
+    let rescheduled = Rescheduled-after_rounds priorities (length s.cores) lineup some in
     let still : after_one_round priorities end ≡ end =
     last_round priorities (length s.cores) lineup some order (count_by-le-length (is_weak priorities (level_of priorities s.ready)) s.cores) in
     record {
       settled_now =
-          all_outranked priorities end.cores end.ready (omega (arith, kept.cores, some)) (kept.order order)
-          (outranks priorities end (omega (arith, kept.cores, some)) (kept.order order) still);
+          all_outranked priorities end.cores end.ready (omega (arith, rescheduled.cores, some)) (rescheduled.order order)
+          (outranks priorities end (omega (arith, rescheduled.cores, some)) (rescheduled.order order) still);
       stays = settled_in-still priorities (length end.cores) (settled priorities s) still;
     }
 

@@ -187,7 +187,7 @@ change_is_read_back b (Object (Stream n change)) fits = stream_read _ b n change
 change_is_read_back b (Object (Message n change)) fits = message_read _ b n change (message_change_is_read_back b n change fits)
 change_is_read_back b (Object (Group n change)) fits = group_read _ b n change (group_change_is_read_back b n change fits)
 
--- ---- What undoes a change has room in its bytes.
+-- ---- What undoes a change fits in its bytes.
 
 core_fits : (running : Option ℕ) (count : ℕ) → IsTaskOrIdle count running → count ≤ 255 → IfSome running (λ t. t < 255)
 core_fits None count there few = tt

@@ -1,6 +1,6 @@
 -- Scheduling by rounds.
 use Rattle.std.proofs.Common.{◌≡◌, ◌∙◌, ℕ, zero, suc, ◌*◌, ◌<◌, List, refl, ap, sym, arith}
-use Rattle.rd_state.specs.Edit.{Edit, Reaches}
+use Rattle.rd_state.specs.EditingView.{EditingView, Reaches}
 use Rattle.rd_state.specs.Settled.{Lineup, after_one_round, after_rounds, lineup_of, settled_in}
 use Rattle.rd_state.specs.Snapshot.{Snapshot}
 
@@ -15,7 +15,7 @@ pub settled_in-still : (priorities : List ℕ) (rounds : ℕ) (s : Snapshot) →
 settled_in-still priorities rounds s still =
     ap (λ (lineup : Lineup). record s { cores = lineup.cores; ready = lineup.ready }) (after_rounds-still priorities rounds (lineup_of s) still)
 
-pub Reaches-still : (priorities : List ℕ) (rounds : ℕ) (old new : Edit) → 0 < rounds → after_one_round priorities (lineup_of old.now) ≡ lineup_of old.now
+pub Reaches-still : (priorities : List ℕ) (rounds : ℕ) (old new : EditingView) → 0 < rounds → after_one_round priorities (lineup_of old.now) ≡ lineup_of old.now
     → Reaches old new (settled_in priorities 1 old.now) 3 → Reaches old new (settled_in priorities rounds old.now) (3 * rounds)
 Reaches-still priorities rounds old new some still comes = record {
   now = comes.now ∙ settled_in-still priorities 1 old.now still ∙ sym (settled_in-still priorities rounds old.now still);

@@ -1,4 +1,4 @@
--- The sizes of a state, kept by a change.
+-- The sizes of a state, which a change preserves.
 use Rattle.std.proofs.Common.{◌≡◌, ◌∙◌, ℕ, zero, suc, ◌+◌, ◌^◌, ◌<◌, ◌≤◌, List, length, get_or, replicate, set, Option, None}
 use Rattle.std.proofs.Common.{refl, ap, sym, subst, arith}
 use Rattle.std.specs.Prelude.{All, insert, remove, slice_index}
@@ -34,8 +34,8 @@ use Rattle.rd_state.proofs.UndoLaws.{phase_sized, task_sized}
 -- a state with another ready list
 HasSizes-ready : (s : Inside) (tasks : List ℕ) → All (λ task. task < length s.tasks.items) tasks → length tasks ≤ length s.tasks.items → HasSizes s
     → HasSizes (record s { ready = record s.ready { tasks = tasks } })
-HasSizes-ready s tasks among few kept =
-    let scheduling = kept.sized.scheduling in
+HasSizes-ready s tasks among few has =
+    let scheduling = has.sized.scheduling in
     record {
       sized = record {
         scheduling = record {
@@ -46,65 +46,65 @@ HasSizes-ready s tasks among few kept =
           ready = among;
           room = few;
         };
-        tasks = record { tasks = kept.sized.tasks.tasks; few = kept.sized.tasks.few; phases = kept.sized.tasks.phases };
-        objects = kept.sized.objects;
+        tasks = record { tasks = has.sized.tasks.tasks; few = has.sized.tasks.few; phases = has.sized.tasks.phases };
+        objects = has.sized.objects;
       };
-      capacity = kept.capacity;
+      capacity = has.capacity;
     }
 
 -- a task has left the ready list
 pub HasSizes-remove : (s : Inside) (index : ℕ) → index < length s.ready.tasks → HasSizes s
     → HasSizes (record s { ready = record s.ready { tasks = remove s.ready.tasks index } })
-HasSizes-remove s index h kept =
-    let scheduling = kept.sized.scheduling in
+HasSizes-remove s index h has =
+    let scheduling = has.sized.scheduling in
     let among = All-remove (λ task. task < length s.tasks.items) s.ready.tasks index scheduling.ready in
-    HasSizes-ready s _ among (omega (arith, length-remove s.ready.tasks index h, scheduling.room)) kept
+    HasSizes-ready s _ among (omega (arith, length-remove s.ready.tasks index h, scheduling.room)) has
 
 -- a task has come into the ready list
 pub HasSizes-insert : (s : Inside) (index task : ℕ) → Fits (snapshot_of s) (InsReady index task) → HasSizes s
     → HasSizes (record s { ready = record s.ready { tasks = insert s.ready.tasks index task } })
-HasSizes-insert s index task fits kept =
-    let among = All-insert (λ task. task < length s.tasks.items) s.ready.tasks index task kept.sized.scheduling.ready fits.2 in
-    HasSizes-ready s _ among (omega (arith, length-insert s.ready.tasks index task fits.0, fits.1)) kept
+HasSizes-insert s index task fits has =
+    let among = All-insert (λ task. task < length s.tasks.items) s.ready.tasks index task has.sized.scheduling.ready fits.2 in
+    HasSizes-ready s _ among (omega (arith, length-insert s.ready.tasks index task fits.0, fits.1)) has
 
 -- a state with another task of that number
 IsSized-task : (s : Snapshot) (task : ℕ) (new : TaskSnapshot) → IsSizedTask new → IsSizedPhase (numbers_of s) new.phase → IsSized s
     → IsSized (with_task s task new)
-IsSized-task s task new sized phase kept =
+IsSized-task s task new sized phase has =
     let same : length s.tasks ≡ length (set s.tasks task new) = sym (length-set s.tasks task new) in
     record {
       scheduling = record {
-        tick = kept.scheduling.tick;
-        turn = kept.scheduling.turn;
-        cores = subst (λ n. All (IsTaskOrIdle n) s.cores) same kept.scheduling.cores;
-        few_cores = kept.scheduling.few_cores;
-        ready = subst (λ n. All (λ t. t < n) s.ready) same kept.scheduling.ready;
-        room = subst (λ n. length s.ready ≤ n) same kept.scheduling.room;
+        tick = has.scheduling.tick;
+        turn = has.scheduling.turn;
+        cores = subst (λ n. All (IsTaskOrIdle n) s.cores) same has.scheduling.cores;
+        few_cores = has.scheduling.few_cores;
+        ready = subst (λ n. All (λ t. t < n) s.ready) same has.scheduling.ready;
+        room = subst (λ n. length s.ready ≤ n) same has.scheduling.room;
       };
       tasks = record {
-        tasks = All-set IsSizedTask s.tasks task new sized kept.tasks.tasks;
-        few = omega (arith, same, kept.tasks.few);
-        phases = All-set (λ (t : TaskSnapshot). IsSizedPhase (numbers_of s) t.phase) s.tasks task new phase kept.tasks.phases;
+        tasks = All-set IsSizedTask s.tasks task new sized has.tasks.tasks;
+        few = omega (arith, same, has.tasks.few);
+        phases = All-set (λ (t : TaskSnapshot). IsSizedPhase (numbers_of s) t.phase) s.tasks task new phase has.tasks.phases;
       };
-      objects = subst (λ n. AreSizedObjects n s.objects) same kept.objects;
+      objects = subst (λ n. AreSizedObjects n s.objects) same has.objects;
     }
 
 -- with other objects, as many of each kind
 IsSized-objects : (s : Snapshot) (n : ObjectsSnapshot) → numbers_of s ≡ numbers_in n → AreSizedObjects (length s.tasks) n → IsSized s
     → IsSized (record s { objects = n })
-IsSized-objects s n same sized kept = record {
+IsSized-objects s n same sized has = record {
   scheduling = record {
-    tick = kept.scheduling.tick;
-    turn = kept.scheduling.turn;
-    cores = kept.scheduling.cores;
-    few_cores = kept.scheduling.few_cores;
-    ready = kept.scheduling.ready;
-    room = kept.scheduling.room;
+    tick = has.scheduling.tick;
+    turn = has.scheduling.turn;
+    cores = has.scheduling.cores;
+    few_cores = has.scheduling.few_cores;
+    ready = has.scheduling.ready;
+    room = has.scheduling.room;
   };
   tasks = record {
-    tasks = kept.tasks.tasks;
-    few = kept.tasks.few;
-    phases = subst (λ (n : Numbers). All (λ (t : TaskSnapshot). IsSizedPhase n t.phase) s.tasks) same kept.tasks.phases;
+    tasks = has.tasks.tasks;
+    few = has.tasks.few;
+    phases = subst (λ (n : Numbers). All (λ (t : TaskSnapshot). IsSizedPhase n t.phase) s.tasks) same has.tasks.phases;
   };
   objects = sized;
 }
@@ -124,12 +124,12 @@ pub HasSizes-task : (s : Inside) (now : Snapshot) (task : ℕ) (change : TaskCha
 HasSizes-task s now task change new e =
     let P : Snapshot → Type 0 = λ t. Fits t (Task task change) → new ≡ task_applied (task_at t task) change → HasSizes s
     → HasSizes (record s { tasks = with_item s.tasks task new }) in
-    subst P e (λ fits f kept.
+    subst P e (λ fits f has.
     let all = snapshot_of s in
-    let sized = (task_law.each_is_undone (task_at all task) change (task_sized all task kept.sized fits.0) fits.1).sized in
+    let sized = (task_law.each_is_undone (task_at all task) change (task_sized all task has.sized fits.0) fits.1).sized in
     rw f (record {
-      sized = IsSized-task all task (task_applied (task_at all task) change) sized (phase_then all task change kept.sized fits.0 fits.2) kept.sized;
-      capacity = kept.capacity ∙ sym (length-set s.tasks.items task _);
+      sized = IsSized-task all task (task_applied (task_at all task) change) sized (phase_then all task change has.sized fits.0 fits.2) has.sized;
+      capacity = has.capacity ∙ sym (length-set s.tasks.items task _);
     }))
 
 -- a change of an object
@@ -137,12 +137,12 @@ pub HasSizes-object : (s : Inside) (now : Snapshot) (change : ObjectChange) → 
     → HasSizes (record s { objects = object_applied s.objects change })
 HasSizes-object s now change e =
     let P : Snapshot → Type 0 = λ t. Fits t (Object change) → HasSizes s → HasSizes (record s { objects = object_applied s.objects change }) in
-    subst P e (λ fits kept.
+    subst P e (λ fits has.
     let all = snapshot_of s in
-    let sized = object_sized (length all.tasks) all.objects change kept.sized.objects fits in
+    let sized = object_sized (length all.tasks) all.objects change has.sized.objects fits in
     record {
-      sized = IsSized-objects all (object_applied all.objects change) (sym (object_numbers all.objects change)) sized kept.sized;
-      capacity = kept.capacity;
+      sized = IsSized-objects all (object_applied all.objects change) (sym (object_numbers all.objects change)) sized has.sized;
+      capacity = has.capacity;
     })
 
 -- the task that stands at an index of the vector

@@ -177,7 +177,7 @@ task_change_is_read_back b task (SetEntry index entry) fits = set_entry_read b t
 task_change_is_read_back b task (SetData d) fits =
     subst (λ (bytes : List ℕ). TaskChangeIsAtEnd bytes b task (SetData d)) (append_assoc b d (task_fields task (SetData d))) (set_data_read b task d fits.1)
 
--- ---- What undoes a change of a task has room in its bytes, where there are few objects.
+-- ---- What undoes a change of a task fits in its bytes, where there are few objects.
 
 deadline_fits : (deadline : Option ℕ) → IsDeadline deadline → DeadlineFitsBytes deadline
 deadline_fits None sized = tt

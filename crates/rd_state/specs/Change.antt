@@ -80,7 +80,7 @@ MentionsObjects numbers (SetPhase phase) = IsSizedPhase numbers phase
 MentionsObjects numbers (SetEntry index entry) = Unit {0}
 MentionsObjects numbers (SetData bytes) = Unit {0}
 
--- The change names what is there, and there is room.
+-- The change names what is there, and there is space.
 abbrev pub Fits : Snapshot → Change → Type 0
 Fits s (SetTick tick) = tick < 2 ^ 32
 Fits s (SetTurn turn) = turn ≤ length s.cores

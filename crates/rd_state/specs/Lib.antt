@@ -11,7 +11,7 @@ pub mod Inside
 pub mod PackedTaskChanges
 pub mod PackedChanges
 pub mod Undoing
-pub mod Edit
+pub mod EditingView
 pub mod EditingInside
 pub mod Settled
 pub mod Boot

@@ -7,7 +7,7 @@ use Rattle.rd_bytes.specs.Tags.{last_kind}
 use Rattle.rd_bytes.specs.declared.tag.TheConstants.{SET_TICK, SET_TURN, SET_CORE, INS_READY}
 use Rattle.rd_bytes.specs.declared.tag.TheConstants.{DEL_READY, OF_QUEUE, OF_QUEUE_SET, OF_STREAM}
 use Rattle.rd_bytes.specs.declared.tag.TheConstants.{OF_MESSAGE}
-use Rattle.rd_bytes.specs.Layouts.{HasRoom, laid_out, last_length, last_row}
+use Rattle.rd_bytes.specs.Layouts.{FitsLayout, laid_out, last_length, last_row}
 use Rattle.rd_group.specs.PackedGroupChanges.{group_layout}
 use Rattle.rd_group.specs.declared.group_change.GroupChange.{GroupChange}
 use Rattle.rd_queue.specs.Changes.{QueueChange}
@@ -46,13 +46,13 @@ packed (DelReady index) = index ∷ DEL_READY ∷ []
 packed (Task task change) = task_packed task change
 packed (Object change) = object_packed change
 
--- The numbers of a change have room in their bytes, and none is the one that stands for none.
+-- The numbers of a change fit in their bytes, and none is the one that stands for none.
 abbrev pub ObjectHasBytes : ObjectChange → Type 0
-ObjectHasBytes (Queue queue change) = HasRoom queue_layout queue change
-ObjectHasBytes (QueueSet queue_set change) = HasRoom queue_set_layout queue_set change
+ObjectHasBytes (Queue queue change) = FitsLayout queue_layout queue change
+ObjectHasBytes (QueueSet queue_set change) = FitsLayout queue_set_layout queue_set change
 ObjectHasBytes (Stream stream change) = StreamHasBytes stream change
 ObjectHasBytes (Message message change) = MessageHasBytes message change
-ObjectHasBytes (Group group change) = HasRoom group_layout group change
+ObjectHasBytes (Group group change) = FitsLayout group_layout group change
 
 abbrev pub HasBytes : Change → Type 0
 HasBytes (SetTick tick) = tick < 2 ^ 32

@@ -174,7 +174,7 @@ task_fields task (SetData bytes) = task ∷ (to_le_bytes w16 (length bytes) ++ S
 abbrev pub task_packed : ℕ → TaskChange → List ℕ
 task_packed task change = task_carried change ++ task_fields task change
 
--- The numbers of a change have room in their bytes, and none is the one that stands for none.
+-- The numbers of a change fit in their bytes, and none is the one that stands for none.
 abbrev pub DeadlineFitsBytes : Option ℕ → Type 0
 DeadlineFitsBytes deadline = IfSome deadline (λ tick. tick < 18446744073709551615)
 

@@ -52,7 +52,7 @@ task_inverse_of task (SetEntry index entry) =
     SetEntry index (slice_index_or task.entries index idle_entry)
 task_inverse_of task (SetData bytes) = SetData task.bytes
 
--- An instruction can have that number, the register or the entry is there and has room for the
+-- An instruction can have that number, the register or the entry is there and can hold the
 -- value, and the bytes fit a task's data.
 abbrev pub TaskFits : TaskSnapshot → TaskChange → Type 0
 TaskFits task (SetPc pc) = pc ≤ MAX_CODE

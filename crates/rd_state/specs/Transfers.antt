@@ -7,7 +7,7 @@ use Rattle.rd_state.specs.Change.{Change, Object, Task}
 use Rattle.rd_state.specs.Objects.{ObjectChange, ObjectsSnapshot, Queue, Stream, Message}
 use Rattle.rd_state.specs.Objects.{message_in}
 use Rattle.rd_state.specs.Objects.{queue_in, stream_in}
-use Rattle.rd_stream.specs.MessageChanges.{Push, HasRoomForMessage}
+use Rattle.rd_stream.specs.MessageChanges.{Push, HasSpaceForMessage}
 use Rattle.rd_stream.specs.StreamChanges.{PushBytes}
 use Rattle.rd_state.specs.TaskChanges.{SetData}
 use Rattle.rd_state.specs.declared.transfer.Sink.{Sink}
@@ -44,7 +44,7 @@ HasSource o (MessageFront message) =
     (message < length o.messages) × (0 < length (message_in o message).messages)
     × (length (slice_index_or (message_in o message).messages 0 []) ≤ MAX_BYTES)
 
--- The sink takes the bytes: there is room for an item, or one to be replaced, or room for so many
+-- The sink takes the bytes: there is space for an item, or one to be replaced, or space for so many
 -- of them, or for a message.
 abbrev pub HasSink : ObjectsSnapshot → Sink → List ℕ → Type 0
 HasSink o (QueueEnd queue end) bytes =
@@ -56,14 +56,14 @@ HasSink o (StreamBack stream count) bytes =
     × (length (stream_in o stream).bytes + count ≤ (stream_in o stream).capacity)
     × (count ≤ length bytes)
 HasSink o (MessageBack message) bytes =
-    (message < length o.messages) × HasRoomForMessage (message_in o message) bytes
+    (message < length o.messages) × HasSpaceForMessage (message_in o message) bytes
 
 -- the change that a transfer makes of a state
 abbrev pub change_of : Snapshot → Transfer → Change
 change_of s (FromData task sink) = Object (sunk s.objects sink (task_at s task).bytes)
 change_of s (ToData source task) = Task task (SetData (bytes_at s.objects source))
 
--- Both parts are there, with room or with bytes.
+-- Both parts are there, with space or with bytes.
 abbrev pub CanTransfer : Snapshot → Transfer → Type 0
 CanTransfer s (FromData task sink) =
     (task < length s.tasks) × HasSink s.objects sink (task_at s task).bytes

@@ -9,8 +9,8 @@ ghost use Rattle.rd_state.specs.contracts.state.State.{the_row as state_row};
 ghost use Rattle.rd_state.specs.Change.{applied, cost_of, inverse_of, moves_lineup, the_change};
 ghost use Rattle.rd_state.specs.Change.{Fits, Object, Task};
 ghost use Rattle.rd_state.specs.Objects.{the_object_change};
-ghost use Rattle.rd_state.specs.Edit.{begun_at, calm_behind, capacity_of, room_for, GoesOn};
-ghost use Rattle.rd_state.specs.Edit.{IsCalmSince, Reaches};
+ghost use Rattle.rd_state.specs.EditingView.{begun_at, calm_behind, capacity_of, room_for, GoesOn};
+ghost use Rattle.rd_state.specs.EditingView.{IsCalmSince, Reaches};
 ghost use Rattle.rd_state.specs.Sizes.{IsSized};
 ghost use Rattle.rd_state.specs.TaskChanges.{the_task_change};
 ghost use Rattle.rd_state.specs.Transfers.{change_of, CanTransfer};
@@ -53,13 +53,13 @@ pub struct Editing {
 }
 
 impl Model for Editing {
-    ghost use Rattle.rd_state.specs.Edit.{Edit};
+    ghost use Rattle.rd_state.specs.EditingView.{EditingView};
 
-    ghost Value = { Edit };
+    ghost Value = { EditingView };
 
-    ghost use Rattle.rd_state.specs.EditingInside.{IsEditing, edit_in};
+    ghost use Rattle.rd_state.specs.EditingInside.{IsEditing, editing_in};
 
-    ghost view = { edit_in };
+    ghost view = { editing_in };
 
     ghost invariant = { IsEditing };
 }

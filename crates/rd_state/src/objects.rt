@@ -9,7 +9,7 @@ ghost use Rattle.rd_queue.specs.Changes.{QueueFits, SetItem};
 ghost use Rattle.rd_queue.specs.Queues.{fitted};
 ghost use Rattle.rd_queue.specs.QueueSetChanges.{queue_set_applied, QueueSetFits};
 ghost use Rattle.rd_stream.specs.MessageChanges.{message_applied, the_message_change, Push};
-ghost use Rattle.rd_stream.specs.MessageChanges.{HasRoomForMessage, MessageFits};
+ghost use Rattle.rd_stream.specs.MessageChanges.{HasSpaceForMessage, MessageFits};
 ghost use Rattle.rd_stream.specs.StreamChanges.{stream_applied, the_stream_change, PushBytes};
 ghost use Rattle.rd_stream.specs.StreamChanges.{StreamFits};
 ghost use Rattle.rd_state.specs.Objects.{group_in, new_objects, no_objects, objects_with_group};
@@ -471,11 +471,11 @@ impl Objects {
         }
     }
 
-    // Puts bytes at the back of a stream buffer that has room.
+    // Puts bytes at the back of a stream buffer that has space.
     #[inline(always)]
     fn write_stream(&mut self, stream: usize, bytes: &[u8])
         requires there { stream < length self.old.streams }
-        requires room { length (stream_in self.old stream).bytes + length bytes.now
+        requires space { length (stream_in self.old stream).bytes + length bytes.now
             ≤ (stream_in self.old stream).capacity }
         ensures { self.new ≡ objects_with_stream self.old stream
             (stream_applied (stream_in self.old stream) (PushBytes bytes.now)) }
@@ -484,11 +484,11 @@ impl Objects {
         target.write(bytes);
     }
 
-    // Puts a message at the back of a message buffer that has room.
+    // Puts a message at the back of a message buffer that has space.
     #[inline(always)]
     fn write_message(&mut self, message: usize, bytes: &[u8])
         requires there { message < length self.old.messages }
-        requires room { HasRoomForMessage (message_in self.old message) bytes.now }
+        requires space { HasSpaceForMessage (message_in self.old message) bytes.now }
         ensures { self.new ≡ objects_with_message self.old message
             (message_applied (message_in self.old message) (Push bytes.now)) }
     {
@@ -496,11 +496,11 @@ impl Objects {
         target.write(bytes);
     }
 
-    // Puts the item that these bytes make at an end of a queue that has room.
+    // Puts the item that these bytes make at an end of a queue that has space.
     #[inline(always)]
     fn put_fitted(&mut self, queue: usize, end: End, bytes: &[u8])
         requires there { queue < length self.old.queues }
-        requires room { length (queue_in self.old queue).items
+        requires space { length (queue_in self.old queue).items
             < (queue_in self.old queue).capacity }
         ensures { self.new ≡ objects_with_queue self.old queue
             (queue_applied (queue_in self.old queue)

@@ -28,7 +28,7 @@ pub enum Phase {
 /// Why a call failed in a way that no value tells.
 #[derive(Clone, Copy, PartialEq, Eq)]
 pub enum Cause {
-    /// An item was to be put into a member of a set that has no room for its handle.
+    /// An item was to be put into a member of a set that has no space for its handle.
     SetFull,
     /// It was to wait as the reader of a buffer, where another task does.
     TwoReaders,
@@ -123,7 +123,7 @@ pub enum Place {
 /// The lists in which tasks wait.
 #[derive(Clone, Copy, PartialEq, Eq)]
 pub enum Listed {
-    /// For an item of the queue, or for room in it.
+    /// For an item of the queue, or for space in it.
     Queue { queue: usize, list: WaitingList },
     /// For a handle of the set.
     QueueSet { queue_set: usize },

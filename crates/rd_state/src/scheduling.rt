@@ -3,7 +3,7 @@
 ghost use Rattle.std.specs.Prelude.{◌≡◌, ◌+◌, ◌*◌, ◌-◌, ◌<◌, ◌≤◌, length, slice_index};
 ghost use Rattle.std.specs.Prelude.{Ok, false, true, IfOk, IsOk, OnOk, OnErr};
 ghost use Rattle.rd_wait.specs.Joined.{joined};
-ghost use Rattle.rd_state.specs.Edit.{room_for, GivesUp, Reaches};
+ghost use Rattle.rd_state.specs.EditingView.{room_for, GivesUp, Reaches};
 ghost use Rattle.rd_state.specs.Settled.{settled, settled_in, rotated, weakest_of, rank_of};
 ghost use Rattle.rd_state.specs.Settled.{head_of, running_on, with_head_on, after_one_round};
 ghost use Rattle.rd_state.specs.Settled.{lineup_of, shares_core, with_lineup, IsSettled};

@@ -147,7 +147,7 @@ message_change_is_read_back b buffer (SetHolder Writer task) fits = set_writer_r
 message_change_is_read_back b buffer Clear fits = clear_read b buffer
 message_change_is_read_back b buffer (Fill bytes) fits = carried_read b buffer (Fill bytes) (fill_read b buffer bytes fits.1)
 
--- ---- What undoes a change of a message buffer has room in its bytes, where there are few tasks.
+-- ---- What undoes a change of a message buffer fits in its bytes, where there are few tasks.
 
 message_short : (buffer : MessageSnapshot) (index : ℕ) → IsSizedMessageBuffer buffer → index < length buffer.messages → length (get_or buffer.messages index []) < 65536
 message_short buffer index sized there = omega (arith, within_held buffer.messages index there, sized.room, sized.few)

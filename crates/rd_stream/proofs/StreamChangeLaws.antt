@@ -64,8 +64,8 @@ bytes_sized stream bytes sized room =
 sized_then : (stream : StreamSnapshot) (change : StreamChange) → IsSizedStream stream → StreamFits stream change → IsSizedStream (stream_applied stream change)
 sized_then stream (PushBytes bytes) sized fits = bytes_sized stream (stream.bytes ++ bytes) sized (omega (arith, length-append stream.bytes bytes, fits))
 sized_then stream (DropBytes count) sized fits =
-    let kept = length stream.bytes - count in
-    bytes_sized stream (take kept stream.bytes) sized (omega (arith, length-take-le kept stream.bytes (omega arith), sized.room))
+    let left = length stream.bytes - count in
+    bytes_sized stream (take left stream.bytes) sized (omega (arith, length-take-le left stream.bytes (omega arith), sized.room))
 sized_then stream (TakeBytes count) sized fits =
     bytes_sized stream (drop count stream.bytes) sized (omega (arith, length-drop count stream.bytes, sized.room))
 sized_then stream (UntakeBytes bytes) sized fits = bytes_sized stream (bytes ++ stream.bytes) sized (omega (arith, length-append bytes stream.bytes, fits))
@@ -89,8 +89,8 @@ inverse_fits : (stream : StreamSnapshot) (change : StreamChange) → IsSizedStre
     → StreamFits (stream_applied stream change) (stream_inverse_of stream change)
 inverse_fits stream (PushBytes bytes) sized fits = omega (arith, length-append stream.bytes bytes)
 inverse_fits stream (DropBytes count) sized fits =
-    let kept = length stream.bytes - count in
-    omega (arith, length-take-le kept stream.bytes (omega arith), length-drop kept stream.bytes, sized.room)
+    let left = length stream.bytes - count in
+    omega (arith, length-take-le left stream.bytes (omega arith), length-drop left stream.bytes, sized.room)
 inverse_fits stream (TakeBytes count) sized fits =
     omega (arith, length-take-le count stream.bytes fits, length-drop count stream.bytes, sized.room)
 inverse_fits stream (UntakeBytes bytes) sized fits = omega (arith, length-append bytes stream.bytes)

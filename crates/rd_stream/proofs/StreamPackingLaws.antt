@@ -167,7 +167,7 @@ stream_change_is_read_back b stream (SetHolder Writer task) fits = set_writer_re
 stream_change_is_read_back b stream Clear fits = clear_read b stream
 stream_change_is_read_back b stream (Fill bytes) fits = carried_read b stream (Fill bytes) (fill_read b stream bytes fits.1)
 
--- ---- What undoes a change of a stream buffer has room in its bytes, where there are few tasks.
+-- ---- What undoes a change of a stream buffer fits in its bytes, where there are few tasks.
 
 task_fits : (task : Option ℕ) (count : ℕ) → IfSome task (λ t. t < count) → count ≤ 255 → IfSome task (λ t. t < 255)
 task_fits None count there few = tt
@@ -177,8 +177,8 @@ pub stream_inverse_has_bytes : (stream : StreamSnapshot) (change : StreamChange)
     → stream.holders.task_count ≤ 255 → StreamFitsBytes (stream_inverse_of stream change)
 stream_inverse_has_bytes stream (PushBytes bytes) sized fits few = omega (arith, fits, sized.few)
 stream_inverse_has_bytes stream (DropBytes count) sized fits few =
-    let kept = length stream.bytes - count in
-    omega (arith, length-drop kept stream.bytes, sized.room, sized.few)
+    let left = length stream.bytes - count in
+    omega (arith, length-drop left stream.bytes, sized.room, sized.few)
 stream_inverse_has_bytes stream (TakeBytes count) sized fits few = omega (arith, length-take-le count stream.bytes fits, sized.room, sized.few)
 stream_inverse_has_bytes stream (UntakeBytes bytes) sized fits few = omega (arith, fits, sized.few)
 stream_inverse_has_bytes stream (SetByte index value) sized fits few = omega (arith, fits, sized.room, sized.few)

@@ -59,17 +59,17 @@ message_inverse_of buffer Clear = Fill (all_framed buffer.messages)
 message_inverse_of buffer (Fill bytes) = Clear
 
 -- The buffer takes one message more, this one.
-abbrev pub HasRoomForMessage : MessageSnapshot → List ℕ → Type 0
-HasRoomForMessage buffer message =
+abbrev pub HasSpaceForMessage : MessageSnapshot → List ℕ → Type 0
+HasSpaceForMessage buffer message =
     (0 < length message)
     × (bytes_held buffer.messages + length (framed message) ≤ buffer.capacity)
 
--- The change names what is there, and there is room.
+-- The change names what is there, and there is space.
 abbrev pub MessageFits : MessageSnapshot → MessageChange → Type 0
-MessageFits buffer (Push message) = HasRoomForMessage buffer message
+MessageFits buffer (Push message) = HasSpaceForMessage buffer message
 MessageFits buffer Drop = 0 < length buffer.messages
 MessageFits buffer Take = 0 < length buffer.messages
-MessageFits buffer (Untake message) = HasRoomForMessage buffer message
+MessageFits buffer (Untake message) = HasSpaceForMessage buffer message
 MessageFits buffer (SetHolder side task) = IfSome task (λ t. t < buffer.holders.task_count)
 MessageFits buffer Clear = Unit {0}
 MessageFits buffer (Fill bytes) =

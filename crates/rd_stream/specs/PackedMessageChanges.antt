@@ -42,7 +42,7 @@ message_fields buffer (Fill bytes) =
 abbrev pub message_packed : ℕ → MessageChange → List ℕ
 message_packed buffer change = message_carried change ++ message_fields buffer change
 
--- The numbers of a change have room in their bytes, and none is the one that stands for none.
+-- The numbers of a change fit in their bytes, and none is the one that stands for none.
 abbrev pub MessageFitsBytes : MessageChange → Type 0
 MessageFitsBytes (Push message) = length message < 65536
 MessageFitsBytes Drop = Unit {0}

@@ -54,7 +54,7 @@ number_packed tag stream number = stream ∷ (to_le_bytes w16 number ++ tag ∷ 
 abbrev pub bytes_packed : ℕ → ℕ → List ℕ → List ℕ
 bytes_packed tag stream bytes = bytes ++ number_packed tag stream (length bytes)
 
--- The numbers of a change have room in their bytes, and none is the one that stands for none.
+-- The numbers of a change fit in their bytes, and none is the one that stands for none.
 abbrev pub StreamFitsBytes : StreamChange → Type 0
 StreamFitsBytes (PushBytes bytes) = length bytes < 65536
 StreamFitsBytes (DropBytes count) = count < 65536

@@ -68,7 +68,7 @@ stream_inverse_of stream (SetHolder side task) = SetHolder side (holder_of side 
 stream_inverse_of stream Clear = Fill stream.bytes
 stream_inverse_of stream (Fill bytes) = Clear
 
--- The change names what is there, and there is room.
+-- The change names what is there, and there is space.
 abbrev pub StreamFits : StreamSnapshot → StreamChange → Type 0
 StreamFits stream (PushBytes bytes) = length stream.bytes + length bytes ≤ stream.capacity
 StreamFits stream (DropBytes count) = count ≤ length stream.bytes

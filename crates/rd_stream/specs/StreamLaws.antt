@@ -23,7 +23,7 @@ abbrev pub all_accessed : StreamSnapshot → List StreamAccess → StreamSnapsho
 all_accessed stream [] = stream
 all_accessed stream (access ∷ later) = all_accessed (accessed stream access) later
 
--- Each fits where it comes: there is room for what is written, and what is read is there.
+-- Each fits where it comes: there is space for what is written, and what is read is there.
 abbrev pub EachFits : StreamSnapshot → List StreamAccess → Type 0
 EachFits stream [] = Unit {0}
 EachFits stream (access ∷ later) =

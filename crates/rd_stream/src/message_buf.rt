@@ -3,7 +3,7 @@
 ghost use Rattle.std.specs.Prelude.{◌≡◌, ◌+◌, ◌-◌, ◌<◌, ◌≤◌, ◌↔◌, [], ◌∷◌, ◌++◌, length, take};
 ghost use Rattle.std.specs.Prelude.{drop, slice_index_or, IsTrue, IfOk, IfSome};
 ghost use Rattle.rd_stream.specs.Holders.{holder_of, with_holder_of};
-ghost use Rattle.rd_stream.specs.MessageChanges.{HasRoomForMessage};
+ghost use Rattle.rd_stream.specs.MessageChanges.{HasSpaceForMessage};
 ghost use Rattle.rd_stream.specs.Messages.{all_framed, bytes_held, empty_message_buffer};
 ghost use Rattle.rd_stream.specs.Messages.{first_length, messages_in, AreMessages};
 ghost use Rattle.rd_stream.specs.Messages.{with_message_holders, with_messages};
@@ -164,7 +164,7 @@ impl MessageBuf {
         self.ring.len()
     }
 
-    /// How many bytes there is still room for, of which a message takes four more than it has
+    /// How many bytes there is still space for, of which a message takes four more than it has
     /// (`xMessageBufferSpacesAvailable`).
     pub fn space(&self) -> usize
         ensures space { result + bytes_held self.now.messages ≡ self.now.capacity }
@@ -236,9 +236,9 @@ impl MessageBuf {
         self.message(self.count() - 1)
     }
 
-    /// Puts a message at the back (`xMessageBufferSend`, where there is room). It takes no memory.
+    /// Puts a message at the back (`xMessageBufferSend`, where there is space). It takes no memory.
     pub fn write(&mut self, message: &[u8])
-        requires { HasRoomForMessage self.old message.now }
+        requires { HasSpaceForMessage self.old message.now }
         ensures { self.new ≡ with_messages self.old (self.old.messages ++ message.now ∷ []) }
     {
         self.write_halves(message, &[]);
@@ -247,7 +247,7 @@ impl MessageBuf {
     /// Puts a message at the back likewise, whose bytes are in two pieces that follow one another.
     /// It takes no memory.
     pub fn write_halves(&mut self, front: &[u8], back: &[u8])
-        requires { HasRoomForMessage self.old (front.now ++ back.now) }
+        requires { HasSpaceForMessage self.old (front.now ++ back.now) }
         ensures { self.new ≡ with_messages self.old
             (self.old.messages ++ (front.now ++ back.now) ∷ []) }
     {
@@ -296,7 +296,7 @@ impl MessageBuf {
     /// Puts a message back at the front, whose bytes are in two pieces that follow one another:
     /// what undoes `read` and `skip`. It takes no memory.
     pub fn unread(&mut self, front: &[u8], back: &[u8])
-        requires { HasRoomForMessage self.old (front.now ++ back.now) }
+        requires { HasSpaceForMessage self.old (front.now ++ back.now) }
         ensures { self.new ≡ with_messages self.old
             ((front.now ++ back.now) ∷ self.old.messages) }
     {
@@ -321,7 +321,7 @@ impl MessageBuf {
     pub fn fill(&mut self, front: &[u8], back: &[u8])
         requires empty { self.old.messages ≡ [] }
         requires messages { AreMessages (front.now ++ back.now) }
-        requires room { length (front.now ++ back.now) ≤ self.old.capacity }
+        requires space { length (front.now ++ back.now) ≤ self.old.capacity }
         ensures { self.new ≡ with_messages self.old (messages_in (front.now ++ back.now)) }
     {
         self.ring.push_back(front);

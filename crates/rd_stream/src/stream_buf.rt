@@ -106,7 +106,7 @@ impl StreamBuf {
         self.ring.len()
     }
 
-    /// For how many more bytes there is room (`xStreamBufferSpacesAvailable`).
+    /// For how many more bytes there is space (`xStreamBufferSpacesAvailable`).
     #[inline(always)]
     pub fn space(&self) -> usize
         ensures space { result + length self.now.bytes ≡ self.now.capacity }
@@ -171,7 +171,7 @@ impl StreamBuf {
         self.ring.range(self.ring.len() - count, count)
     }
 
-    /// Puts bytes at the back (`xStreamBufferSend`, of as many as there is room for). It takes no
+    /// Puts bytes at the back (`xStreamBufferSend`, of as many as there is space for). It takes no
     /// memory.
     pub fn write(&mut self, bytes: &[u8])
         requires { length self.old.bytes + length bytes.now ≤ self.old.capacity }
@@ -260,7 +260,7 @@ impl StreamBuf {
     /// `clear`. It takes no memory.
     pub fn fill(&mut self, front: &[u8], back: &[u8])
         requires empty { self.old.bytes ≡ [] }
-        requires room { length (front.now ++ back.now) ≤ self.old.capacity }
+        requires space { length (front.now ++ back.now) ≤ self.old.capacity }
         ensures { self.new ≡ with_stream_bytes self.old (front.now ++ back.now) }
     {
         self.write_halves(front, back);

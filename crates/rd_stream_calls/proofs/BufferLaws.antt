@@ -14,19 +14,19 @@ use Rattle.rd_state.specs.declared.phase.Listed.{Listed}
 use Rattle.rd_state.specs.declared.phase.Listed.TheVariants.{Queue, QueueSet, Group}
 use Rattle.rd_notify.specs.Entries.{idle_entry}
 use Rattle.rd_notify.specs.declared.entries.Entry.{Entry}
-use Rattle.rd_state.specs.Edit.{Edit}
+use Rattle.rd_state.specs.EditingView.{EditingView}
 use Rattle.rd_state.specs.Objects.{ObjectsSnapshot, message_in, no_message_buffer, no_stream, objects_with_message, objects_with_stream, shapes_in}
 use Rattle.rd_state.specs.Objects.{size_of_message_buffer, size_of_stream, stream_in}
 use Rattle.rd_state.specs.Snapshot.{Snapshot, TaskSnapshot, task_at, with_message, with_stream}
 use Rattle.rd_state.specs.Waiting.{holder_in, waiting_in}
 use Rattle.rd_kernel.specs.Holding.{come_back, completed, waits_held}
 use Rattle.rd_kernel.specs.Outcomes.{Called, DoesCall, concluded}
-use Rattle.rd_kernel.specs.Tasks.{KeepsPc, with_bytes}
+use Rattle.rd_kernel.specs.Tasks.{PcStays, with_bytes}
 use Rattle.rd_kernel.specs.declared.outcome.Outcome.{Outcome}
 use Rattle.rd_kernel.specs.declared.outcome.Outcome.TheVariants.{Fails, Returns, ReturnsBoth, Waits}
 use Rattle.rd_kernel.proofs.Offered.{ContentsChange, EachStays-task, HasReceived, HasReceived-come_back, HasReceived-completed, HasReceived-waits_held, IsBeside}
 use Rattle.rd_kernel.proofs.Offered.{PcsStay, PcsStay-come_back, PcsStay-completed, PcsStay-waits_held, come_back-beside, come_back-tick, completed-beside}
-use Rattle.rd_kernel.proofs.Offered.{completed-tick, entry_after, map_kept, read_kept, waits_held-beside, waits_held-tick, EntriesStay-task}
+use Rattle.rd_kernel.proofs.Offered.{completed-tick, entry_after, map_same, read_same, waits_held-beside, waits_held-tick, EntriesStay-task}
 
 -- ---- what a buffer holds
 
@@ -35,7 +35,7 @@ pub stream_contents : (o : ObjectsSnapshot) (stream : ℕ) (now : StreamSnapshot
 stream_contents o stream now there holders capacity = record {
   waiting = waiting;
   holders = named;
-  shapes = ap (λ (sizes : List ℕ). record (shapes_in o) { streams = sizes }) (map_kept size_of_stream o.streams stream now no_stream capacity);
+  shapes = ap (λ (sizes : List ℕ). record (shapes_in o) { streams = sizes }) (map_same size_of_stream o.streams stream now no_stream capacity);
 }
   where
     waiting : (place : Listed) → waiting_in (objects_with_stream o stream now) place ≡ waiting_in o place
@@ -44,7 +44,7 @@ stream_contents o stream now there holders capacity = record {
     waiting (Group group) = refl
 
     named : (held : Held) → holder_in (objects_with_stream o stream now) held ≡ holder_in o held
-    named (Stream other side) = read_kept (λ (b : StreamSnapshot). holder_of side b.holders) o.streams stream other now no_stream there (ap (holder_of side) holders)
+    named (Stream other side) = read_same (λ (b : StreamSnapshot). holder_of side b.holders) o.streams stream other now no_stream there (ap (holder_of side) holders)
     named (Message message side) = refl
 
 pub message_contents : (o : ObjectsSnapshot) (message : ℕ) (now : MessageSnapshot) → message < length o.messages → now.holders ≡ (message_in o message).holders
@@ -52,7 +52,7 @@ pub message_contents : (o : ObjectsSnapshot) (message : ℕ) (now : MessageSnaps
 message_contents o message now there holders capacity = record {
   waiting = waiting;
   holders = named;
-  shapes = ap (λ (sizes : List ℕ). record (shapes_in o) { messages = sizes }) (map_kept size_of_message_buffer o.messages message now no_message_buffer capacity);
+  shapes = ap (λ (sizes : List ℕ). record (shapes_in o) { messages = sizes }) (map_same size_of_message_buffer o.messages message now no_message_buffer capacity);
 }
   where
     waiting : (place : Listed) → waiting_in (objects_with_message o message now) place ≡ waiting_in o place
@@ -63,7 +63,7 @@ message_contents o message now there holders capacity = record {
     named : (held : Held) → holder_in (objects_with_message o message now) held ≡ holder_in o held
     named (Stream stream side) = refl
     named (Message other side) =
-        read_kept (λ (b : MessageSnapshot). holder_of side b.holders) o.messages message other now no_message_buffer there (ap (holder_of side) holders)
+        read_same (λ (b : MessageSnapshot). holder_of side b.holders) o.messages message other now no_message_buffer there (ap (holder_of side) holders)
 
 -- ---- what stays, step by step
 
@@ -138,16 +138,16 @@ beside_by_changes f s priorities task is = record {
 }
 
 -- what has come to an entry, if it isn't the first of the caller
-abbrev pub KeepsReceived : ℕ → ℕ → Snapshot → Type 0
-KeepsReceived target index s = HasReceived s target index
+abbrev pub ReceivedAt : ℕ → ℕ → Snapshot → Type 0
+ReceivedAt target index s = HasReceived s target index
 
-pub received_by_waiting : (task target index : ℕ) → (task ≡ target → 0 ≡ index → ⊥) → StaysByWaiting (KeepsReceived target index) task
+pub received_by_waiting : (task target index : ℕ) → (task ≡ target → 0 ≡ index → ⊥) → StaysByWaiting (ReceivedAt target index) task
 received_by_waiting task target index other = record {
   come_back = λ p held has. HasReceived-come_back p task target index held other has;
   waits = λ p held wait has. HasReceived-waits_held p task target index held wait other has;
 }
 
-pub received_by_changes : (priorities : List ℕ) (task target index : ℕ) → StaysByChanges (KeepsReceived target index) priorities task
+pub received_by_changes : (priorities : List ℕ) (task target index : ℕ) → StaysByChanges (ReceivedAt target index) priorities task
 received_by_changes priorities task target index = record {
   bytes = λ p bytes has. bytes_leave p bytes has;
   streams = λ p stream now has. has;
@@ -168,10 +168,10 @@ concluded-tick s (Waits place deadline) core task = refl
 concluded-tick s (Fails cause) core task = refl
 
 -- A call that leaves each task where it stands leaves its caller there.
-pub keeps_pc : (r : Result Outcome NoMemory) (old new : Edit) (called : Called) (cost task : ℕ) → IfOk r (DoesCall old new called cost) → PcsStay old.now called.state
-    → OnOk r (KeepsPc old.now new.now task)
-keeps_pc (Ok outcome) old new called cost task does stays = ap (λ (p : Snapshot). (task_at p task).pc) does.comes.now ∙ stays task
-keeps_pc (Err e) old new called cost task does stays = tt
+pub pc_stays : (r : Result Outcome NoMemory) (old new : EditingView) (called : Called) (cost task : ℕ) → IfOk r (DoesCall old new called cost) → PcsStay old.now called.state
+    → OnOk r (PcStays old.now new.now task)
+pc_stays (Ok outcome) old new called cost task does stays = ap (λ (p : Snapshot). (task_at p task).pc) does.comes.now ∙ stays task
+pc_stays (Err e) old new called cost task does stays = tt
 
 -- ---- tests
 

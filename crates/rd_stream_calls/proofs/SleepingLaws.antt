@@ -39,15 +39,15 @@ use Rattle.rd_stream_calls.specs.StreamCalls.{with_bytes_read, with_bytes_writte
 
 names_anyway : (s : Snapshot) (stream : ℕ) (now : StreamSnapshot) (held : Held) → now.holders ≡ (stream_at s stream).holders
     → holder_at (with_stream s stream now) held ≡ holder_at s held
-names_anyway s stream now (Stream other side) kept =
-    read_anyway (λ (b : StreamSnapshot). holder_of side b.holders) s.objects.streams stream other now no_stream (ap (holder_of side) kept)
-names_anyway s stream now (Message message side) kept = refl
+names_anyway s stream now (Stream other side) same_holders =
+    read_anyway (λ (b : StreamSnapshot). holder_of side b.holders) s.objects.streams stream other now no_stream (ap (holder_of side) same_holders)
+names_anyway s stream now (Message message side) same_holders = refl
 
 message_names_anyway : (s : Snapshot) (message : ℕ) (now : MessageSnapshot) (held : Held) → now.holders ≡ (message_at s message).holders
     → holder_at (with_message s message now) held ≡ holder_at s held
-message_names_anyway s message now (Stream stream side) kept = refl
-message_names_anyway s message now (Message other side) kept =
-    read_anyway (λ (b : MessageSnapshot). holder_of side b.holders) s.objects.messages message other now no_message_buffer (ap (holder_of side) kept)
+message_names_anyway s message now (Stream stream side) same_holders = refl
+message_names_anyway s message now (Message other side) same_holders =
+    read_anyway (λ (b : MessageSnapshot). holder_of side b.holders) s.objects.messages message other now no_message_buffer (ap (holder_of side) same_holders)
 
 -- A reader doesn't wait at a writer's place.
 no_writer : (own held : Held) → held_side own ≡ Reader → held_side held ≡ Writer → own ≡ held → ⊥

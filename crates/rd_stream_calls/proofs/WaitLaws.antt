@@ -7,7 +7,7 @@ use Rattle.std.proofs.lemmas.List.{get_or-set_other, get_or-set_same, set_past}
 use Rattle.std.specs.Prelude.{◌&&◌, ◌||◌, min, nat_eq, nat_lt, slice_index_or}
 use Rattle.rd_app.specs.declared.instr.Operand.{Operand}
 use Rattle.rd_notify.specs.Entries.{entry_idle, entry_notified, idle_entry}
-use Rattle.rd_notify.specs.declared.action.Action.TheVariants.{KeepValue}
+use Rattle.rd_notify.specs.declared.action.Action.TheVariants.{NoAction}
 use Rattle.rd_notify.specs.declared.entries.Entry.{Entry}
 use Rattle.rd_notify.specs.declared.entries.EntryState.TheVariants.{Idle}
 use Rattle.rd_stream.specs.Holders.{HoldersView, holder_of, with_holder_of}
@@ -95,18 +95,18 @@ unnamed_here o (Message number side) task there =
 -- Whom places name is none of what a buffer holds.
 unnamed_by_stream : (o : ObjectsSnapshot) (number : ℕ) (now : StreamSnapshot) (held : Held) (task : ℕ) → now.holders ≡ (stream_in o number).holders
     → is_named task (holder_in o held) ≡ false → is_named task (holder_in (objects_with_stream o number now) held) ≡ false
-unnamed_by_stream o number now (Stream other side) task kept was =
+unnamed_by_stream o number now (Stream other side) task same_holders was =
     after_set (λ (b : StreamSnapshot). is_named task (holder_of side b.holders) ≡ false) o.streams number other now no_stream
-    (λ same. ap (λ (h : HoldersView). is_named task (holder_of side h)) kept
+    (λ same. ap (λ (h : HoldersView). is_named task (holder_of side h)) same_holders
     ∙ subst (λ n. is_named task (holder_of side (stream_in o n).holders) ≡ false) same was) was
-unnamed_by_stream o number now (Message other side) task kept was = was
+unnamed_by_stream o number now (Message other side) task same_holders was = was
 
 unnamed_by_message : (o : ObjectsSnapshot) (number : ℕ) (now : MessageSnapshot) (held : Held) (task : ℕ) → now.holders ≡ (message_in o number).holders
     → is_named task (holder_in o held) ≡ false → is_named task (holder_in (objects_with_message o number now) held) ≡ false
-unnamed_by_message o number now (Stream other side) task kept was = was
-unnamed_by_message o number now (Message other side) task kept was =
+unnamed_by_message o number now (Stream other side) task same_holders was = was
+unnamed_by_message o number now (Message other side) task same_holders was =
     after_set (λ (b : MessageSnapshot). is_named task (holder_of side b.holders) ≡ false) o.messages number other now no_message_buffer
-    (λ same. ap (λ (h : HoldersView). is_named task (holder_of side h)) kept
+    (λ same. ap (λ (h : HoldersView). is_named task (holder_of side h)) same_holders
     ∙ subst (λ n. is_named task (holder_of side (message_in o n).holders) ≡ false) same was) was
 
 -- ---- a wait that is over, step by step
@@ -144,16 +144,16 @@ begins s task held other tries =
 -- What the task does to what a buffer holds leaves it so;
 rid_of_stream : (p : Snapshot) (task : ℕ) (held other : Held) (number : ℕ) (now : StreamSnapshot) → now.holders ≡ (stream_at p number).holders
     → IsRid p task held other → IsRid (with_stream p number now) task held other
-rid_of_stream p task held other number now kept rid = record {
-  over = record { idle = rid.over.idle; unnamed = unnamed_by_stream p.objects number now held task kept rid.over.unnamed };
-  apart = unnamed_by_stream p.objects number now other task kept rid.apart;
+rid_of_stream p task held other number now same_holders rid = record {
+  over = record { idle = rid.over.idle; unnamed = unnamed_by_stream p.objects number now held task same_holders rid.over.unnamed };
+  apart = unnamed_by_stream p.objects number now other task same_holders rid.apart;
 }
 
 rid_of_message : (p : Snapshot) (task : ℕ) (held other : Held) (number : ℕ) (now : MessageSnapshot) → now.holders ≡ (message_at p number).holders
     → IsRid p task held other → IsRid (with_message p number now) task held other
-rid_of_message p task held other number now kept rid = record {
-  over = record { idle = rid.over.idle; unnamed = unnamed_by_message p.objects number now held task kept rid.over.unnamed };
-  apart = unnamed_by_message p.objects number now other task kept rid.apart;
+rid_of_message p task held other number now same_holders rid = record {
+  over = record { idle = rid.over.idle; unnamed = unnamed_by_message p.objects number now held task same_holders rid.over.unnamed };
+  apart = unnamed_by_message p.objects number now other task same_holders rid.apart;
 }
 
 -- so does its data,
@@ -179,7 +179,7 @@ over_when_completed priorities p task held other rid = by_name (holder_at p othe
         let w = woken_all priorities TriesAgain p tasks in
         let after = AfterWaking-woken_all priorities TriesAgain p tasks in
         record {
-          idle = entry_after w t 0 task 0 (entry_notified KeepValue 0 (entry_at p t 0)) (λ (x : Entry). x.state ≡ Idle)
+          idle = entry_after w t 0 task 0 (entry_notified NoAction 0 (entry_at p t 0)) (λ (x : Entry). x.state ≡ Idle)
               (λ same first. absurd (differ t e same))
               (ap (λ (entries : List Entry). (slice_index_or entries 0 idle_entry).state) (EntriesStay-woken_all priorities TriesAgain p tasks task) ∙ rid.over.idle);
           unnamed = unnamed_still w.objects other held task (ap (is_named task) (after.holders held) ∙ rid.over.unnamed);

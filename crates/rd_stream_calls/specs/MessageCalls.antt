@@ -21,7 +21,7 @@ use Rattle.rd_kernel.specs.Telling.{waits_once}
 use Rattle.rd_kernel.specs.Waking.{may_wait}
 use Rattle.rd_stream_calls.specs.StreamCalls.{is_held, piece_cost}
 
--- for how many more bytes a buffer has room
+-- for how many more bytes a buffer has space
 abbrev pub message_space : MessageSnapshot → ℕ
 message_space buffer = buffer.capacity - bytes_held buffer.messages
 

@@ -23,7 +23,7 @@ use Rattle.rd_kernel.specs.Tasks.{with_bytes}
 use Rattle.rd_kernel.specs.Telling.{waits_once}
 use Rattle.rd_kernel.specs.Waking.{may_wait, operand_value}
 
--- for how many more bytes a buffer has room
+-- for how many more bytes a buffer has space
 abbrev pub stream_space : StreamSnapshot → ℕ
 stream_space stream = stream.capacity - length stream.bytes
 

@@ -3,14 +3,14 @@
 ghost use Rattle.std.specs.Prelude.{◌≡◌, ◌+◌, ◌<◌, ◌≤◌, length, true, false, nat_lt};
 ghost use Rattle.std.specs.Prelude.{IfOk, IsOk, OnErr, OnOk};
 ghost use Rattle.rd_bytes.specs.declared.bytes.TheConstants.{MAX_BYTES};
-ghost use Rattle.rd_stream.specs.MessageChanges.{HasRoomForMessage};
+ghost use Rattle.rd_stream.specs.MessageChanges.{HasSpaceForMessage};
 ghost use Rattle.rd_app.specs.Application.{IsMessageCall, IsOperand, priorities_of};
-ghost use Rattle.rd_state.specs.Edit.{GivesUp, Reaches};
+ghost use Rattle.rd_state.specs.EditingView.{GivesUp, Reaches};
 ghost use Rattle.rd_state.specs.Snapshot.{message_at, task_at};
 ghost use Rattle.rd_kernel.specs.Costs.{data_cost};
 ghost use Rattle.rd_kernel.specs.Holding.{completed, CanComplete};
 ghost use Rattle.rd_kernel.specs.Outcomes.{DoesCall, IsCalling};
-ghost use Rattle.rd_kernel.specs.Tasks.{KeepsPc};
+ghost use Rattle.rd_kernel.specs.Tasks.{PcStays};
 ghost use Rattle.rd_kernel.specs.Telling.{waits_once};
 ghost use Rattle.rd_stream_calls.specs.MessageCalls.{message_call_cost, message_outcome};
 ghost use Rattle.rd_stream_calls.specs.MessageCalls.{message_read, message_read_cost};
@@ -177,7 +177,7 @@ fn put_message(
     requires task { task < length editing.old.now.tasks }
     requires can { CanComplete editing.old.now }
     requires message { message < length editing.old.now.objects.messages }
-    requires room { HasRoomForMessage (message_at editing.old.now message)
+    requires space { HasSpaceForMessage (message_at editing.old.now message)
         (task_at editing.old.now task).bytes }
     ensures ok { OnOk result (Reaches editing.old editing.new
         (completed (priorities_of app.now) (with_message_written editing.old.now task message)
@@ -307,7 +307,7 @@ pub fn call_message(
         (message_outcome (priorities_of app.now) editing.old.now task message call)
         (message_call_cost editing.old.now message call)) }
     ensures nothing { MessageCallChangesNothing editing.old.now task message call → IsOk result }
-    ensures stays { OnOk result (KeepsPc editing.old.now editing.new.now task) }
+    ensures stays { OnOk result (PcStays editing.old.now editing.new.now task) }
     ensures err { OnErr result (GivesUp editing.old editing.new
         (message_call_cost editing.old.now message call)) }
 {

@@ -4,13 +4,13 @@ ghost use Rattle.std.specs.Prelude.{◌≡◌, ◌+◌, ◌<◌, ◌≤◌, leng
 ghost use Rattle.std.specs.Prelude.{IfOk, IsOk, OnErr, OnOk, nat_lt};
 ghost use Rattle.rd_bytes.specs.declared.bytes.TheConstants.{MAX_BYTES};
 ghost use Rattle.rd_app.specs.Application.{IsOperand, IsStreamCall, priorities_of};
-ghost use Rattle.rd_state.specs.Edit.{GivesUp, Reaches};
+ghost use Rattle.rd_state.specs.EditingView.{GivesUp, Reaches};
 ghost use Rattle.rd_state.specs.Snapshot.{stream_at, task_at};
 ghost use Rattle.rd_state.specs.Objects.{trigger_taken};
 ghost use Rattle.rd_kernel.specs.Costs.{data_cost};
 ghost use Rattle.rd_kernel.specs.Holding.{CanComplete};
 ghost use Rattle.rd_kernel.specs.Outcomes.{DoesCall, IsCalling};
-ghost use Rattle.rd_kernel.specs.Tasks.{KeepsPc};
+ghost use Rattle.rd_kernel.specs.Tasks.{PcStays};
 ghost use Rattle.rd_kernel.specs.Telling.{waits_once};
 ghost use Rattle.rd_stream_calls.specs.StreamCalls.{bytes_read, bytes_written, is_held, piece_cost};
 ghost use Rattle.rd_stream_calls.specs.StreamCalls.{lacks_space, set_trigger_outcome};
@@ -174,7 +174,7 @@ fn put_bytes(
 ) -> Result<(), NoMemory>
     requires task { task < length editing.old.now.tasks }
     requires stream { stream < length editing.old.now.objects.streams }
-    requires room { length (stream_at editing.old.now stream).bytes + count
+    requires space { length (stream_at editing.old.now stream).bytes + count
         ≤ (stream_at editing.old.now stream).capacity }
     requires there { count ≤ length (task_at editing.old.now task).bytes }
     ensures ok { OnOk result (Reaches editing.old editing.new
@@ -198,7 +198,7 @@ fn write_bytes(
     requires task { task < length editing.old.now.tasks }
     requires can { CanComplete editing.old.now }
     requires stream { stream < length editing.old.now.objects.streams }
-    requires room { length (stream_at editing.old.now stream).bytes + count
+    requires space { length (stream_at editing.old.now stream).bytes + count
         ≤ (stream_at editing.old.now stream).capacity }
     requires there { count ≤ length (task_at editing.old.now task).bytes }
     ensures ok { OnOk result (Reaches editing.old editing.new
@@ -339,7 +339,7 @@ pub fn call_stream(
         (stream_outcome (priorities_of app.now) editing.old.now task stream call)
         (stream_call_cost editing.old.now stream call)) }
     ensures nothing { StreamCallChangesNothing editing.old.now task stream call → IsOk result }
-    ensures stays { OnOk result (KeepsPc editing.old.now editing.new.now task) }
+    ensures stays { OnOk result (PcStays editing.old.now editing.new.now task) }
     ensures err { OnErr result (GivesUp editing.old editing.new
         (stream_call_cost editing.old.now stream call)) }
 {

@@ -15,7 +15,7 @@ use Rattle.rd_moves.specs.declared.answer.Answer.TheVariants.{Refused}
 use Rattle.rd_moves.specs.declared.answer.SearchEnd.TheVariants.{Met, Limit}
 use Rattle.rd_moves.specs.declared.request.Request.TheVariants.{Go, Back, Forward, Redo, Until}
 use Rattle.rd_timeline.specs.Answers.{Obeys, answer_at, answer_of}
-use Rattle.rd_timeline.specs.Course.{Course, HasGrown, IsAsItWas, IsFull, IsWhyNot, Room}
+use Rattle.rd_timeline.specs.Course.{Course, HasGrown, IsAsItWas, IsFull, IsWhyNot, Capacity}
 use Rattle.rd_timeline.specs.History.{state_after}
 use Rattle.rd_calls.specs.Step.{move_answer, step}
 use Rattle.rd_timeline.specs.Redoing.{IsWhyNoRedo}
@@ -27,7 +27,7 @@ use Rattle.rd_timeline.proofs.RunsLaws.{moved_there, run_needs_memory, target_gi
 -- ---- what comes of a request
 
 -- A request was done: these are the moves that it leaves, and where it was a search, this is how that came to its end.
-pub record IsAnswered (old : Course) (request : PlainRequest) (new : Course) (end : Ending) : Type 0 where
+pub record IsRequestDone (old : Course) (request : PlainRequest) (new : Course) (end : Ending) : Type 0 where
   pub comes : response_to old.app old.limit (moves_of old) request ≡ Leaves (moves_of new) end
   pub grows : HasGrown old.room new.room
   pub app : new.app ≡ old.app
@@ -42,10 +42,10 @@ leads_as_before : (old new : Course) → IsAsItWas old new → state_after old.a
 leads_as_before old new same leads = subst (λ (course : Course). state_after course.app course.done ≡ Ok course.target) (sym same) leads
 
 pub as_it_was : (old new : Course) → new ≡ old → IsAsItWas old new
-as_it_was old new same = same ∙ ap (λ (room : Room). record old { room = room }) (sym (ap (λ (course : Course). course.room) same))
+as_it_was old new same = same ∙ ap (λ (room : Capacity). record old { room = room }) (sym (ap (λ (course : Course). course.room) same))
 
 -- What is told then, where no memory is needed.
-pub obeyed : (old new : Course) (request : PlainRequest) (at : ℕ) (end : Ending) → at ≡ length new.done → IsAnswered old request new end
+pub obeyed : (old new : Course) (request : PlainRequest) (at : ℕ) (end : Ending) → at ≡ length new.done → IsRequestDone old request new end
     → Obeys old request new (Ok (answer_at at end))
 obeyed old new request at end at_is is = record {
   ok = ap (λ n. answer_at n end) at_is ∙ sym (ap answer_of is.comes);
@@ -76,7 +76,7 @@ pub obeyed_if : {T : Type 0} (old new : Course) (request : PlainRequest) (made :
     (end : T → Ending) (Made : T → Type 0) (Why : Refusal → Type 0) → (IsErr result ↔ IsErrOf made NoMemory)
     → IfOk made (λ x. result ≡ Ok (answer_at (at x) (end x))) → IfErr made (λ refusal. refusal ≢ NoMemory → result ≡ Ok (Refused refusal))
     → IfOk made (λ x. at x ≡ length new.done) → IfOk made Made → IfErr made Why → OnErr made (IsAsItWas old new) → HasGrown old.room new.room
-    → state_after old.app old.done ≡ Ok old.target → ((x : T) → Made x → IsAnswered old request new (end x))
+    → state_after old.app old.done ≡ Ok old.target → ((x : T) → Made x → IsRequestDone old request new (end x))
     → ((refusal : Refusal) → refusal ≢ NoMemory → Why refusal → IsRefusedAs old request refusal)
     → (Why NoMemory → IsTrue (makes_move old.app old.limit (moves_of old) request)) → Obeys old request new result
 obeyed_if old new request (Ok x) result at end Made Why lacks tells says at_is ok why same grows leads follows refused needs =
@@ -139,7 +139,7 @@ end_given : (old : Course) (move : PlainMove) → state_after old.app old.done �
 end_given old move leads = ap (λ (s : Snapshot). ending_of (move_answer s move)) (target_given old leads)
 
 pub go_done : (old new : Course) (move : PlainMove) → state_after old.app old.done ≡ Ok old.target → HasGrown old.room new.room → IsMade old move new
-    → IsAnswered old (Go move) new (move_end old move)
+    → IsRequestDone old (Go move) new (move_end old move)
 go_done old new move leads grows made = record {
   comes =
       ap (λ (end : Ending). go_response (moves_of old) move end (moved old.app old.limit (moves_of old) move)) (end_given old move leads)
@@ -167,7 +167,7 @@ of_some moves refusal some b is = ap (λ s. cond s (Leaves moves Plain) (Refuses
 
 pub back_done : (old new : Course) (count : ℕ) → length old.log ≤ length old.done → count ≤ length old.log
     → moves_of new ≡ back_at (moves_of old) (length old.done - count) → HasGrown old.room new.room → new.app ≡ old.app → new.limit ≡ old.limit
-    → state_after new.app new.done ≡ Ok new.target → IsAnswered old (Back count) new Plain
+    → state_after new.app new.done ≡ Ok new.target → IsRequestDone old (Back count) new Plain
 back_done old new count fewer some moves grows app limit leads =
     let after = back_at (moves_of old) (length old.done - count) in
     record {
@@ -196,7 +196,7 @@ too_few (Err refusal) count done iff = elim (cases_lt done count) [
 ]
 
 pub redo_done : (old new : Course) (count : ℕ) → count ≤ length old.undone → moves_of new ≡ redone (moves_of old) count → HasGrown old.room new.room
-    → new.app ≡ old.app → new.limit ≡ old.limit → state_after new.app new.done ≡ Ok new.target → IsAnswered old (Redo count) new Plain
+    → new.app ≡ old.app → new.limit ≡ old.limit → state_after new.app new.done ≡ Ok new.target → IsRequestDone old (Redo count) new Plain
 redo_done old new count some moves grows app limit leads =
     let after = redone (moves_of old) count in
     record {

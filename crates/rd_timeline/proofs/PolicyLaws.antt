@@ -15,7 +15,7 @@ use Rattle.rd_condition.specs.declared.condition.Condition.{Condition}
 use Rattle.rd_condition.specs.Conditions.{holds}
 use Rattle.rd_moves.specs.declared.request.Request.TheVariants.{Forward}
 use Rattle.rd_timeline.specs.RunLaws.{RunsAddUp, is_refusal}
-use Rattle.rd_timeline.specs.Runs.{Moves, Run, Going, AtGoal, Refused, can_make, chosen, ended, looked_for, meets, moved, moved_on, moves_after}
+use Rattle.rd_timeline.specs.Runs.{Moves, PolicyRun, Going, AtGoal, Refused, can_make, chosen, ended, looked_for, meets, moved, moved_on, moves_after}
 use Rattle.rd_timeline.specs.Runs.{ran, response_to, run_of, run_on, run_response, state_of}
 use Rattle.rd_timeline.proofs.CauseLaws.{never_no_memory}
 
@@ -35,7 +35,7 @@ pub policy_named : (app : Application) (s : Snapshot) → IsValid app s → IsMo
 policy_named app s valid = named_by app s (position is_some (drop s.turn s.cores)) refl valid
 
 -- A run that has ended stays as it is.
-pub ran_on : (app : Application) (limit : ℕ) (goal : Option Condition) (moves : Moves) (run : Run) (k : ℕ) → run_on app limit goal run ≡ run
+pub ran_on : (app : Application) (limit : ℕ) (goal : Option Condition) (moves : Moves) (run : PolicyRun) (k : ℕ) → run_on app limit goal run ≡ run
     → ran app limit goal moves k ≡ run → (n : ℕ) → k ≤ n → ran app limit goal moves n ≡ run
 ran_on app limit goal moves run k stays is zero within =
     let same : k ≡ 0 = omega (arith, within) in
@@ -57,7 +57,7 @@ pub record AreLaidOn (old new : Moves) : Type 0 where
   pub more : length old.done ≤ length new.done
 
 -- A run of so many moves laid them on, or fewer where it met its goal, which it has.
-abbrev pub LaysOn : Option Condition → Moves → ℕ → Run → Type 0
+abbrev pub LaysOn : Option Condition → Moves → ℕ → PolicyRun → Type 0
 LaysOn goal old n (Going new) = AreLaidOn old new × (length new.done ≡ length old.done + n)
 LaysOn goal old n (AtGoal new) = AreLaidOn old new × IsSome goal
 LaysOn goal old n (Refused refusal) = Unit {0}
@@ -71,7 +71,7 @@ looked_lays (Some condition) old new n s laid so_many = by (holds s condition)
     by true = (laid, refl)
     by false = (laid, so_many)
 
-lays_more : (app : Application) (limit : ℕ) (goal : Option Condition) (old : Moves) (n : ℕ) (run : Run) → LaysOn goal old n run
+lays_more : (app : Application) (limit : ℕ) (goal : Option Condition) (old : Moves) (n : ℕ) (run : PolicyRun) → LaysOn goal old n run
     → LaysOn goal old (suc n) (run_on app limit goal run)
 lays_more app limit goal old n (Going moves) lays = by (moved app limit moves move)
   where
@@ -112,7 +112,7 @@ ran_adds app limit goal moves mid first is (suc n) =
 pub runs_add_up : RunsAddUp
 runs_add_up app limit moves first then done = by (run_of app limit None moves first) refl done
   where
-    by : (run : Run) → run_of app limit None moves first ≡ run → is_refusal (run_response None run) ≡ false
+    by : (run : PolicyRun) → run_of app limit None moves first ≡ run → is_refusal (run_response None run) ≡ false
         → response_to app limit (moves_after moves (run_response None run)) (Forward then) ≡ response_to app limit moves (Forward (first + then))
     by (Going mid) is done =
         let laid = (subst (LaysOn None moves first) is (run_lays_on app limit None moves first)).0 in
@@ -141,7 +141,7 @@ never_looked goal moves (Err refusal) other is =
     let same : refusal ≡ NoMemory = cc in
     other (ap (λ (r : Refusal). Err r) same)
 
-never_on : (app : Application) (limit : ℕ) (goal : Option Condition) (run : Run) → run ≢ Refused NoMemory → run_on app limit goal run ≢ Refused NoMemory
+never_on : (app : Application) (limit : ℕ) (goal : Option Condition) (run : PolicyRun) → run ≢ Refused NoMemory → run_on app limit goal run ≢ Refused NoMemory
 never_on app limit goal (Going moves) other is =
     never_looked goal (moved_on moves (chosen app moves)) (moved app limit moves (chosen app moves)) (never_moved app limit moves (chosen app moves)) is
 never_on app limit goal (AtGoal moves) other is = other is
@@ -151,7 +151,7 @@ pub never_ran : (app : Application) (limit : ℕ) (goal : Option Condition) (mov
 never_ran app limit goal moves zero is = grind (arith, is)
 never_ran app limit goal moves (suc n) is = never_on app limit goal (ran app limit goal moves n) (never_ran app limit goal moves n) is
 
-abbrev is_stopped : Run → Bool
+abbrev is_stopped : PolicyRun → Bool
 is_stopped (Going moves) = false
 is_stopped (AtGoal moves) = false
 is_stopped (Refused refusal) = true
@@ -166,12 +166,12 @@ first_made app limit goal moves zero goes = by (moved app limit moves (chosen ap
     by (Err refusal) goes = absurd (false≢true (sym goes))
 first_made app limit goal moves (suc n) goes = first_made app limit goal moves n (before (ran app limit goal moves (suc n)) goes)
   where
-    before : (run : Run) → is_stopped (run_on app limit goal run) ≡ false → is_stopped run ≡ false
+    before : (run : PolicyRun) → is_stopped (run_on app limit goal run) ≡ false → is_stopped run ≡ false
     before (Going there) goes = refl
     before (AtGoal there) goes = refl
     before (Refused refusal) goes = goes
 
-abbrev moves_in : Moves → Run → Moves
+abbrev moves_in : Moves → PolicyRun → Moves
 moves_in other (Going moves) = moves
 moves_in other (AtGoal moves) = moves
 moves_in other (Refused refusal) = other

@@ -63,7 +63,7 @@ selected_once : state_after overwrites (one_move ∷ one_move ∷ one_move ∷ o
     ≡ Ok (runs_with (task_of 7 0 (8 ∷ []) Run) (queue_of 1 []) (queue_set_of []))
 selected_once = refl
 
--- ---- a send into a set without room has failed, and has sent nothing
+-- ---- a send into a set without space has failed, and has sent nothing
 
 abbrev sends_twice : Application
 sends_twice = over_a_queue_set 2 (instr.Queue 0 (call.Send Back (Number 0)) ∷ instr.Queue 0 (call.Send Back (Number 0)) ∷ instr.Local End ∷ [])

@@ -82,7 +82,7 @@ goes_on old now goal made r going app limit leads is =
     ∙ ap (looked_for goal (moved_on moves (policy_of now.target))) is
 
 -- It is made, with its record, and the goal met by it or not.
-pub record GoesOn (old next : Course) (goal : Option Condition) (made : ℕ) (met : Bool) : Type 0 where
+pub record MakesOneMore (old next : Course) (goal : Option Condition) (made : ℕ) (met : Bool) : Type 0 where
   pub run : run_from old goal made ≡ ended met (moves_of next)
   pub stands : StandsOn old next
   pub ahead : IsAhead next
@@ -91,7 +91,7 @@ pub one_more : (old now next : Course) (goal : Option Condition) (made : ℕ) (m
     → StandsOn old now → state_after now.app now.done ≡ Ok now.target → action ≡ policy_of now.target → length now.done ≢ now.limit
     → step now.app now.target action ≡ Ok next.target → moves_of next ≡ moved_on (moves_of now) action → next.app ≡ now.app → next.limit ≡ now.limit
     → RecordsMoves now next → bytes_of now.log + MAX_KEPT_BYTES ≤ next.room.bytes → HasGrown now.room next.room → next.read ≡ now.read
-    → meets goal next.target ≡ met → GoesOn old next goal (made + 1) met
+    → meets goal next.target ≡ met → MakesOneMore old next goal (made + 1) met
 one_more old now next goal made met action going stands leads is room steps moves app limit recorded ahead grows read looked =
     let done = ap (λ (ms : Moves). ms.done) moves in
     let stands_one = StandsOn-one now next action app limit done recorded grows read in

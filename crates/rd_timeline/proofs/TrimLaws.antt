@@ -16,7 +16,7 @@ use Rattle.rd_moves.specs.declared.request.Request.TheVariants.{Go, Back, Forwar
 use Rattle.rd_moves.specs.declared.request.Request.TheVariants.{BackUntil, Trim}
 use Rattle.rd_timeline.specs.RunLaws.{BaseIsWithinMoves, EditsLeaveNoTrace, HeldLast, KeptGoesAsBefore, OnlyTrimsMoveTheBase, RedoUndoesBack, TrimLeavesMoves, TrimsMeet, is_refusal, is_refused}
 use Rattle.rd_calls.specs.Step.{move_answer}
-use Rattle.rd_timeline.specs.Runs.{Ending, Plain, Run, Going, AtGoal, Refused, ending_of}
+use Rattle.rd_timeline.specs.Runs.{Ending, Plain, PolicyRun, Going, AtGoal, Refused, ending_of}
 use Rattle.rd_timeline.specs.Runs.{Moves, Leaves, Refuses, answered, back_at, go_response, kept, last_place, moved, moved_on, moves_after, redone, response_to, run_of, run_response, search_response, state_of, trimmed}
 use Rattle.rd_timeline.proofs.PolicyLaws.{LaysOn, run_lays_on}
 use Rattle.rd_timeline.proofs.RefusedLaws.{went_on}
@@ -120,7 +120,7 @@ stays_if : (moves new : Moves) (refusal : Refusal) (b : Bool) → new.base ≡ m
 stays_if moves new refusal true same = same
 stays_if moves new refusal false same = refl
 
-stays_by_run : (moves : Moves) (goal : Option Condition) (n : ℕ) (run : Run) → LaysOn goal moves n run
+stays_by_run : (moves : Moves) (goal : Option Condition) (n : ℕ) (run : PolicyRun) → LaysOn goal moves n run
     → (moves_after moves (run_response goal run)).base ≡ moves.base
 stays_by_run moves goal n (Going new) lays = lays.0.base
 stays_by_run moves goal n (AtGoal new) lays = lays.0.base
@@ -169,7 +169,7 @@ within_by_redo : (moves : Moves) (count : ℕ) (b : Bool) → IsWithin moves
 within_by_redo moves count true within = omega (arith, within, length-append moves.done (take count moves.undone))
 within_by_redo moves count false within = within
 
-within_by_run : (moves : Moves) (goal : Option Condition) (n : ℕ) (run : Run) → LaysOn goal moves n run → IsWithin moves
+within_by_run : (moves : Moves) (goal : Option Condition) (n : ℕ) (run : PolicyRun) → LaysOn goal moves n run → IsWithin moves
     → IsWithin (moves_after moves (run_response goal run))
 within_by_run moves goal n (Going new) lays within = omega (arith, within, lays.0.base, lays.0.more)
 within_by_run moves goal n (AtGoal new) lays within = omega (arith, within, lays.0.base, lays.0.more)

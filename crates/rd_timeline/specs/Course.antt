@@ -19,13 +19,13 @@ use Rattle.rd_timeline.specs.declared.logged.TheConstants.{MAX_KEPT_BYTES}
 
 -- for how many moves done there is room, for how many of those that carry something, and for how
 -- many bytes of records
-pub record Room : Type 0 where
+pub record Capacity : Type 0 where
   pub moves : ℕ
   pub carried : ℕ
   pub bytes : ℕ
 
 -- There is no less room than before.
-pub record HasGrown (old new : Room) : Type 0 where
+pub record HasGrown (old new : Capacity) : Type 0 where
   pub moves : old.moves ≤ new.moves
   pub carried : old.carried ≤ new.carried
   pub bytes : old.bytes ≤ new.bytes
@@ -40,7 +40,7 @@ pub record Course : Type 0 where
   pub done : List PlainMove
   pub log : List (List Change)
   pub undone : List PlainMove
-  pub room : Room
+  pub room : Capacity
   pub read : ℕ
 
 -- how many of the moves done have no record any more
@@ -53,7 +53,7 @@ IsAsItWas old new = new ≡ record old { room = new.room }
 
 -- The moves can be made from boot, one after the other, and there is room for as many, and for what
 -- they carry.
-pub record AreMade (app : Application) (limit : ℕ) (room : Room) (moves : List PlainMove)
+pub record AreMade (app : Application) (limit : ℕ) (room : Capacity) (moves : List PlainMove)
     : Type 0 where
   pub state : IsOk (state_after app moves)
   pub named : All (IsMoveOf app) moves
@@ -63,7 +63,7 @@ pub record AreMade (app : Application) (limit : ℕ) (room : Room) (moves : List
 
 -- From the base on there is a record for each move done. Going back by them retraces these moves,
 -- and can be done. From there the moves undone lead on.
-pub record IsKept (course : Course) : Type 0 where
+pub record IsTraced (course : Course) : Type 0 where
   pub records : length course.log ≤ length course.done
   pub retraces : Retraces course.app (base_of course) course.done course.log course.target
   pub rewinds : CanRewind course.target course.log

@@ -2,7 +2,7 @@
 use Rattle.std.specs.Prelude.{◌-◌, ◌≤◌}
 use Rattle.rd_app.specs.Application.{IsApplication}
 use Rattle.rd_timeline.specs.declared.timeline.Timeline.TheInside.{Inside}
-use Rattle.rd_timeline.specs.Course.{Course, IsKept}
+use Rattle.rd_timeline.specs.Course.{Course, IsTraced}
 
 -- What was read to go back is all that was read of records, but for what was read otherwise.
 abbrev pub course_of : Inside → Course
@@ -21,8 +21,8 @@ course_of t = record {
   read = t.journal.read - t.others.bytes;
 }
 
--- The way back is kept. What was read otherwise is no more than what was read.
+-- The way back is traced. What was read otherwise is no more than what was read.
 pub record IsWhole (t : Inside) : Type 0 where
-  pub kept : IsKept (course_of t)
+  pub traced : IsTraced (course_of t)
   pub limits : IsApplication t.app
   pub others : t.others.bytes ≤ t.journal.read

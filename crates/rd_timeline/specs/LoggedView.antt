@@ -17,6 +17,6 @@ pub record LoggedView : Type 0 where
   pub read : ℕ
 
 -- Why a move isn't made: the kernel's rules refuse it, or else there is no memory for its record.
-abbrev pub IsWhyNotKept : Application → Snapshot → PlainMove → Refusal → Type 0
-IsWhyNotKept app s move refusal =
+abbrev pub IsWhyNotPlayed : Application → Snapshot → PlainMove → Refusal → Type 0
+IsWhyNotPlayed app s move refusal =
     (step app s move ≡ Err refusal) ⊎ (IsOk (step app s move) × (refusal ≡ NoMemory))

@@ -6,10 +6,10 @@ use Rattle.rd_calls.specs.Step.{policy_of}
 use Rattle.rd_condition.specs.declared.condition.Condition.{Condition}
 use Rattle.rd_timeline.specs.Course.{Course, LacksRoom}
 use Rattle.rd_timeline.specs.Recorded.{StandsOn}
-use Rattle.rd_timeline.specs.Runs.{Moves, Run, Going, Refused, can_make, chosen, moves_of, run_of}
+use Rattle.rd_timeline.specs.Runs.{Moves, PolicyRun, Going, Refused, can_make, chosen, moves_of, run_of}
 
 -- the run from there
-abbrev pub run_from : Course → Option Condition → ℕ → Run
+abbrev pub run_from : Course → Option Condition → ℕ → PolicyRun
 run_from course goal count = run_of course.app course.limit goal (moves_of course) count
 
 -- There is no memory for a move of the run that could be made.

@@ -84,13 +84,13 @@ trimmed moves keep = record moves { base = max moves.base (length moves.done - k
 
 -- what has become of a run: it left these moves and goes on, or it met its goal there; or a move
 -- was refused
-pub data Run : Type 0 where
-  Going : Moves → Run
-  AtGoal : Moves → Run
-  Refused : Refusal → Run
+pub data PolicyRun : Type 0 where
+  Going : Moves → PolicyRun
+  AtGoal : Moves → PolicyRun
+  Refused : Refusal → PolicyRun
 
 -- a run whose goal is met, or not
-abbrev pub ended : Bool → Moves → Run
+abbrev pub ended : Bool → Moves → PolicyRun
 ended met moves = if met then AtGoal moves else Going moves
 
 -- Is the goal met, if there is one?
@@ -99,24 +99,24 @@ meets None s = false
 meets (Some condition) s = holds s condition
 
 -- the goal is looked for where a move left these moves, and gave a state or was refused
-abbrev pub looked_for : Option Condition → Moves → Result Snapshot Refusal → Run
+abbrev pub looked_for : Option Condition → Moves → Result Snapshot Refusal → PolicyRun
 looked_for goal moves (Ok s) = ended (meets goal s) moves
 looked_for goal moves (Err refusal) = Refused refusal
 
 -- one move more, unless the run is at its end
-abbrev pub run_on : Application → ℕ → Option Condition → Run → Run
+abbrev pub run_on : Application → ℕ → Option Condition → PolicyRun → PolicyRun
 run_on app limit goal (Going moves) =
     looked_for goal (moved_on moves (chosen app moves)) (moved app limit moves (chosen app moves))
 run_on app limit goal (AtGoal moves) = AtGoal moves
 run_on app limit goal (Refused refusal) = Refused refusal
 
 -- so many moves, one after the other
-abbrev pub ran : Application → ℕ → Option Condition → Moves → ℕ → Run
+abbrev pub ran : Application → ℕ → Option Condition → Moves → ℕ → PolicyRun
 ran app limit goal moves zero = Going moves
 ran app limit goal moves (suc n) = run_on app limit goal (ran app limit goal moves n)
 
 -- a run to a goal, if it has one, of so many moves at the most; the moves undone are forgotten
-abbrev pub run_of : Application → ℕ → Option Condition → Moves → ℕ → Run
+abbrev pub run_of : Application → ℕ → Option Condition → Moves → ℕ → PolicyRun
 run_of app limit goal moves count = ran app limit goal (record moves { undone = [] }) count
 
 -- ---- what comes of a request
@@ -150,7 +150,7 @@ end_of None end = Plain
 end_of (Some condition) end = Searched end
 
 -- what comes of a run to a goal, if it has one
-abbrev pub run_response : Option Condition → Run → Response
+abbrev pub run_response : Option Condition → PolicyRun → Response
 run_response goal (Going moves) = Leaves moves (end_of goal Limit)
 run_response goal (AtGoal moves) = Leaves moves (end_of goal Met)
 run_response goal (Refused refusal) = Refuses refusal

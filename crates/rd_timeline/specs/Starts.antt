@@ -13,7 +13,7 @@ pub record IsStartOf (course : Course) (start : Start) : Type 0 where
 -- undone could all be made, and there is room for them.
 pub record CanCancel (old : Course) (start : Start) : Type 0 where
   pub earlier : start.done ≤ length old.done
-  pub kept : length old.done - start.done ≤ length old.log
+  pub recorded : length old.done - start.done ≤ length old.log
   pub made : AreMade old.app old.limit old.room (take start.done old.done ++ start.undone)
 
 -- All is as it was there.

@@ -62,7 +62,7 @@ fn go(timeline: &mut Timeline, action: &Move<Lent<'_>>) -> Result<Answer, NoMemo
     requires { IsMoveOf timeline.old.app action.now }
     ensures { Obeys timeline.old (request.Go action.now) timeline.new result }
 {
-    timeline.keeps();
+    timeline.by_invariant();
     let answer = move_answer(timeline.app(), timeline.target(), action);
     told_of_move(timeline.go(action), answer)
 }
@@ -71,7 +71,7 @@ fn go(timeline: &mut Timeline, action: &Move<Lent<'_>>) -> Result<Answer, NoMemo
 fn back(timeline: &mut Timeline, count: Count) -> Answer
     ensures { Obeys timeline.old (request.Back count) timeline.new (Ok result) }
 {
-    timeline.keeps();
+    timeline.by_invariant();
     match timeline.back(count.get()) {
         Ok(at) => Answer::Done { at },
         Err(refusal) => Answer::Refused { refusal },
@@ -82,7 +82,7 @@ fn back(timeline: &mut Timeline, count: Count) -> Answer
 fn forward(timeline: &mut Timeline, count: Count) -> Result<Answer, NoMemory>
     ensures { Obeys timeline.old (request.Forward count) timeline.new result }
 {
-    timeline.keeps();
+    timeline.by_invariant();
     told(timeline.forward(count.get()))
 }
 
@@ -90,7 +90,7 @@ fn forward(timeline: &mut Timeline, count: Count) -> Result<Answer, NoMemory>
 fn redo(timeline: &mut Timeline, count: Count) -> Result<Answer, NoMemory>
     ensures { Obeys timeline.old (request.Redo count) timeline.new result }
 {
-    timeline.keeps();
+    timeline.by_invariant();
     told(timeline.redo(count.get()))
 }
 
@@ -120,7 +120,7 @@ fn until(timeline: &mut Timeline, condition: Condition, count: Count) -> Result<
     requires { IsConditionOf timeline.old.app condition }
     ensures { Obeys timeline.old (request.Until condition count) timeline.new result }
 {
-    timeline.keeps();
+    timeline.by_invariant();
     ended(timeline.until(condition, count.get()))
 }
 
@@ -129,7 +129,7 @@ fn back_until(timeline: &mut Timeline, condition: Condition) -> Answer
     requires { IsConditionOf timeline.old.app condition }
     ensures { Obeys timeline.old (request.BackUntil condition) timeline.new (Ok result) }
 {
-    timeline.keeps();
+    timeline.by_invariant();
     let FoundPlace { at, met } = timeline.back_until(condition);
     let end = if met {
         SearchEnd::Met
@@ -143,7 +143,7 @@ fn back_until(timeline: &mut Timeline, condition: Condition) -> Answer
 fn trim(timeline: &mut Timeline, keep: usize) -> Answer
     ensures { Obeys timeline.old (request.Trim keep) timeline.new (Ok result) }
 {
-    timeline.keeps();
+    timeline.by_invariant();
     let at = timeline.trim(keep);
     Answer::Done { at }
 }

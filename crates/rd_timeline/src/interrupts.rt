@@ -24,7 +24,7 @@ use rd_refusal::refusal::Refusal;
 impl Timeline {
     /// Makes an interrupt: it is laid on the moves done, and the moves undone are forgotten, also
     /// where it answers 0. Answers what it answered: 1 (`pdPASS`), or 0 where its item found no
-    /// room (`errQUEUE_FULL`) or its notification left the entry alone (`pdFAIL`). A refusal leaves
+    /// space (`errQUEUE_FULL`) or its notification left the entry alone (`pdFAIL`). A refusal leaves
     /// the timeline as it was: `MovesFull` where the moves done are at their limit, else `NoIsr`
     /// where the application has profile 1, else `NoMemory` where a growth was refused. There is no
     /// other.
@@ -55,7 +55,7 @@ impl Timeline {
         ensures grows { HasGrown self.old.room self.new.room }
         ensures err { OnErr result (IsAsItWas self.old self.new) }
     {
-        self.keeps();
+        self.by_invariant();
         let carried = Carried::Interrupt { interrupt };
         let action = Move::Carried {
             carried: Lent::new(&carried),

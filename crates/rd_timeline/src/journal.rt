@@ -13,7 +13,7 @@ ghost use Rattle.rd_timeline.specs.Decoded.{byte_of, carried_among, carried_at, 
 ghost use Rattle.rd_timeline.specs.Decoded.{HasByte, is_carried_byte, move_of};
 ghost use Rattle.rd_timeline.specs.JournalView.{next_undone, HasCarriedRoom, IsAsBefore};
 ghost use Rattle.rd_timeline.specs.LogView.{bytes_of, RecordsMove};
-ghost use Rattle.rd_timeline.specs.LoggedView.{IsWhyNotKept};
+ghost use Rattle.rd_timeline.specs.LoggedView.{IsWhyNotPlayed};
 ghost use Rattle.rd_timeline.specs.declared.logged.TheConstants.{MAX_KEPT_BYTES};
 
 use crate::carried::CarriedList;
@@ -217,13 +217,13 @@ impl Journal {
         ensures undone { OnOk result (self.new.undone ≡ []) }
         ensures ahead { OnOk result
             (bytes_of self.old.records + MAX_KEPT_BYTES ≤ self.new.memory) }
-        ensures refusals { IfErr result (IsWhyNotKept app.now self.old.target action.now) }
+        ensures refusals { IfErr result (IsWhyNotPlayed app.now self.old.target action.now) }
         ensures short { IsErrOf result Refusal.NoMemory
             → self.old.memory < bytes_of self.old.records + MAX_KEPT_BYTES }
         ensures err { OnErr result (IsAsBefore self.old self.new) }
         ensures read { self.new.read ≡ self.old.read }
-        ensures kept_capacity { self.new.capacity ≡ self.old.capacity }
-        ensures kept_carried_capacity { self.new.carried_capacity ≡ self.old.carried_capacity }
+        ensures same_capacity { self.new.capacity ≡ self.old.capacity }
+        ensures same_carried_capacity { self.new.carried_capacity ≡ self.old.carried_capacity }
         ensures grows { self.old.memory ≤ self.new.memory }
     {
         app.limits();
@@ -254,13 +254,13 @@ impl Journal {
         ensures ahead { OnOk result
             (bytes_of self.old.records + MAX_KEPT_BYTES ≤ self.new.memory) }
         ensures refusals { IfErr result
-            (IsWhyNotKept app.now self.old.target (next_undone self.old)) }
+            (IsWhyNotPlayed app.now self.old.target (next_undone self.old)) }
         ensures short { IsErrOf result Refusal.NoMemory
             → self.old.memory < bytes_of self.old.records + MAX_KEPT_BYTES }
         ensures err { OnErr result (IsAsBefore self.old self.new) }
         ensures read { self.new.read ≡ self.old.read }
-        ensures kept_capacity { self.new.capacity ≡ self.old.capacity }
-        ensures kept_carried_capacity { self.new.carried_capacity ≡ self.old.carried_capacity }
+        ensures same_capacity { self.new.capacity ≡ self.old.capacity }
+        ensures same_carried_capacity { self.new.carried_capacity ≡ self.old.carried_capacity }
         ensures grows { self.old.memory ≤ self.new.memory }
     {
         let byte = self.moves[self.done];
@@ -335,8 +335,8 @@ impl Journal {
             ≡ drop (length self.old.done - n) self.old.done ++ self.old.undone }
         ensures records { self.new.records
             ≡ take (length self.old.records - n) self.old.records }
-        ensures kept_capacity { self.new.capacity ≡ self.old.capacity }
-        ensures kept_carried_capacity { self.new.carried_capacity ≡ self.old.carried_capacity }
+        ensures same_capacity { self.new.capacity ≡ self.old.capacity }
+        ensures same_carried_capacity { self.new.carried_capacity ≡ self.old.carried_capacity }
         ensures same_memory { self.new.memory ≡ self.old.memory }
         ensures read { self.new.read ≡ self.old.read
             + bytes_of (drop (length self.old.records - n) self.old.records) }
@@ -358,8 +358,8 @@ impl Journal {
             ≡ drop (length self.old.records - n) self.old.records }
         ensures read { self.new.read
             ≡ self.old.read + (if nat_lt n (length self.old.records) then 8 * n else 0) }
-        ensures kept_capacity { self.new.capacity ≡ self.old.capacity }
-        ensures kept_carried_capacity { self.new.carried_capacity ≡ self.old.carried_capacity }
+        ensures same_capacity { self.new.capacity ≡ self.old.capacity }
+        ensures same_carried_capacity { self.new.carried_capacity ≡ self.old.carried_capacity }
         ensures same_memory { self.new.memory ≡ self.old.memory }
     {
         self.logged.keep_last(n);

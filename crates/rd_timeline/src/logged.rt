@@ -10,7 +10,7 @@ ghost use Rattle.rd_state.specs.Settled.{IsSettled};
 ghost use Rattle.rd_state.specs.Undoing.{undone, CanUndo};
 ghost use Rattle.rd_state.specs.Valid.{IsValid};
 ghost use Rattle.rd_timeline.specs.LogView.{bytes_of, RecordsMove};
-ghost use Rattle.rd_timeline.specs.LoggedView.{IsWhyNotKept};
+ghost use Rattle.rd_timeline.specs.LoggedView.{IsWhyNotPlayed};
 ghost use Rattle.rd_timeline.specs.History.{rewound, CanRewind};
 ghost use Rattle.rd_calls.specs.declared.play.TheConstants.{MAX_RECORD_BYTES};
 ghost use Rattle.rd_state.specs.PackedChanges.{all_packed, IsPackable};
@@ -134,7 +134,7 @@ impl Logged {
             self.new.target self.old.records self.new.records) }
         ensures ahead { OnOk result
             (bytes_of self.old.records + MAX_KEPT_BYTES ≤ self.new.memory) }
-        ensures refusals { IfErr result (IsWhyNotKept app.now self.old.target action.now) }
+        ensures refusals { IfErr result (IsWhyNotPlayed app.now self.old.target action.now) }
         ensures short { IsErrOf result Refusal.NoMemory
             → self.old.memory < bytes_of self.old.records + MAX_KEPT_BYTES }
         ensures err { OnErr result (self.new.records ≡ self.old.records) }

@@ -36,7 +36,7 @@ impl Timeline {
         requires { IfSome goal (IsConditionOf self.now.app) }
         ensures { result ≡ meets goal self.now.target }
     {
-        self.keeps();
+        self.by_invariant();
         match goal {
             Some(condition) => condition.holds(self.target()),
             None => false,
@@ -50,7 +50,7 @@ impl Timeline {
         if self.at() == self.limit() {
             return Refusal::MovesFull;
         }
-        self.keeps();
+        self.by_invariant();
         let action = policy(self.target());
         why_not(self.app(), self.target(), &action).unwrap_or(Refusal::NoMemory)
     }
@@ -67,9 +67,9 @@ impl Timeline {
         ensures refusals { IfErr result (IsWhyNoRun self.old goal count) }
         ensures short { IsErrOf result Refusal.NoMemory → RunLacksRoom self.old goal count }
     {
-        self.keeps();
+        self.by_invariant();
         for _ in 0..count {
-            self.keeps();
+            self.by_invariant();
             let action = policy(self.target());
             self.go(&action)?;
             if self.meets(goal) {
@@ -96,7 +96,7 @@ impl Timeline {
         ensures short { IsErrOf result Refusal.NoMemory → MayLackMemory self.old goal count }
         ensures err { OnErr result (IsAsItWas self.old self.new) }
     {
-        self.keeps();
+        self.by_invariant();
         let Ok(start) = self.begin_run() else {
             return Err(self.why_no_move());
         };
@@ -130,9 +130,9 @@ impl Timeline {
         ensures short { IsErrOf result Refusal.NoMemory → MayLackMemory self.old None count }
         ensures err { OnErr result (IsAsItWas self.old self.new) }
     {
-        self.keeps();
+        self.by_invariant();
         self.run_by_policy(None, count)?;
-        self.keeps();
+        self.by_invariant();
         Ok(self.at())
     }
 
@@ -157,9 +157,9 @@ impl Timeline {
             → MayLackMemory self.old (Some condition) count }
         ensures err { OnErr result (IsAsItWas self.old self.new) }
     {
-        self.keeps();
+        self.by_invariant();
         let met = self.run_by_policy(Some(condition), count)?;
-        self.keeps();
+        self.by_invariant();
         Ok(FoundPlace { at: self.at(), met })
     }
 
@@ -171,7 +171,7 @@ impl Timeline {
         ensures part { HasRedonePart self.old count self.new }
         ensures short { OnErr result (RedoLacksRoom self.old count) }
     {
-        self.keeps();
+        self.by_invariant();
         for _ in 0..count {
             self.redo_one()?;
         }
@@ -197,7 +197,7 @@ impl Timeline {
         ensures short { IsErrOf result Refusal.NoMemory → RedoLacksRoom self.old count }
         ensures err { OnErr result (IsAsItWas self.old self.new) }
     {
-        self.keeps();
+        self.by_invariant();
         if count > self.left() {
             return Err(Refusal::NothingUndone);
         }
@@ -206,7 +206,7 @@ impl Timeline {
             self.go_back(self.at() - done);
             return Err(Refusal::NoMemory);
         }
-        self.keeps();
+        self.by_invariant();
         Ok(self.at())
     }
 
@@ -227,7 +227,7 @@ impl Timeline {
             ≡ self.old.read + bytes_of (drop (result.at - base_of self.old) self.old.log) }
         ensures leads { state_after self.new.app self.new.done ≡ Ok self.new.target }
     {
-        self.keeps();
+        self.by_invariant();
         for _ in 0..self.kept() {
             self.back(1).unwrap();
             if self.meets(Some(condition)) {
@@ -237,7 +237,7 @@ impl Timeline {
                 };
             }
         }
-        self.keeps();
+        self.by_invariant();
         FoundPlace {
             at: self.at(),
             met: false,

@@ -26,7 +26,7 @@ impl Timeline {
         ensures limit { self.new.limit ≡ self.old.limit }
         ensures leads { state_after self.new.app self.new.done ≡ Ok self.new.target }
     {
-        self.keeps();
+        self.by_invariant();
         for request in requests {
             self.answer(request)?;
         }

@@ -8,7 +8,7 @@ ghost use Rattle.rd_state.specs.Settled.{IsSettled};
 ghost use Rattle.rd_state.specs.Valid.{IsValid};
 ghost use Rattle.rd_calls.specs.Step.{step};
 ghost use Rattle.rd_moves.specs.Moves.{IsMoveOf};
-ghost use Rattle.rd_timeline.specs.Course.{IsKept, IsFull, IsRefusedBy, CanGo};
+ghost use Rattle.rd_timeline.specs.Course.{IsTraced, IsFull, IsRefusedBy, CanGo};
 ghost use Rattle.rd_timeline.specs.Course.{HasGrown, IsAsItWas, IsWhyNot, LacksBytes, LacksRoom};
 ghost use Rattle.rd_timeline.specs.History.{state_after};
 ghost use Rattle.rd_timeline.specs.LogView.{bytes_of};
@@ -86,8 +86,8 @@ impl Timeline {
 
     /// For contracts alone: the target is what the moves done give from boot, with nothing left to
     /// schedule, and the log leads back through the last of them.
-    pub fn keeps(&self)
-        ensures kept { IsKept self.now }
+    pub fn by_invariant(&self)
+        ensures traced { IsTraced self.now }
         ensures leads { state_after self.now.app self.now.done ≡ Ok self.now.target }
         ensures valid { IsValid self.now.app self.now.target }
         ensures settled { IsSettled (priorities_of self.now.app) self.now.target }
@@ -203,7 +203,7 @@ impl Timeline {
         let before = self.journal.count();
         self.journal.take_back(n);
         self.others = self.others.more(&before, &self.journal.count());
-        self.keeps();
+        self.by_invariant();
     }
 
     /// Goes back by `n` kept moves, which can be redone, the last one undone first. Answers how
@@ -231,7 +231,7 @@ impl Timeline {
             return Err(Refusal::TooFar { kept });
         }
         self.journal.take_back(n);
-        self.keeps();
+        self.by_invariant();
         Ok(self.at())
     }
 
@@ -252,7 +252,7 @@ impl Timeline {
         let before = self.journal.count();
         self.journal.keep_last(keep);
         self.others = self.others.more(&before, &self.journal.count());
-        self.keeps();
+        self.by_invariant();
         self.at()
     }
 

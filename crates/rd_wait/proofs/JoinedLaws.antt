@@ -5,7 +5,7 @@ use Rattle.std.specs.List.{prefix_len, AllByRecursion}
 use Rattle.std.proofs.Math.Dec.{leb}
 use Rattle.std.proofs.lemmas.Bool.{le-leb}
 use Rattle.std.proofs.lemmas.Bool.Decides.{leb_tells, nat_tests}
-use Rattle.rd_wait.specs.Joined.{sorted_in, joined, is_at_least, IsInOrder, JoiningKeepsTheOrder}
+use Rattle.rd_wait.specs.Joined.{sorted_in, joined, is_at_least, IsInOrder, JoiningPreservesTheOrder}
 use Rattle.rd_wait.proofs.ListLaws.{AllByRecursion-insert, AllByRecursion-remove, AllByRecursion-weaker}
 
 -- a task that is put in after the first member and n more, or before all, as a test says
@@ -89,5 +89,5 @@ joined-sorted_in priorities (first ∷ rest) task h =
           ∙ ap (λ r. task ∷ r) (sym none.1) ∙ ap (λ r. r ++ task ∷ filter low (first ∷ rest)) (sym none.0)
     ]
 
-pub joining_keeps_the_order : JoiningKeepsTheOrder
-joining_keeps_the_order priorities tasks task h = (joined-sorted_in priorities tasks task h, IsInOrder-joined priorities tasks task h)
+pub joining_preserves_the_order : JoiningPreservesTheOrder
+joining_preserves_the_order priorities tasks task h = (joined-sorted_in priorities tasks task h, IsInOrder-joined priorities tasks task h)

@@ -37,7 +37,7 @@ sorted_in priorities tasks task =
     ∷ filter (λ member. nat_lt (slice_index priorities member) (slice_index priorities task)) tasks
 
 -- To join a list in order is to be sorted in, and the list stays in order.
-abbrev pub JoiningKeepsTheOrder : Type 0
-JoiningKeepsTheOrder = (priorities tasks : List ℕ) (task : ℕ) → IsInOrder priorities tasks
+abbrev pub JoiningPreservesTheOrder : Type 0
+JoiningPreservesTheOrder = (priorities tasks : List ℕ) (task : ℕ) → IsInOrder priorities tasks
     → (joined priorities tasks task ≡ sorted_in priorities tasks task)
     × IsInOrder priorities (joined priorities tasks task)

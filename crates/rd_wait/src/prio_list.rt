@@ -3,7 +3,7 @@
 ghost use Rattle.std.specs.Prelude.{◌≡◌, ◌↔◌, ◌+◌, ◌<◌, ◌≤◌, IsTrue, [], ◌∷◌, ◌++◌, length};
 ghost use Rattle.std.specs.Prelude.{All, IfOk, IfSome, take, drop, insert, remove, position};
 ghost use Rattle.std.specs.Prelude.{slice_get, nat_eq, slice_index_or};
-ghost use Rattle.rd_wait.specs.Joined.{index_for, HavePriorities, JoiningKeepsTheOrder};
+ghost use Rattle.rd_wait.specs.Joined.{index_for, HavePriorities, JoiningPreservesTheOrder};
 
 use std::alloc::{AllocError, Global};
 use std::marker::Model;
@@ -134,6 +134,6 @@ impl PrioList {
 
 /// A law: a task joins a list in order after every member of at least its priority and before every
 /// other, and the list stays in order.
-pub fn joining_keeps_the_order()
-    ensures { JoiningKeepsTheOrder }
+pub fn joining_preserves_the_order()
+    ensures { JoiningPreservesTheOrder }
 {}

@@ -1,7 +1,7 @@
 -- The goals of `play_carried` that the check left open.
 use Rattle.std.proofs.Common.{◌≡◌, refl, rules}
 use Rattle.std.specs.Prelude.{OnErr, OnOk}
-use Rattle.rd_state.specs.Edit.{added, begun_at}
+use Rattle.rd_state.specs.EditingView.{added, begun_at}
 use Rattle.rd_moves.specs.declared.moves.Move.TheVariants as move
 use Rattle.rd_calls.specs.Step.{IsPlayed}
 use Rattle.rd_calls.proofs.CarriedLaws.{CanPlay-from, Leads-carried}

@@ -1,7 +1,7 @@
 -- The tasks before this one were looked at.
 use Rattle.std.proofs.Common.{◌+◌, ◌*◌}
 use Rattle.rd_app.specs.Application.{priorities_of}
-use Rattle.rd_state.specs.Edit.{Reaches}
+use Rattle.rd_state.specs.EditingView.{Reaches}
 use Rattle.rd_kernel.specs.Waking.{timed_out}
 use Rattle.rd_calls.proofs.tick.begin_tick.Given as goal
 

@@ -1,6 +1,6 @@
 -- The tasks before this one are woken.
 use Rattle.std.proofs.Common.{◌*◌, take}
-use Rattle.rd_state.specs.Edit.{Reaches}
+use Rattle.rd_state.specs.EditingView.{Reaches}
 use Rattle.rd_kernel.specs.Waking.{woken_all}
 use Rattle.rd_kernel.proofs.waking.wake_all.Given as goal
 

@@ -3,5 +3,5 @@ use Rattle.std.proofs.Common.{[], arith}
 use Rattle.rd_session.proofs.AnsweringLaws.{on_ok}
 use Rattle.rd_session.proofs.session.make_room.Goals as goal
 
-pub returns-clause-kept : goal.returns-clause-kept
-returns-clause-kept g c = on_ok c.finish.result (λ flushed start heard seat who t. flushed start heard [] seat who (omega arith) t) c.finish.ensures.flushed
+pub returns-clause-goes_on : goal.returns-clause-goes_on
+returns-clause-goes_on g c = on_ok c.finish.result (λ flushed start heard seat who t. flushed start heard [] seat who (omega arith) t) c.finish.ensures.flushed

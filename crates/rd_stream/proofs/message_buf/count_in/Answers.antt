@@ -8,29 +8,29 @@ pub length_at-requires-clause-there : goal.length_at-requires-clause-there
 length_at-requires-clause-there c =
     let bytes = c.args.ring.now.bytes in
     let count = c.loop-at.count in
-    let kept = c.loop-at.invariant in
-    let there : count < length (messages_in bytes) = more_left bytes count c.requires.messages kept.count (omega (arith, kept.at, c.len.ensures.len)) in
-    omega (arith, kept.at, (lies_at bytes count c.requires.messages c.requires.few there).within)
+    let holds = c.loop-at.invariant in
+    let there : count < length (messages_in bytes) = more_left bytes count c.requires.messages holds.count (omega (arith, holds.at, c.len.ensures.len)) in
+    omega (arith, holds.at, (lies_at bytes count c.requires.messages c.requires.few there).within)
 
 pub overflow_add-at : goal.overflow_add-at
 overflow_add-at c =
     let bytes = c.args.ring.now.bytes in
     let count = c.loop-at.count in
-    let kept = c.loop-at.invariant in
-    let there : count < length (messages_in bytes) = more_left bytes count c.requires.messages kept.count (omega (arith, kept.at, c.len.ensures.len)) in
+    let holds = c.loop-at.invariant in
+    let there : count < length (messages_in bytes) = more_left bytes count c.requires.messages holds.count (omega (arith, holds.at, c.len.ensures.len)) in
     let lies = lies_at bytes count c.requires.messages c.requires.few there in
-    let long : c.length_at.result ≡ length (at_index bytes count) = c.length_at.ensures ∙ ap (λ n. first_length (drop n bytes)) kept.at ∙ lies.long in
+    let long : c.length_at.result ≡ length (at_index bytes count) = c.length_at.ensures ∙ ap (λ n. first_length (drop n bytes)) holds.at ∙ lies.long in
     omega (arith, long, lies.within, c.requires.few)
 
 pub overflow_add-at-in-loop-at : goal.overflow_add-at-in-loop-at
 overflow_add-at-in-loop-at c =
     let bytes = c.args.ring.now.bytes in
     let count = c.loop-at.count in
-    let kept = c.loop-at.invariant in
-    let there : count < length (messages_in bytes) = more_left bytes count c.requires.messages kept.count (omega (arith, kept.at, c.len.ensures.len)) in
+    let holds = c.loop-at.invariant in
+    let there : count < length (messages_in bytes) = more_left bytes count c.requires.messages holds.count (omega (arith, holds.at, c.len.ensures.len)) in
     let lies = lies_at bytes count c.requires.messages c.requires.few there in
-    let long : c.length_at.result ≡ length (at_index bytes count) = c.length_at.ensures ∙ ap (λ n. first_length (drop n bytes)) kept.at ∙ lies.long in
-    omega (arith, long, lies.within, kept.at, c.requires.few)
+    let long : c.length_at.result ≡ length (at_index bytes count) = c.length_at.ensures ∙ ap (λ n. first_length (drop n bytes)) holds.at ∙ lies.long in
+    omega (arith, long, lies.within, holds.at, c.requires.few)
 
 pub overflow_add-count : goal.overflow_add-count
 overflow_add-count c =
@@ -41,13 +41,13 @@ pub loop-at-preserved : goal.loop-at-preserved
 loop-at-preserved c =
     let bytes = c.args.ring.now.bytes in
     let count = c.loop-at.count in
-    let kept = c.loop-at.invariant in
-    let there : count < length (messages_in bytes) = more_left bytes count c.requires.messages kept.count (omega (arith, kept.at, c.len.ensures.len)) in
+    let holds = c.loop-at.invariant in
+    let there : count < length (messages_in bytes) = more_left bytes count c.requires.messages holds.count (omega (arith, holds.at, c.len.ensures.len)) in
     let lies = lies_at bytes count c.requires.messages c.requires.few there in
-    let long : c.length_at.result ≡ length (at_index bytes count) = c.length_at.ensures ∙ ap (λ n. first_length (drop n bytes)) kept.at ∙ lies.long in
-    record { at = omega (arith, long, lies.next, kept.at); count = omega (arith, there) }
+    let long : c.length_at.result ≡ length (at_index bytes count) = c.length_at.ensures ∙ ap (λ n. first_length (drop n bytes)) holds.at ∙ lies.long in
+    record { at = omega (arith, long, lies.next, holds.at); count = omega (arith, there) }
 
 pub returns : goal.returns
 returns c =
-    let kept = c.loop-at.invariant in
-    all_read c.args.ring.now.bytes c.loop-at.count c.requires.messages c.requires.few kept.count (omega (arith, kept.at, c.len.ensures.len))
+    let holds = c.loop-at.invariant in
+    all_read c.args.ring.now.bytes c.loop-at.count c.requires.messages c.requires.few holds.count (omega (arith, holds.at, c.len.ensures.len))

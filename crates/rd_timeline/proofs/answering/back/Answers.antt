@@ -18,7 +18,7 @@ returns-in-Ok c =
     let some = c.back.ensures.ok.0 (ap is_ok c.in-Ok.is) in
     subst (λ count. Obeys old (Back count) new (Ok (Done c.in-Ok.at))) c.get.ensures.number
     (obeyed old new (Back c.get.result) c.in-Ok.at Plain made.at
-    (back_done old new c.get.result c.keeps.ensures.kept.records some made.moves (HasGrown-same old.room new.room made.room) made.app made.limit made.leads))
+    (back_done old new c.get.result c.by_invariant.ensures.traced.records some made.moves (HasGrown-same old.room new.room made.room) made.app made.limit made.leads))
 
 pub returns-in-Err : goal.returns-in-Err
 returns-in-Err c =
@@ -27,6 +27,6 @@ returns-in-Err c =
     let refusal = c.in-Err.refusal in
     let few = rw c.in-Err.is at (too_few c.back.result c.get.result (length old.log) c.back.ensures.ok) in
     subst (λ count. Obeys old (Back count) new (Ok (Refused refusal))) c.get.ensures.number
-    (nothing_changed old new (Back c.get.result) refusal (back_not_done old c.get.result refusal c.keeps.ensures.kept.records few c.in-Err.ensures.too_far)
+    (nothing_changed old new (Back c.get.result) refusal (back_not_done old c.get.result refusal c.by_invariant.ensures.traced.records few c.in-Err.ensures.too_far)
     (as_it_was old new c.in-Err.ensures.err) (HasGrown-same old.room new.room (ap (λ (course : Course). course.room) c.in-Err.ensures.err))
-    c.keeps.ensures.leads)
+    c.by_invariant.ensures.leads)

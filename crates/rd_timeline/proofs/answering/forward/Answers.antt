@@ -14,4 +14,4 @@ returns c =
     let told = c.told.ensures in
     subst (λ count. Obeys old (Forward count) new c.told.result) c.get.ensures.number
     (run_obeyed old new None c.get.result c.forward.result c.told.result (λ at. at) (λ at. false) told.no_memory told.ok told.err made.at made.ends
-    made.refusals made.err made.grows c.keeps.ensures.leads made.app made.limit made.leads)
+    made.refusals made.err made.grows c.by_invariant.ensures.leads made.app made.limit made.leads)

@@ -17,7 +17,7 @@ returns c =
     let told = c.told.ensures in
     subst (λ count. Obeys old (Redo count) new c.told.result) c.get.ensures.number
     (obeyed_if old new (Redo count) c.redo.result c.told.result (λ at. at) (λ at. Plain) (λ at. AreRedone old count new) (IsWhyNoRedo old count)
-    told.no_memory told.ok told.err made.at (are_redone old count new c.redo.result made.nothing_undone made.moves made.app made.limit) made.refusals made.err made.grows c.keeps.ensures.leads
+    told.no_memory told.ok told.err made.at (are_redone old count new c.redo.result made.nothing_undone made.moves made.app made.limit) made.refusals made.err made.grows c.by_invariant.ensures.leads
     (λ at has. redo_done old new count has.some has.moves made.grows has.app has.limit made.leads)
     (λ refusal other why. redo_not_done old count refusal other why)
     (redo_needs_memory old count))

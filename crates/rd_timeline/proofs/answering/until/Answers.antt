@@ -16,4 +16,4 @@ returns c =
     let told = c.ended.ensures in
     subst (λ count. Obeys old (Until condition count) new c.ended.result) c.get.ensures.number
     (run_obeyed old new (Some condition) c.get.result c.until.result c.ended.result (λ (found : FoundPlace). found.at) (λ (found : FoundPlace). found.met)
-    told.no_memory told.ok told.err made.at made.ends made.refusals made.err made.grows c.keeps.ensures.leads made.app made.limit made.leads)
+    told.no_memory told.ok told.err made.at made.ends made.refusals made.err made.grows c.by_invariant.ensures.leads made.app made.limit made.leads)

@@ -65,7 +65,7 @@ invariant_of-self-in_err-make_room_for c =
           (subst (λ (es : List HistoryEntry). IsLegal es d.machine.debugger) (sym before) whole.legal);
       within = omega (arith, longer, present, whole.within);
       joins = omega (arith, joins, whole.joins);
-      room = omega (arith, present, c.make_room_for.ensures.rows, c.make_room.ensures.kept_rows, whole.room);
+      room = omega (arith, present, c.make_room_for.ensures.rows, c.make_room.ensures.rows_grow, whole.room);
     }
 
 on_err : {T E : Type 0} (P : Type 0) (result : Result T E) → P → OnErr result P

@@ -14,7 +14,7 @@ use Rattle.rd_desk.proofs.machine.DeskMachine.watches.Goals as goal
 pub returns : goal.returns
 returns c =
     let m = c.self.inside in
-    let target : target_of (debugger_of m) ≡ m.timeline.target = ap (state_or (boot_of m.timeline.app)) c.keeps.ensures.leads in
+    let target : target_of (debugger_of m) ≡ m.timeline.target = ap (state_or (boot_of m.timeline.app)) c.by_invariant.ensures.leads in
     subst (λ (v : MachineView). Shown c.in_ok-text.text ≡ Shown (line_of (watches_text (watches_shown (target_of v.debugger) (own_watches v.debugger c.args.who))))) c.self.view_is
     (ap Shown c.in_ok-text.ensures
     ∙ ap (λ (w : WatchesView). Shown (line_of (watches_text (watches_shown m.timeline.target w)))) c.watches-watches.ensures

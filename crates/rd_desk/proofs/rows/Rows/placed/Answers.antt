@@ -8,7 +8,7 @@ use Rattle.rd_desk.specs.declared.rows.Deed.TheVariants.{Enter}
 use Rattle.rd_desk.specs.declared.rows.KeptRow.{KeptRow}
 use Rattle.rd_desk.specs.declared.rows.Rows.TheInside.{Inside}
 use Rattle.rd_desk.specs.Rows.{RowsView}
-use Rattle.rd_desk.specs.RowsInside.{AreKept, AreRows, IsPlaced, IsRowOf, noted_by, noted_from, row_end, rows_of, start_at}
+use Rattle.rd_desk.specs.RowsInside.{AreRowsWhole, AreRows, IsPlaced, IsRowOf, noted_by, noted_from, row_end, rows_of, start_at}
 use Rattle.rd_desk.proofs.RowLaws.{as_many, noted_at, noted_placed, row_at, row_placed}
 use Rattle.rd_desk.proofs.rows.Rows.placed.Goals as goal
 
@@ -29,11 +29,11 @@ abbrev row_of : List KeptRow → ℕ → KeptRow
 row_of rows index = get_or rows index (record { first = 0; second = 0; third = 0; number = 0; low_end = 0; high_end = 0; deed = Enter; kind = kind.Done })
 
 -- it is a row of these bytes
-is_row : (r : Inside) (now : RowsView) (index : ℕ) (rows : List KeptRow) → rows_of r ≡ now → AreKept r → rows ≡ r.rows.items → index < length now.noted
+is_row : (r : Inside) (now : RowsView) (index : ℕ) (rows : List KeptRow) → rows_of r ≡ now → AreRowsWhole r → rows ≡ r.rows.items → index < length now.noted
     → IsRowOf r.bytes.items (start_at 0 rows index) (row_of rows index)
-is_row r now index rows seen kept are there =
+is_row r now index rows seen whole are there =
     let within : index < length rows = omega (arith, there, as_many r now seen, ap length are) in
-    row_at r.bytes.items 0 rows index (row_of rows index) (subst (AreRows r.bytes.items 0) (sym are) kept) (slice_get-get_or rows index _ within)
+    row_at r.bytes.items 0 rows index (row_of rows index) (subst (AreRows r.bytes.items 0) (sym are) whole) (slice_get-get_or rows index _ within)
 
 pub bytes_of-requires : goal.bytes_of-requires
 bytes_of-requires c =

@@ -9,15 +9,15 @@ use Rattle.rd_wait.proofs.Offered.{All-remove}
 
 pub invariant_of-self : goal.invariant_of-self
 invariant_of-self c =
-    let kept = c.self.invariant in
+    let holds = c.self.invariant in
     let list = c.self.inside.waiting in
     let wishes = c.self.inside.wishes.items in
     let there : c.args.index < length list.tasks = subst (λ (g : GroupSnapshot). c.args.index < length g.waiting) (sym c.self.view_is) c.requires in
     rw (c.remove_at.ensures.rest, c.remove.ensures.items) (
-      kept.0,
-      All-remove (λ task. task < list.capacity) list.tasks c.args.index kept.1,
-      length-both_removed list.tasks wishes c.args.index kept.2 there,
-      All-remove (λ (wish : Wish). wish.bits ≤ MAX_BITS) wishes c.args.index kept.3,
-      omega (arith, kept.4, c.remove.ensures.capacity),
-      kept.5,
+      holds.0,
+      All-remove (λ task. task < list.capacity) list.tasks c.args.index holds.1,
+      length-both_removed list.tasks wishes c.args.index holds.2 there,
+      All-remove (λ (wish : Wish). wish.bits ≤ MAX_BITS) wishes c.args.index holds.3,
+      omega (arith, holds.4, c.remove.ensures.capacity),
+      holds.5,
     )

@@ -5,7 +5,7 @@ use Rattle.rd_desk.specs.declared.entry.Receipt.{Receipt}
 use Rattle.rd_desk.specs.DeskView.{DeskView, Does, used}
 use Rattle.rd_hall.specs.Seats.{Finds}
 use Rattle.rd_hall.specs.SeatView.{RoomedSeat}
-use Rattle.rd_hall.proofs.RoomLaws.{found_so, serves_seat}
+use Rattle.rd_hall.proofs.SharedLaws.{found_so, serves_seat}
 use Rattle.rd_hall.proofs.hall.Hall.serve.Goals as goal
 
 pub returns-clause-served : goal.returns-clause-served
@@ -17,7 +17,7 @@ returns-clause-served g c =
     (λ d. (used d < d.most_entries) × (new : DeskView) × Does d kept.receipts.who (Ask c.args.order.now.command) new receipt) = (
       c.deref_mut-2.result.now.desk,
       found_so c.deref_mut.result.now c.deref_mut-2.result.now _ _ _ _ (search rules) (search rules) (search rules) c.backs.ensures.backed,
-      (done.room, c.serve.new.self.desk, done.ok),
+      (done.place, c.serve.new.self.desk, done.ok),
     ) in
     serves_seat c.args.seat.now.session kept.receipts c.put.new.self kept.share.amount _ receipt _ _ _ _
     (ap (λ (seat : RoomedSeat). seat.session) c.seat.view_is ∙ c.make_room-made.ensures.session)

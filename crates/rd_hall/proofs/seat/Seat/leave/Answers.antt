@@ -7,5 +7,5 @@ use Rattle.rd_hall.proofs.seat.Seat.leave.Goals as goal
 
 pub invariant_of-result : goal.invariant_of-result
 invariant_of-result g c =
-    let kept = IsSeat-of _ _ _ _ _ c.receipts.invariant.0 c.self.invariant.0 (c.self.invariant.1 ∙ ap (λ (kept : ReceiptsView). length kept.receipts) (sym c.receipts.view_is)) in
-    IsSeat-push _ _ _ _ c.args.receipt _ _ _ _ kept (grind (arith, common_steps)) (grind (arith, common_steps)) (grind (arith, common_steps)) (grind (arith, common_steps)) (grind (arith, common_steps)) (grind (arith, common_steps))
+    let before = IsSeat-of _ _ _ _ _ c.receipts.invariant.0 c.self.invariant.0 (c.self.invariant.1 ∙ ap (λ (kept : ReceiptsView). length kept.receipts) (sym c.receipts.view_is)) in
+    IsSeat-push _ _ _ _ c.args.receipt _ _ _ _ before (grind (arith, common_steps)) (grind (arith, common_steps)) (grind (arith, common_steps)) (grind (arith, common_steps)) (grind (arith, common_steps)) (grind (arith, common_steps))

@@ -3,7 +3,7 @@ use Rattle.std.proofs.Common.{◌≡◌, ◌∙◌, true, false, [], List, ℕ, 
 use Rattle.rd_text.specs.Names.{AreDistinctNames}
 use Rattle.rd_text.specs.Words.{is_name, texts}
 use Rattle.rd_names.specs.NameSets.{names_among, with_name}
-use Rattle.rd_names.proofs.SetLaws.{inserted, left_out, names_step, with_name-kept}
+use Rattle.rd_names.proofs.SetLaws.{inserted, left_out, names_step, with_name-distinct}
 use Rattle.rd_names.proofs.name_set.NameSet.new.Goals as goal
 use Rattle.rd_names.proofs.name_set.NameSet.new.Goals.{then-is_name+in_ok-from_str+in_ok-insert, else-is_name}
 
@@ -21,5 +21,5 @@ loop-name-preserved c =
       | else-is_name w ↦ rw w.ordered-is (sym (left_out before text (tested ∙ w.if-is_name.false)))
     ] in (
       names_step before (map string_bytes c.if-is_name.ordered.keys) (names_among (texts names)) names index _ c.loop-name-test.true is c.loop-name.invariant.0,
-      subst AreDistinctNames (sym is) (with_name-kept before text c.loop-name.invariant.1),
+      subst AreDistinctNames (sym is) (with_name-distinct before text c.loop-name.invariant.1),
     )

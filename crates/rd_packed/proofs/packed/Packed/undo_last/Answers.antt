@@ -4,7 +4,7 @@ use Rattle.rd_packed.specs.Records.{PackedView, before_record, change_count, las
 use Rattle.rd_packed.specs.TapeView.{TapeView}
 use Rattle.rd_state.specs.PackedChanges.{changes_in}
 use Rattle.rd_state.specs.Undoing.{undone, CanUndo}
-use Rattle.rd_packed.proofs.RecordLaws.{plan, trailer_there}
+use Rattle.rd_packed.proofs.RecordLaws.{last_record_read, trailer_there}
 use Rattle.rd_packed.proofs.packed.Packed.undo_last.Goals as goal
 
 pub read_trailer-size-requires : goal.read_trailer-size-requires
@@ -15,21 +15,21 @@ read_trailer-size-requires c =
 
 pub overflow_sub-start-2 : goal.overflow_sub-start-2
 overflow_sub-start-2 c =
-    let p = plan c.self.inside.records c.self.inside.tape.bytes c.args.self.now.records c.len-end.result c.read_trailer-size.result.0
+    let p = last_record_read c.self.inside.records c.self.inside.tape.bytes c.args.self.now.records c.len-end.result c.read_trailer-size.result.0
     (ap (λ (v : PackedView). v.records) c.self.view_is) c.requires.some c.self.invariant
     c.len-end.ensures c.read_trailer-size.ensures.size in
     omega (arith, p.room)
 
 pub read-requires : goal.read-requires
 read-requires c =
-    let p = plan c.self.inside.records c.self.inside.tape.bytes c.args.self.now.records c.len-end.result c.read_trailer-size.result.0
+    let p = last_record_read c.self.inside.records c.self.inside.tape.bytes c.args.self.now.records c.len-end.result c.read_trailer-size.result.0
     (ap (λ (v : PackedView). v.records) c.self.view_is) c.requires.some c.self.invariant
     c.len-end.ensures c.read_trailer-size.ensures.size in
     omega (arith, p.room, c.len-end.ensures, ap (λ (t : TapeView). length t.bytes) c.read_trailer-size.ensures.tape)
 
 pub back_by-requires-clause-are : goal.back_by-requires-clause-are
 back_by-requires-clause-are c =
-    let p = plan c.self.inside.records c.self.inside.tape.bytes c.args.self.now.records c.len-end.result c.read_trailer-size.result.0
+    let p = last_record_read c.self.inside.records c.self.inside.tape.bytes c.args.self.now.records c.len-end.result c.read_trailer-size.result.0
     (ap (λ (v : PackedView). v.records) c.self.view_is) c.requires.some c.self.invariant
     c.len-end.ensures c.read_trailer-size.ensures.size in
     let body : c.read.result.now ≡ last_body c.self.inside.tape.bytes =
@@ -38,7 +38,7 @@ back_by-requires-clause-are c =
 
 pub back_by-requires-clause-fits : goal.back_by-requires-clause-fits
 back_by-requires-clause-fits c =
-    let p = plan c.self.inside.records c.self.inside.tape.bytes c.args.self.now.records c.len-end.result c.read_trailer-size.result.0
+    let p = last_record_read c.self.inside.records c.self.inside.tape.bytes c.args.self.now.records c.len-end.result c.read_trailer-size.result.0
     (ap (λ (v : PackedView). v.records) c.self.view_is) c.requires.some c.self.invariant
     c.len-end.ensures c.read_trailer-size.ensures.size in
     let body : c.read.result.now ≡ last_body c.self.inside.tape.bytes =
@@ -47,7 +47,7 @@ back_by-requires-clause-fits c =
 
 pub invariant_of-self : goal.invariant_of-self
 invariant_of-self c =
-    let p = plan c.self.inside.records c.self.inside.tape.bytes c.args.self.now.records c.len-end.result c.read_trailer-size.result.0
+    let p = last_record_read c.self.inside.records c.self.inside.tape.bytes c.args.self.now.records c.len-end.result c.read_trailer-size.result.0
     (ap (λ (v : PackedView). v.records) c.self.view_is) c.requires.some c.self.invariant
     c.len-end.ensures c.read_trailer-size.ensures.size in
     let cut : c.cut.new.self.bytes ≡ before_record c.self.inside.tape.bytes =
@@ -58,7 +58,7 @@ invariant_of-self c =
 
 pub returns-clause-state : goal.returns-clause-state
 returns-clause-state c =
-    let p = plan c.self.inside.records c.self.inside.tape.bytes c.args.self.now.records c.len-end.result c.read_trailer-size.result.0
+    let p = last_record_read c.self.inside.records c.self.inside.tape.bytes c.args.self.now.records c.len-end.result c.read_trailer-size.result.0
     (ap (λ (v : PackedView). v.records) c.self.view_is) c.requires.some c.self.invariant
     c.len-end.ensures c.read_trailer-size.ensures.size in
     let body : c.read.result.now ≡ last_body c.self.inside.tape.bytes =
@@ -69,7 +69,7 @@ returns-clause-state c =
 
 pub returns-clause-records : goal.returns-clause-records
 returns-clause-records c =
-    let p = plan c.self.inside.records c.self.inside.tape.bytes c.args.self.now.records c.len-end.result c.read_trailer-size.result.0
+    let p = last_record_read c.self.inside.records c.self.inside.tape.bytes c.args.self.now.records c.len-end.result c.read_trailer-size.result.0
     (ap (λ (v : PackedView). v.records) c.self.view_is) c.requires.some c.self.invariant
     c.len-end.ensures c.read_trailer-size.ensures.size in
     let cut : c.cut.new.self.bytes ≡ before_record c.self.inside.tape.bytes =
@@ -80,7 +80,7 @@ returns-clause-records c =
 
 pub returns-clause-read : goal.returns-clause-read
 returns-clause-read c =
-    let p = plan c.self.inside.records c.self.inside.tape.bytes c.args.self.now.records c.len-end.result c.read_trailer-size.result.0
+    let p = last_record_read c.self.inside.records c.self.inside.tape.bytes c.args.self.now.records c.len-end.result c.read_trailer-size.result.0
     (ap (λ (v : PackedView). v.records) c.self.view_is) c.requires.some c.self.invariant
     c.len-end.ensures c.read_trailer-size.ensures.size in
     omega (

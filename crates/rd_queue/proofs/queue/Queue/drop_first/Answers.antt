@@ -6,11 +6,11 @@ use Rattle.rd_queue.proofs.queue.Queue.drop_first.Goals as goal
 
 pub invariant_of-self : goal.invariant_of-self
 invariant_of-self c =
-    let kept = c.self.invariant in
+    let holds = c.self.invariant in
     let queue = c.self.inside in
     let some = subst (λ (q : QueueSnapshot). 0 < length q.items) (sym c.self.view_is) c.requires in
-    let held = (held_without_front queue.ring queue.capacity queue.item_size kept.0 some).1 in
-    rw c.drop_front.ensures (assumption (held, kept))
+    let held = (held_without_front queue.ring queue.capacity queue.item_size holds.0 some).1 in
+    rw c.drop_front.ensures (assumption (held, holds))
 
 pub returns : goal.returns
 returns c =

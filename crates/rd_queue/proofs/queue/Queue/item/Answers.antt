@@ -10,10 +10,10 @@ use Rattle.rd_queue.proofs.queue.Queue.item.Goals as goal
 pub overflow_mul-index : goal.overflow_mul-index
 overflow_mul-index c =
     let queue = c.self.inside in
-    let kept = c.self.invariant in
+    let holds = c.self.invariant in
     let there = subst (λ (q : QueueSnapshot). c.args.index < length q.items) (sym c.self.view_is) c.requires in
-    let few : c.args.index ≤ 64 = omega (arith, there, length-items_in queue.item_size queue.ring.bytes, kept.0.room, kept.2) in
-    omega (arith, mul-le c.args.index queue.item_size 64 64 few kept.3)
+    let few : c.args.index ≤ 64 = omega (arith, there, length-items_in queue.item_size queue.ring.bytes, holds.0.room, holds.2) in
+    omega (arith, mul-le c.args.index queue.item_size 64 64 few holds.3)
 
 pub piece-requires-clause-there : goal.piece-requires-clause-there
 piece-requires-clause-there c =

@@ -8,17 +8,17 @@ pub push_back-requires : goal.push_back-requires
 push_back-requires c =
     let queue = c.self.inside in
     let size = ap (λ (q : QueueSnapshot). q.item_size) c.self.view_is in
-    let room = subst (λ (q : QueueSnapshot). length q.items < q.capacity) (sym c.self.view_is) c.requires.room in
-    (held_back queue.ring queue.capacity queue.item_size 1 c.args.item.now c.self.invariant.0 (omega (arith, c.requires.size, size)) (omega (arith, room))).0
+    let space = subst (λ (q : QueueSnapshot). length q.items < q.capacity) (sym c.self.view_is) c.requires.space in
+    (held_back queue.ring queue.capacity queue.item_size 1 c.args.item.now c.self.invariant.0 (omega (arith, c.requires.size, size)) (omega (arith, space))).0
 
 pub invariant_of-self : goal.invariant_of-self
 invariant_of-self c =
-    let kept = c.self.invariant in
+    let holds = c.self.invariant in
     let queue = c.self.inside in
     let size = ap (λ (q : QueueSnapshot). q.item_size) c.self.view_is in
-    let room = subst (λ (q : QueueSnapshot). length q.items < q.capacity) (sym c.self.view_is) c.requires.room in
-    let held = (held_back queue.ring queue.capacity queue.item_size 1 c.args.item.now kept.0 (omega (arith, c.requires.size, size)) (omega (arith, room))).1 in
-    rw c.push_back.ensures (assumption (held, kept))
+    let space = subst (λ (q : QueueSnapshot). length q.items < q.capacity) (sym c.self.view_is) c.requires.space in
+    let held = (held_back queue.ring queue.capacity queue.item_size 1 c.args.item.now holds.0 (omega (arith, c.requires.size, size)) (omega (arith, space))).1 in
+    rw c.push_back.ensures (assumption (held, holds))
 
 pub returns : goal.returns
 returns c =

@@ -8,17 +8,17 @@ pub push_front-requires : goal.push_front-requires
 push_front-requires c =
     let queue = c.self.inside in
     let size : length c.args.item.now ≡ queue.item_size = c.requires.size ∙ sym (ap (λ (q : QueueSnapshot). q.item_size) c.self.view_is) in
-    let room = subst (λ (q : QueueSnapshot). length q.items < q.capacity) (sym c.self.view_is) c.requires.room in
-    (held_front queue.ring queue.capacity queue.item_size c.args.item.now c.self.invariant.0 size room).0
+    let space = subst (λ (q : QueueSnapshot). length q.items < q.capacity) (sym c.self.view_is) c.requires.space in
+    (held_front queue.ring queue.capacity queue.item_size c.args.item.now c.self.invariant.0 size space).0
 
 pub invariant_of-self : goal.invariant_of-self
 invariant_of-self c =
-    let kept = c.self.invariant in
+    let holds = c.self.invariant in
     let queue = c.self.inside in
     let size : length c.args.item.now ≡ queue.item_size = c.requires.size ∙ sym (ap (λ (q : QueueSnapshot). q.item_size) c.self.view_is) in
-    let room = subst (λ (q : QueueSnapshot). length q.items < q.capacity) (sym c.self.view_is) c.requires.room in
-    let held = (held_front queue.ring queue.capacity queue.item_size c.args.item.now kept.0 size room).1 in
-    rw c.push_front.ensures (assumption (held, kept))
+    let space = subst (λ (q : QueueSnapshot). length q.items < q.capacity) (sym c.self.view_is) c.requires.space in
+    let held = (held_front queue.ring queue.capacity queue.item_size c.args.item.now holds.0 size space).1 in
+    rw c.push_front.ensures (assumption (held, holds))
 
 pub returns : goal.returns
 returns c =

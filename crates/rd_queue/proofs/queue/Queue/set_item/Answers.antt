@@ -9,10 +9,10 @@ use Rattle.rd_queue.proofs.queue.Queue.set_item.Goals as goal
 pub overflow_mul-index : goal.overflow_mul-index
 overflow_mul-index c =
     let queue = c.self.inside in
-    let kept = c.self.invariant in
+    let holds = c.self.invariant in
     let there = subst (λ (q : QueueSnapshot). c.args.index < length q.items) (sym c.self.view_is) c.requires.there in
-    let few : c.args.index ≤ 64 = omega (arith, there, length-items_in queue.item_size queue.ring.bytes, kept.0.room, kept.2) in
-    omega (arith, mul-le c.args.index queue.item_size 64 64 few kept.3)
+    let few : c.args.index ≤ 64 = omega (arith, there, length-items_in queue.item_size queue.ring.bytes, holds.0.room, holds.2) in
+    omega (arith, mul-le c.args.index queue.item_size 64 64 few holds.3)
 
 pub set_piece-requires : goal.set_piece-requires
 set_piece-requires c =
@@ -23,12 +23,12 @@ set_piece-requires c =
 
 pub invariant_of-self : goal.invariant_of-self
 invariant_of-self c =
-    let kept = c.self.invariant in
+    let holds = c.self.invariant in
     let queue = c.self.inside in
     let there = subst (λ (q : QueueSnapshot). c.args.index < length q.items) (sym c.self.view_is) c.requires.there in
     let size : length c.args.item.now ≡ queue.item_size = c.requires.size ∙ sym (ap (λ (q : QueueSnapshot). q.item_size) c.self.view_is) in
-    let held = (held_replaced queue.ring queue.capacity queue.item_size c.args.index c.args.item.now kept.0 there size).1 in
-    rw c.set_piece.ensures (assumption (held, kept))
+    let held = (held_replaced queue.ring queue.capacity queue.item_size c.args.index c.args.item.now holds.0 there size).1 in
+    rw c.set_piece.ensures (assumption (held, holds))
 
 pub returns : goal.returns
 returns c =

@@ -8,17 +8,17 @@ use Rattle.rd_queue.proofs.queue.Queue.sizes.Goals as goal
 
 pub returns : goal.returns
 returns c =
-    let kept = c.self.invariant in
+    let holds = c.self.invariant in
     let queue = c.self.inside in
     let bytes = queue.ring.bytes in
     subst (λ (q : QueueSnapshot). IsSizedQueue q) c.self.view_is (record {
-      room = omega (arith, length-items_in queue.item_size bytes, kept.0.room);
-      items = All-first_items queue.item_size (count_in queue.item_size bytes) bytes kept.0.whole;
-      some_capacity = kept.1;
-      few = kept.2;
-      some_bytes = kept.0.pieces.some_bytes;
-      small = kept.3;
-      receiving = (kept.5, c.as_slice.ensures.room);
-      sending = (kept.6, omega (arith, c.as_slice-2.ensures.room, kept.4));
-      queue_set = kept.7;
+      room = omega (arith, length-items_in queue.item_size bytes, holds.0.room);
+      items = All-first_items queue.item_size (count_in queue.item_size bytes) bytes holds.0.whole;
+      some_capacity = holds.1;
+      few = holds.2;
+      some_bytes = holds.0.pieces.some_bytes;
+      small = holds.3;
+      receiving = (holds.5, c.as_slice.ensures.room);
+      sending = (holds.6, omega (arith, c.as_slice-2.ensures.room, holds.4));
+      queue_set = holds.7;
     })

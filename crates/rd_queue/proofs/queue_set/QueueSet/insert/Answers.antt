@@ -6,7 +6,7 @@ use Rattle.rd_queue.proofs.queue_set.QueueSet.insert.Goals as goal
 
 pub invariant_of-self : goal.invariant_of-self
 invariant_of-self c =
-    let kept = c.self.invariant in
+    let holds = c.self.invariant in
     let list = c.self.inside.waiting in
     let below : c.args.task < list.capacity = omega (arith, c.requires.task, ap (λ (s : QueueSetSnapshot). s.task_count) c.self.view_is) in
-    rw c.insert_at.ensures (assumption (All-insert (λ task. task < list.capacity) list.tasks c.args.index c.args.task kept.5 below, kept))
+    rw c.insert_at.ensures (assumption (All-insert (λ task. task < list.capacity) list.tasks c.args.index c.args.task holds.5 below, holds))

@@ -10,11 +10,11 @@ pub returns : goal.returns
 returns c =
     let ring = c.self.inside in
     let memory = ring.memory.items in
-    let kept = c.self.invariant in
+    let holds = c.self.invariant in
     let some : c.args.count ≤ ring.len =
-    omega (arith, c.requires, ap (λ (v : RingView). length v.bytes) c.self.view_is, length-bytes memory ring.start ring.len kept.0) in
+    omega (arith, c.requires, ap (λ (v : RingView). length v.bytes) c.self.view_is, length-bytes memory ring.start ring.len holds.0) in
     let capacity : c.len.result ≡ length memory = omega arith in
     let moved : c.offset_after-self-inside.result ≡ offset_after (length memory) ring.start c.args.count =
     c.offset_after-self-inside.ensures.after ∙ ap (λ (n : ℕ). offset_after n ring.start c.args.count) capacity in
     rw moved (subst (λ (v : RingView). ring_in memory (offset_after (length memory) ring.start c.args.count) (ring.len - c.args.count) ≡ without_front v c.args.count)
-    c.self.view_is (ring_dropped_front memory ring.start ring.len c.args.count kept.1 kept.0 some))
+    c.self.view_is (ring_dropped_front memory ring.start ring.len c.args.count holds.1 holds.0 some))

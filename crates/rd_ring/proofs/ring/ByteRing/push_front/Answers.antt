@@ -11,8 +11,8 @@ pub returns : goal.returns
 returns c =
     let ring = c.self.inside in
     let memory = ring.memory.items in
-    let kept = c.self.invariant in
-    let length_old = length-bytes memory ring.start ring.len kept.0 in
+    let holds = c.self.invariant in
+    let length_old = length-bytes memory ring.start ring.len holds.0 in
     let capacity : c.len.result ≡ length memory = omega arith in
     let bytes = c.args.bytes.now in
     let after = c.write_from.new.memory in
@@ -20,8 +20,8 @@ returns c =
     let items = with_items_is ring.memory after (omega (arith, same_length, capacity, c.len.ensures)) in
     let front : c.offset_before-start.result ≡ offset_before (length memory) ring.start (length bytes) =
     c.offset_before-start.ensures.before ∙ ap (λ (n : ℕ). offset_before n ring.start (length bytes)) capacity in
-    let room = subst (λ (v : RingView). length v.bytes + length bytes ≤ v.capacity) (sym c.self.view_is) c.requires in
-    let fits : ring.len + length bytes ≤ length memory = omega (arith, room, length_old) in
+    let space = subst (λ (v : RingView). length v.bytes + length bytes ≤ v.capacity) (sym c.self.view_is) c.requires in
+    let fits : ring.len + length bytes ≤ length memory = omega (arith, space, length_old) in
     let written = written_there memory c.as_mut_slice.result.now after bytes c.offset_before-start.result _ front c.as_mut_slice.ensures.value c.write_from.ensures.written in
     rw (items, front) (subst (λ (v : RingView). ring_in after (offset_before (length memory) ring.start (length bytes)) (ring.len + length bytes) ≡ with_front v bytes)
-    c.self.view_is (ring_pushed_front memory after bytes ring.start ring.len kept.1 fits same_length written))
+    c.self.view_is (ring_pushed_front memory after bytes ring.start ring.len holds.1 fits same_length written))

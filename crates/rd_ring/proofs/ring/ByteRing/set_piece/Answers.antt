@@ -11,8 +11,8 @@ pub returns : goal.returns
 returns c =
     let ring = c.self.inside in
     let memory = ring.memory.items in
-    let kept = c.self.invariant in
-    let length_old = length-bytes memory ring.start ring.len kept.0 in
+    let holds = c.self.invariant in
+    let length_old = length-bytes memory ring.start ring.len holds.0 in
     let capacity : c.len.result ≡ length memory = omega arith in
     let offset : c.offset_after-offset.result ≡ offset_after (length memory) ring.start c.args.at =
     c.offset_after-offset.ensures.after ∙ ap (λ (n : ℕ). offset_after n ring.start c.args.at) capacity in
@@ -23,4 +23,4 @@ returns c =
     let within : c.args.at + length bytes ≤ ring.len = omega (arith, c.requires, ap (λ (v : RingView). length v.bytes) c.self.view_is, length_old) in
     let written = written_there memory c.as_mut_slice.result.now after bytes c.offset_after-offset.result _ offset c.as_mut_slice.ensures.value c.write_from.ensures.written in
     rw items (subst (λ (v : RingView). ring_in after ring.start ring.len ≡ with_contents v (with_piece v.bytes c.args.at bytes))
-    c.self.view_is (ring_with_piece memory after bytes ring.start ring.len c.args.at kept.1 kept.0 within same_length written))
+    c.self.view_is (ring_with_piece memory after bytes ring.start ring.len c.args.at holds.1 holds.0 within same_length written))

@@ -5,5 +5,5 @@ use Rattle.rd_stream.proofs.message_buf.MessageBuf.count.Goals as goal
 
 pub returns-clause-few : goal.returns-clause-few
 returns-clause-few c =
-    let kept = c.self.invariant in
-    omega (arith, few_counted c.self.inside.ring c.self.inside.count kept, kept.1, kept.2)
+    let holds = c.self.invariant in
+    omega (arith, few_counted c.self.inside.ring c.self.inside.count holds, holds.1, holds.2)

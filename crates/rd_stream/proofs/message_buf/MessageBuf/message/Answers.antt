@@ -14,9 +14,9 @@ length_at-len-requires-clause-there c =
 pub overflow_add-at : goal.overflow_add-at
 overflow_add-at c =
     let buffer = c.self.inside in
-    let kept = c.self.invariant in
+    let holds = c.self.invariant in
     let there = subst (λ (b : MessageSnapshot). c.args.index < length b.messages) (sym c.self.view_is) c.requires in
-    omega (arith, begins buffer.ring buffer.count c.args.index c.start_of-at.result kept there c.start_of-at.ensures, kept.1, kept.2)
+    omega (arith, begins buffer.ring buffer.count c.args.index c.start_of-at.result holds there c.start_of-at.ensures, holds.1, holds.2)
 
 pub range-requires : goal.range-requires
 range-requires c =
@@ -35,17 +35,17 @@ returns-clause-message c =
 pub returns-clause-front : goal.returns-clause-front
 returns-clause-front c =
     let buffer = c.self.inside in
-    let kept = c.self.invariant in
+    let holds = c.self.invariant in
     let pieces = c.range.result in
     let there = subst (λ (b : MessageSnapshot). c.args.index < length b.messages) (sym c.self.view_is) c.requires in
-    let it = found buffer.ring buffer.count c.args.index c.start_of-at.result c.length_at-len.result kept there c.start_of-at.ensures c.length_at-len.ensures in
-    omega (arith, length-append pieces.0.now pieces.1.now, ap length (c.range.ensures ∙ it.message), it.long, it.within, kept.1, kept.2)
+    let it = found buffer.ring buffer.count c.args.index c.start_of-at.result c.length_at-len.result holds there c.start_of-at.ensures c.length_at-len.ensures in
+    omega (arith, length-append pieces.0.now pieces.1.now, ap length (c.range.ensures ∙ it.message), it.long, it.within, holds.1, holds.2)
 
 pub returns-clause-back : goal.returns-clause-back
 returns-clause-back c =
     let buffer = c.self.inside in
-    let kept = c.self.invariant in
+    let holds = c.self.invariant in
     let pieces = c.range.result in
     let there = subst (λ (b : MessageSnapshot). c.args.index < length b.messages) (sym c.self.view_is) c.requires in
-    let it = found buffer.ring buffer.count c.args.index c.start_of-at.result c.length_at-len.result kept there c.start_of-at.ensures c.length_at-len.ensures in
-    omega (arith, length-append pieces.0.now pieces.1.now, ap length (c.range.ensures ∙ it.message), it.long, it.within, kept.1, kept.2)
+    let it = found buffer.ring buffer.count c.args.index c.start_of-at.result c.length_at-len.result holds there c.start_of-at.ensures c.length_at-len.ensures in
+    omega (arith, length-append pieces.0.now pieces.1.now, ap length (c.range.ensures ∙ it.message), it.long, it.within, holds.1, holds.2)

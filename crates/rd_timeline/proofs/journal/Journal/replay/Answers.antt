@@ -7,7 +7,7 @@ use Rattle.rd_moves.specs.Moves.{PlainMove}
 use Rattle.rd_timeline.specs.Decoded.{decoded, carried_at, move_of}
 use Rattle.rd_timeline.specs.JournalView.{JournalView, next_undone}
 use Rattle.rd_timeline.specs.LogView.{RecordsMove}
-use Rattle.rd_timeline.specs.LoggedView.{IsWhyNotKept}
+use Rattle.rd_timeline.specs.LoggedView.{IsWhyNotPlayed}
 use Rattle.rd_timeline.proofs.JournalLaws.{IsLater, border_on, next_by_byte, next_is_kept}
 use Rattle.rd_timeline.proofs.journal.Journal.replay.Goals as goal
 
@@ -55,9 +55,9 @@ pub returns-in_err-play-clause-refusals : goal.returns-in_err-play-clause-refusa
 returns-in_err-play-clause-refusals c =
     let next = c.move_of-action.ensures ∙ ap (λ byte. move_of byte c.self.inside.carried.undone) c.index-byte.ensures
     ∙ next_by_byte c.self.inside c.args.self.now c.index-byte.result.now c.self.view_is c.requires.some in
-    let why : IsWhyNotKept c.args.app.now c.args.self.now.target (next_undone c.args.self.now) c.in_err-play.field-0.0 =
-    subst (λ (move : PlainMove). IsWhyNotKept c.args.app.now c.args.self.now.target move c.in_err-play.field-0.0) next
-    (subst (λ (v : JournalView). IsWhyNotKept c.args.app.now v.target c.move_of-action.result c.in_err-play.field-0.0) c.self.view_is c.in_err-play.ensures.refusals) in
+    let why : IsWhyNotPlayed c.args.app.now c.args.self.now.target (next_undone c.args.self.now) c.in_err-play.field-0.0 =
+    subst (λ (move : PlainMove). IsWhyNotPlayed c.args.app.now c.args.self.now.target move c.in_err-play.field-0.0) next
+    (subst (λ (v : JournalView). IsWhyNotPlayed c.args.app.now v.target c.move_of-action.result c.in_err-play.field-0.0) c.self.view_is c.in_err-play.ensures.refusals) in
     search rules
 
 pub returns-clause-lays : goal.returns-clause-lays

@@ -5,7 +5,7 @@ use Rattle.rd_calls.proofs.Offered.{record_has_room}
 use Rattle.rd_calls.specs.Step.{IsPlayed}
 use Rattle.rd_refusal.specs.declared.refusal.Refusal.TheVariants.{NoMemory}
 use Rattle.rd_state.specs.Change.{Change}
-use Rattle.rd_state.specs.Edit.{added}
+use Rattle.rd_state.specs.EditingView.{added}
 use Rattle.rd_state.specs.Valid.{IsValid}
 use Rattle.rd_timeline.specs.LogView.{bytes_of}
 use Rattle.rd_timeline.specs.LoggedView.{LoggedView}

@@ -12,7 +12,7 @@ use Rattle.rd_timeline.proofs.timeline.Timeline.back_until.Goals as goal
 pub loop-init : goal.loop-init
 loop-init c =
     let old = c.args.self.now in
-    let all : length old.log - 0 ≡ length old.done - base_of old = omega (arith, c.keeps.ensures.kept.records) in record {
+    let all : length old.log - 0 ≡ length old.done - base_of old = omega (arith, c.by_invariant.ensures.traced.records) in record {
       place = ap (last_met old.app c.args.condition (base_of old) old.done) all;
       back = IsBack-here old;
     }
@@ -23,7 +23,7 @@ loop-preserved c =
     let old = c.args.self.now in
     let new = c.back.new.self in
     let went = c.back.ensures in
-    let fewer = c.keeps.ensures.kept.records in
+    let fewer = c.by_invariant.ensures.traced.records in
     let less : c.loop.counter < length old.log = omega (arith, c.loop-test.true, c.kept-end.ensures) in
     let back =
     IsBack-next old c.loop.self new c.loop.counter c.unwrap.result c.back.result i.back less fewer c.unwrap.ensures went.moves went.log went.app went.limit
@@ -42,7 +42,7 @@ returns-then-meets c =
     let old = c.args.self.now in
     let new = c.back.new.self in
     let went = c.back.ensures in
-    let fewer = c.keeps.ensures.kept.records in
+    let fewer = c.by_invariant.ensures.traced.records in
     let less : c.loop.counter < length old.log = omega (arith, c.loop-test.true, c.kept-end.ensures) in
     let back =
     IsBack-next old c.loop.self new c.loop.counter c.unwrap.result c.back.result i.back less fewer c.unwrap.ensures went.moves went.log went.app went.limit
@@ -69,7 +69,7 @@ pub returns : goal.returns
 returns c =
     let i = c.loop.invariant in
     let old = c.args.self.now in
-    let fewer = c.keeps.ensures.kept.records in
+    let fewer = c.by_invariant.ensures.traced.records in
     let all : c.loop.counter ≡ length old.log = omega (arith, c.loop-test.false, c.loop.auto.counter-end, c.kept-end.ensures) in
     let none : length old.log - c.loop.counter ≡ 0 = omega (arith, all) in
     let place = place_back old c.loop.self c.loop.counter c.at-2.result i.back (omega (arith, all)) fewer c.at-2.ensures in record {
@@ -82,5 +82,5 @@ returns c =
       limit = i.back.limit;
       room = i.back.room;
       read = i.back.read ∙ ap (λ k. old.read + bytes_of (drop k old.log)) place.1;
-      leads = c.keeps-2.ensures.leads;
+      leads = c.by_invariant-2.ensures.leads;
     }

@@ -9,7 +9,7 @@ use Rattle.rd_timeline.proofs.timeline.Timeline.cancel_run.Goals as goal
 pub take_back-requires-clause-can_rewind : goal.take_back-requires-clause-can_rewind
 take_back-requires-clause-can_rewind c =
     CanRewind-later c.self.inside.journal.target c.self.inside.journal.records
-    (length c.self.inside.journal.records - (c.at.result - c.args.start.done)) c.self.invariant.kept.rewinds
+    (length c.self.inside.journal.records - (c.at.result - c.args.start.done)) c.self.invariant.traced.rewinds
 
 pub invariant_of-self : goal.invariant_of-self
 invariant_of-self c =
@@ -22,8 +22,8 @@ invariant_of-self c =
     omega (arith, c.at.ensures, ap (λ (course : Course). length course.done) c.self.view_is) in
     IsWhole-cancel t c.put_back.new.self c.more-self-inside.result start (c.at.result - start.done) made c.self.invariant can (put.target ∙ taken.target) (put.done ∙ taken.done)
     (put.records ∙ taken.records) put.undone (record {
-      moves = omega (arith, put.grows, taken.kept_capacity);
-      carried = omega (arith, put.more_carried, taken.kept_carried_capacity);
+      moves = omega (arith, put.grows, taken.same_capacity);
+      carried = omega (arith, put.more_carried, taken.same_carried_capacity);
       bytes = omega (arith, taken.same_memory, put.same_memory);
     })
     (omega (arith, put.read, taken.read, c.self.invariant.others, c.more-self-inside.ensures, c.count-before.ensures, c.count.ensures))

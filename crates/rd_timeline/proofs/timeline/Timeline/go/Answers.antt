@@ -58,17 +58,17 @@ invariant_of-self-2 c =
     c.args.action.now made.lays.undo c.self.invariant refl refl (subst (λ (course : Course). IsMoveOf course.app c.args.action.now) (sym c.self.view_is) c.requires.named) (search rules) from_target (played.leads_back ∙ same.target) played.can_undo
     played.valid settled all
     (made.lays.records ∙ ap (λ (records : List (List Change)). records ++ made.lays.undo ∷ []) same.records)
-    made.undone (omega (arith, capacity, c.play.ensures.kept_capacity, ap length same.done))
+    made.undone (omega (arith, capacity, c.play.ensures.same_capacity, ap length same.done))
     (omega (
       arith,
       ap (λ (moves : List PlainMove). carried_in (moves ++ c.args.action.now ∷ [])) same.done,
-      c.play.ensures.kept_carried_capacity,
+      c.play.ensures.same_carried_capacity,
       carried_fits c.args.action.now c.reserve_for.new.self ok_carried
           (omega (
             arith,
             ap carried_in same.done,
             c.reserve_for.ensures.more_carried,
-            c.self.invariant.kept.made.has_carried_room,
+            c.self.invariant.traced.made.has_carried_room,
             carried_in-append t.journal.done t.journal.undone,
           )),
     ))

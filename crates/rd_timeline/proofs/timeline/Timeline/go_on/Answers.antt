@@ -23,7 +23,7 @@ pub go-requires : goal.go-requires
 go-requires c = record {
   named =
       subst (IsMoveOf c.loop.self.app) (sym (c.policy-action.ensures ∙ ap policy_of c.target.ensures))
-      (policy_named c.loop.self.app c.loop.self.target c.keeps-in-loop.ensures.valid);
+      (policy_named c.loop.self.app c.loop.self.target c.by_invariant-in-loop.ensures.valid);
 }
 
 pub returns-in_err-go-clause-refusals : goal.returns-in_err-go-clause-refusals
@@ -34,7 +34,7 @@ returns-in_err-go-clause-refusals c =
     c.in_err-go.ensures.refusals in
     let refused : IsWhyNoRun c.args.self.now c.args.goal c.args.count c.in_err-go.field-0.0 =
     why_no_run c.args.self.now c.loop.self c.args.goal c.loop.counter c.args.count c.in_err-go.field-0.0 i.going i.stands.app i.stands.limit
-    c.keeps-in-loop.ensures.leads (omega (arith, c.loop-test.true)) why in
+    c.by_invariant-in-loop.ensures.leads (omega (arith, c.loop-test.true)) why in
     search rules
 
 pub returns-in_err-go-clause-short : goal.returns-in_err-go-clause-short
@@ -58,7 +58,7 @@ returns-then-meets c =
     let more : length c.loop.self.done ≢ c.loop.self.limit = search rules in
     let next =
     one_more c.args.self.now c.loop.self c.go.new.self c.args.goal c.loop.counter true c.policy-action.result i.going i.stands
-    c.keeps-in-loop.ensures.leads (c.policy-action.ensures ∙ ap policy_of c.target.ensures) more made.step made.moves made.app made.limit made.recorded
+    c.by_invariant-in-loop.ensures.leads (c.policy-action.ensures ∙ ap policy_of c.target.ensures) more made.step made.moves made.app made.limit made.recorded
     made.ahead c.go.ensures.grows made.read (sym c.meets.ensures ∙ c.if-meets.true) in record {
       ends =
           stays_there c.args.self.now c.go.new.self c.args.goal (c.loop.counter + 1) c.args.count next.run (omega (arith, c.loop-test.true));
@@ -75,6 +75,6 @@ loop-preserved c =
     let more : length c.loop.self.done ≢ c.loop.self.limit = search rules in
     let next =
     one_more c.args.self.now c.loop.self c.go.new.self c.args.goal c.loop.counter false c.policy-action.result i.going i.stands
-    c.keeps-in-loop.ensures.leads (c.policy-action.ensures ∙ ap policy_of c.target.ensures) more made.step made.moves made.app made.limit made.recorded
+    c.by_invariant-in-loop.ensures.leads (c.policy-action.ensures ∙ ap policy_of c.target.ensures) more made.step made.moves made.app made.limit made.recorded
     made.ahead c.go.ensures.grows made.read (sym c.meets.ensures ∙ c.if-meets.false) in
     record { going = next.run; stands = next.stands; ahead = λ some. next.ahead }

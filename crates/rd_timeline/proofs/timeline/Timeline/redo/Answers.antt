@@ -28,5 +28,5 @@ returns-then-is_err-clause-err c =
     let records : length now.log - (c.at.result - c.at-done.result) ≡ length old.log =
     omega (arith, c.at.ensures, c.at-done.ensures, more.more, more.records) in
     let log = back.log ∙ ap (λ k. take k now.log) records ∙ stands.recorded.log in
-    same_course old new app (back.limit ∙ stands.limit) (same_target old new app done c.keeps.ensures.leads back.leads) done log undone
+    same_course old new app (back.limit ∙ stands.limit) (same_target old new app done c.by_invariant.ensures.leads back.leads) done log undone
     (back.read ∙ stands.read)

@@ -27,14 +27,14 @@ pub replay-requires-clause-named : goal.replay-requires-clause-named
 replay-requires-clause-named c =
     let t = c.self.inside in
     let some : 0 < length t.journal.undone = subst (λ (course : Course). 0 < length course.undone) (sym c.self.view_is) c.requires in
-    next_is_named t.app t.journal.done t.journal.undone c.self.invariant.kept.made.named some
+    next_is_named t.app t.journal.done t.journal.undone c.self.invariant.traced.made.named some
 
 -- There is room for all that are undone.
 pub replay-requires-clause-capacity : goal.replay-requires-clause-capacity
 replay-requires-clause-capacity c =
     let t = c.self.inside in
     let some : 0 < length t.journal.undone = subst (λ (course : Course). 0 < length course.undone) (sym c.self.view_is) c.requires in
-    omega (arith, some, c.self.invariant.kept.made.has_room, length-append t.journal.done t.journal.undone)
+    omega (arith, some, c.self.invariant.traced.made.has_room, length-append t.journal.done t.journal.undone)
 
 pub invariant_of-self-2 : goal.invariant_of-self-2
 invariant_of-self-2 c =
@@ -50,8 +50,8 @@ invariant_of-self-2 c =
     made.lays.played.valid (settled_after t.app j.target move c.replay.new.self.target (state_now t c.self.invariant).settled made.lays.played.settled)
     made.done made.lays.records
     (record {
-      moves = omega (arith, c.replay.ensures.kept_capacity);
-      carried = omega (arith, c.replay.ensures.kept_carried_capacity);
+      moves = omega (arith, c.replay.ensures.same_capacity);
+      carried = omega (arith, c.replay.ensures.same_carried_capacity);
       bytes = c.replay.ensures.grows;
     })
     c.replay.ensures.read
@@ -64,7 +64,7 @@ returns-in-Err-clause-short c =
     let some : 0 < length j.undone = subst (λ (course : Course). 0 < length course.undone) (sym c.self.view_is) c.requires in
     let refusal = c.in-Err._refusal in
     let can : IsOk (step t.app j.target (slice_index_or j.undone 0 Tick)) =
-    next_is_made t.app j.done j.undone j.target (state_now t c.self.invariant).state c.self.invariant.kept.made.state some in
+    next_is_made t.app j.done j.undone j.target (state_now t c.self.invariant).state c.self.invariant.traced.made.state some in
     let none : refusal ≡ NoMemory = elim c.in-Err.ensures.refusals [
       | inl refused ↦ absurd (false≢true (sym (ap is_ok refused) ∙ can))
       | inr lacks ↦ lacks.1
@@ -91,8 +91,8 @@ returns-clause-stands c =
     subst (λ (course : Course). StandsOn course new) c.self.view_is
     (StandsOn-one (course_of t) new (next_undone t.journal) refl refl made.done recorded
     (record {
-      moves = omega (arith, c.replay.ensures.kept_capacity);
-      carried = omega (arith, c.replay.ensures.kept_carried_capacity);
+      moves = omega (arith, c.replay.ensures.same_capacity);
+      carried = omega (arith, c.replay.ensures.same_carried_capacity);
       bytes = c.replay.ensures.grows;
     })
     (ap (λ n. n - t.others.bytes) c.replay.ensures.read))

@@ -15,7 +15,7 @@ pub returns-in_default-clause-refusals : goal.returns-in_default-clause-refusals
 returns-in_default-clause-refusals c =
     let old = c.args.self.now in
     let why = subst (λ (course : Course). IsWhyNot course (policy_of course.target) c.why_no_move.result) c.in_default.ensures.err c.why_no_move.ensures in
-    why_no_run old (record old { undone = [] }) c.args.goal 0 c.args.count c.why_no_move.result refl refl refl c.keeps.ensures.leads c.requires.some why
+    why_no_run old (record old { undone = [] }) c.args.goal 0 c.args.count c.why_no_move.result refl refl refl c.by_invariant.ensures.leads c.requires.some why
 
 pub returns-in-Err-clause-refusals : goal.returns-in-Err-clause-refusals
 returns-in-Err-clause-refusals c =
@@ -42,7 +42,7 @@ returns-in-Err-clause-err c =
     omega (arith, start.done, more.more, more.records) in
     let log = cancelled.log ∙ ap (λ k. take k ran.log) records ∙ stands.recorded.log in
     same_course old c.cancel_run.new.self app (cancelled.limit ∙ stands.limit)
-    (same_target old c.cancel_run.new.self app done c.keeps.ensures.leads cancelled.leads) done log (cancelled.undone ∙ start.undone)
+    (same_target old c.cancel_run.new.self app done c.by_invariant.ensures.leads cancelled.leads) done log (cancelled.undone ∙ start.undone)
     (cancelled.read ∙ stands.read)
 
 pub returns-in-Err-clause-short : goal.returns-in-Err-clause-short

@@ -11,7 +11,7 @@ pub invariant_of-self : goal.invariant_of-self
 invariant_of-self c =
     let kept = c.keep_last.ensures in
     IsWhole-trim c.self.inside c.keep_last.new.self c.more-self-inside.result c.args.keep c.self.invariant kept.target kept.done kept.records kept.undone
-    (record { moves = omega (arith, kept.kept_capacity); carried = omega (arith, kept.kept_carried_capacity); bytes = omega (arith, kept.same_memory) })
+    (record { moves = omega (arith, kept.same_capacity); carried = omega (arith, kept.same_carried_capacity); bytes = omega (arith, kept.same_memory) })
     (omega (arith, kept.read, c.self.invariant.others, c.more-self-inside.ensures, c.count-before.ensures, c.count.ensures))
 
 pub returns-clause-moves : goal.returns-clause-moves
@@ -20,4 +20,4 @@ returns-clause-moves c =
     let kept = c.keep_last.ensures in
     let new : Course = course_of (record t { journal = c.keep_last.new.self; others = c.more-self-inside.result }) in
     subst (λ (course : Course). moves_of new ≡ trimmed (moves_of course) c.args.keep) c.self.view_is
-    (trimmed_moves (course_of t) new c.args.keep c.self.invariant.kept.records kept.done kept.undone kept.records)
+    (trimmed_moves (course_of t) new c.args.keep c.self.invariant.traced.records kept.done kept.undone kept.records)
