@@ -102,7 +102,7 @@ sized_then queue (SetItem index item) sized fits =
 sized_then queue Clear sized fits = items_sized queue [] sized (omega arith) (All-nil (λ (i : List ℕ). length i ≡ queue.item_size))
 sized_then queue (Fill bytes) sized fits =
     let count = count_in queue.item_size bytes in
-    items_sized queue (items_in queue.item_size bytes) sized (omega (arith, length-first_items queue.item_size count bytes, fits.room))
+    items_sized queue (items_in queue.item_size bytes) sized (omega (arith, length-first_items queue.item_size count bytes, fits.space))
     (All-first_items queue.item_size count bytes fits.whole)
 sized_then queue (SetMember queue_set) sized fits = queue_set_sized queue queue_set sized fits
 
