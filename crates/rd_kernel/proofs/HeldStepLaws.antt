@@ -5,7 +5,7 @@ use Rattle.std.proofs.lemmas.List.{length-set}
 use Rattle.rd_app.specs.declared.instr.Operand.{Operand}
 use Rattle.rd_notify.specs.Entries.{entry_idle, entry_notified, entry_waiting, idle_entry}
 use Rattle.std.specs.Prelude.{slice_index_or}
-use Rattle.rd_notify.specs.declared.action.Action.TheVariants.{NoAction}
+use Rattle.rd_notify.specs.declared.action.Action.TheVariants.{LeaveValue}
 use Rattle.rd_notify.specs.declared.entries.Entry.{Entry}
 use Rattle.rd_notify.specs.declared.entries.EntryState.TheVariants.{Received}
 use Rattle.rd_state.specs.declared.phase.Held.{Held}
@@ -59,7 +59,7 @@ PcsStay-completed priorities s held t = by_name (holder_at s held)
     by_name (Some task) =
         let tasks = if_waiting_for s task 0 in
         let w = woken_all priorities TriesAgain s tasks in
-        let entry = entry_notified NoAction 0 (entry_at s task 0) in
+        let entry = entry_notified LeaveValue 0 (entry_at s task 0) in
         EachStays-task (λ (x : TaskSnapshot). x.pc) w task (record (task_at w task) { entries = set (task_at w task).entries 0 entry }) refl t
         ∙ EachStays-woken_all (λ (x : TaskSnapshot). x.pc) (λ x phase. refl) priorities TriesAgain s tasks t
 
@@ -193,5 +193,5 @@ HasReceived-completed priorities s held target index has = by_name (holder_at s 
     by_name (Some task) =
         let tasks = if_waiting_for s task 0 in
         let w = woken_all priorities TriesAgain s tasks in
-        entry_after w task 0 target index (entry_notified NoAction 0 (entry_at s task 0)) (λ (e : Entry). e.state ≡ Received) (λ same first. refl)
+        entry_after w task 0 target index (entry_notified LeaveValue 0 (entry_at s task 0)) (λ (e : Entry). e.state ≡ Received) (λ same first. refl)
         (ap (λ (entries : List Entry). (slice_index_or entries index idle_entry).state) (EntriesStay-woken_all priorities TriesAgain s tasks target) ∙ has)

@@ -19,7 +19,7 @@ use Rattle.rd_app.specs.Application.{Application, instr_at, priorities_of}
 use Rattle.rd_app.specs.declared.instr.Instr.{Instr}
 use Rattle.rd_app.specs.declared.instr.Operand.{Operand}
 use Rattle.rd_notify.specs.Entries.{entry_idle, entry_notified, entry_waiting, idle_entry}
-use Rattle.rd_notify.specs.declared.action.Action.TheVariants.{NoAction}
+use Rattle.rd_notify.specs.declared.action.Action.TheVariants.{LeaveValue}
 use Rattle.rd_notify.specs.declared.entries.Entry.{Entry}
 use Rattle.rd_notify.specs.declared.entries.EntryState.{EntryState}
 use Rattle.rd_notify.specs.declared.entries.EntryState.TheVariants.{Idle, Received, Waiting}
@@ -426,7 +426,7 @@ IsOn-completed app s p core task held instr calls has_held entries on = by_name 
         let priorities = priorities_of app in
         let there = on.named held t e in
         let differs : task ≢ t = λ same. on.free.unnamed held (e ∙ ap Some (sym same)) in
-        let entry = entry_notified NoAction 0 (entry_at p t 0) in
+        let entry = entry_notified LeaveValue 0 (entry_at p t 0) in
         let tasks = if_waiting_for p t 0 in
         let after = AfterWaking-woken_all priorities TriesAgain p tasks in
         let w = woken_all priorities TriesAgain p tasks in

@@ -11,7 +11,7 @@ use Rattle.rd_app.specs.Application.{Application, instr_at}
 use Rattle.rd_app.specs.declared.instr.Operand.{Operand}
 use Rattle.rd_notify.specs.Entries.{entry_idle, entry_notified, entry_waiting, is_left_alone}
 use Rattle.rd_notify.specs.declared.action.Action.{Action}
-use Rattle.rd_notify.specs.declared.action.Action.TheVariants.{NoAction}
+use Rattle.rd_notify.specs.declared.action.Action.TheVariants.{LeaveValue}
 use Rattle.rd_notify.specs.declared.entries.Entry.{Entry}
 use Rattle.rd_stream.specs.Holders.{HoldersView, holder_of, no_holders, with_holder_of}
 use Rattle.rd_stream.specs.MessageSnapshot.{MessageSnapshot}
@@ -178,7 +178,7 @@ Sleeps-completed priorities s task held unnamed = by_name (holder_at s held) ref
     by_name : (o : Option ℕ) → holder_at s held ≡ o → Sleeps task s (completed_for o priorities s held)
     by_name None e = refl
     by_name (Some other) e =
-        Sleeps-told priorities s task other 0 (entry_notified NoAction 0 (entry_at s other 0)) (λ same. absurd (unnamed (e ∙ ap Some (sym same))))
+        Sleeps-told priorities s task other 0 (entry_notified LeaveValue 0 (entry_at s other 0)) (λ same. absurd (unnamed (e ∙ ap Some (sym same))))
 
 -- ---- who waits at a place of a buffer
 

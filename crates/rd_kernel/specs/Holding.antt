@@ -2,7 +2,7 @@
 -- waiting is completed.
 use Rattle.std.specs.Prelude.{ℕ, ◌<◌, Bool, false, List, length, nat_eq, if◌then◌else◌}
 use Rattle.std.specs.Prelude.{Option, None, Some}
-use Rattle.rd_notify.specs.declared.action.Action.TheVariants.{NoAction}
+use Rattle.rd_notify.specs.declared.action.Action.TheVariants.{LeaveValue}
 use Rattle.rd_notify.specs.Entries.{entry_idle, entry_waiting}
 use Rattle.rd_stream.specs.declared.side.Side.{Side}
 use Rattle.rd_stream.specs.declared.side.Side.TheVariants.{Reader, Writer}
@@ -61,7 +61,7 @@ waits_held s task held wait = waits_where (holder_at s held) s task held wait
 abbrev pub completed_for : Option ℕ → List ℕ → Snapshot → Held → Snapshot
 completed_for None priorities s held = s
 completed_for (Some task) priorities s held =
-    with_holder (notified priorities s task 0 NoAction 0) held None
+    with_holder (notified priorities s task 0 LeaveValue 0) held None
 
 abbrev pub completed : List ℕ → Snapshot → Held → Snapshot
 completed priorities s held = completed_for (holder_at s held) priorities s held

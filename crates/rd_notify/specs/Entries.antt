@@ -6,7 +6,7 @@ use Rattle.rd_notify.specs.declared.entries.Entry.{Entry}
 use Rattle.rd_notify.specs.declared.entries.EntryState.{EntryState}
 use Rattle.rd_notify.specs.declared.entries.EntryState.TheVariants.{Idle, Waiting, Received}
 use Rattle.rd_notify.specs.declared.action.Action.{Action}
-use Rattle.rd_notify.specs.declared.action.Action.TheVariants.{NoAction, SetBits, Increment}
+use Rattle.rd_notify.specs.declared.action.Action.TheVariants.{LeaveValue, SetBits, Increment}
 use Rattle.rd_notify.specs.declared.action.Action.TheVariants.{Overwrite, WithoutOverwrite}
 use Rattle.rd_notify.specs.declared.action.OnExit.{OnExit}
 use Rattle.rd_notify.specs.declared.action.OnExit.TheVariants.{Clear, Decrement}
@@ -23,7 +23,7 @@ has_received Received = true
 
 -- the value that an action makes of one, with the value that is sent along (eNotifyAction)
 abbrev pub value_notified : Action → ℕ → ℕ → ℕ
-value_notified NoAction old value = old
+value_notified LeaveValue old value = old
 value_notified SetBits old value = bit_or old value
 value_notified Increment old value = (old + 1) % 2 ^ 32
 value_notified Overwrite old value = value
@@ -31,7 +31,7 @@ value_notified WithoutOverwrite old value = value
 
 -- Is an entry left alone by an action, so that nothing is overwritten?
 abbrev pub is_left_alone : Action → EntryState → Bool
-is_left_alone NoAction state = false
+is_left_alone LeaveValue state = false
 is_left_alone SetBits state = false
 is_left_alone Increment state = false
 is_left_alone Overwrite state = false

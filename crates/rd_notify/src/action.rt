@@ -8,7 +8,7 @@ ghost use Rattle.rd_notify.specs.Words.{action_of};
 #[derive(Clone, Copy, PartialEq, Eq)]
 pub enum Action {
     /// The value stays (`eNoAction`).
-    NoAction,
+    LeaveValue,
     /// Bits are set in it (`eSetBits`).
     SetBits,
     /// It grows by one, modulo 2^32 (`eIncrement`).
@@ -25,7 +25,7 @@ impl Action {
         ensures { result ≡ value_notified self old value }
     {
         match self {
-            Action::NoAction => old,
+            Action::LeaveValue => old,
             Action::SetBits => old | value,
             Action::Increment => old.wrapping_add(1),
             Action::Overwrite | Action::WithoutOverwrite => value,
@@ -39,7 +39,7 @@ pub fn action_of(word: &[u8]) -> Option<Action>
     ensures { result ≡ action_of word.now }
 {
     match word {
-        b"none" => Some(Action::NoAction),
+        b"none" => Some(Action::LeaveValue),
         b"bits" => Some(Action::SetBits),
         b"inc" => Some(Action::Increment),
         b"set" => Some(Action::Overwrite),

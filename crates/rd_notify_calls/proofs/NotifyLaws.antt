@@ -13,7 +13,7 @@ use Rattle.rd_state.specs.Waiting.{entry_of}
 use Rattle.std.proofs.lemmas.List.{get_or-set_same}
 use Rattle.std.specs.Option.{option_and_then}
 use Rattle.rd_notify.specs.declared.action.Action.{Action}
-use Rattle.rd_notify.specs.declared.action.Action.TheVariants.{Increment, NoAction, Overwrite, SetBits, WithoutOverwrite}
+use Rattle.rd_notify.specs.declared.action.Action.TheVariants.{Increment, LeaveValue, Overwrite, SetBits, WithoutOverwrite}
 use Rattle.rd_notify.specs.declared.entries.EntryState.{EntryState}
 use Rattle.rd_notify.specs.declared.entries.EntryState.TheVariants.{Idle, Received, Waiting}
 use Rattle.std.proofs.lemmas.Bool.{false≢true}
@@ -94,7 +94,7 @@ notified-has_received priorities s target index value action has =
     alone WithoutOverwrite Received left = refl
     alone WithoutOverwrite Idle left = absurd (false≢true left)
     alone WithoutOverwrite Waiting left = absurd (false≢true left)
-    alone NoAction state left = absurd (false≢true left)
+    alone LeaveValue state left = absurd (false≢true left)
     alone SetBits state left = absurd (false≢true left)
     alone Increment state left = absurd (false≢true left)
     alone Overwrite state left = absurd (false≢true left)

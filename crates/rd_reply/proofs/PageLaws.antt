@@ -5,9 +5,9 @@ use Rattle.std.specs.Global.{Vec}
 use Rattle.rd_reply.specs.declared.page.Page.{Page}
 use Rattle.rd_reply.specs.Pages.{Appends, LacksRoom, PageFrontStays}
 
-kept_then : (old between new : Vec ℕ)
+front_then : (old between new : Vec ℕ)
     → PageFrontStays old between → PageFrontStays between new → PageFrontStays old new
-kept_then old between new first second = record {
+front_then old between new first second = record {
   front = λ count within. second.front count (omega (arith, within, first.len))
       ∙ first.front count within;
   len = omega (arith, first.len, second.len);
@@ -27,11 +27,11 @@ full_at_first page s t full = omega (arith, full, length-append s t)
 full_at_second : (old between : Vec ℕ) (s t : List ℕ) → between.items ≡ old.items ++ s
     → PageFrontStays old between
     → LacksRoom between t → LacksRoom old (s ++ t)
-full_at_second old between s t is kept full =
+full_at_second old between s t is front full =
     omega (
       arith,
       full,
-      kept.room,
+      front.room,
       length-append s t,
       ap length is,
       length-append old.items s,
@@ -43,7 +43,7 @@ full_then : (old between new : Page) (s t : List ℕ) → Appends old between s 
     → new.is_full ≡ true → old.is_full ≡ false → (is : Bool) → between.is_full ≡ is
     → LacksRoom old.bytes.now (s ++ t)
 full_then old between new s t first second full fits false is =
-    full_at_second old.bytes.now between.bytes.now s t (first.added is) first.kept
+    full_at_second old.bytes.now between.bytes.now s t (first.added is) first.front
     (second.full full is)
 full_then old between new s t first second full fits true is =
     full_at_first old.bytes.now s t (first.full is fits)
@@ -61,7 +61,7 @@ appends_then {old = old} {between = between} {new = new} {s = s} {t = t} first s
   full = λ is_full fits.
       full_then old between new s t first second is_full fits between.is_full refl;
   stays = λ is_full. second.stays (first.stays is_full);
-  kept = kept_then _ _ _ first.kept second.kept;
+  front = front_then _ _ _ first.front second.front;
 }
 
 -- the same text, written in another way

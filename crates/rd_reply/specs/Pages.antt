@@ -20,4 +20,4 @@ pub record Appends (old new : Page) (text : List ℕ) : Type 0 where
   pub added : new.is_full ≡ false → new.bytes.now.items ≡ old.bytes.now.items ++ text
   pub full : new.is_full ≡ true → old.is_full ≡ false → LacksRoom old.bytes.now text
   pub stays : old.is_full ≡ true → new.is_full ≡ true
-  pub kept : PageFrontStays old.bytes.now new.bytes.now
+  pub front : PageFrontStays old.bytes.now new.bytes.now

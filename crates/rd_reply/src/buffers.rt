@@ -110,7 +110,7 @@ pub fn show_stream(page: &mut Vec<u8>, names: &Names, name: &str, stream: &Strea
         ≡ page.old.items ++ line_of (stream_text names.now name.now stream.now)) }
     ensures full { OnErr result
         (LacksRoom page.old (line_of (stream_text names.now name.now stream.now))) }
-    ensures kept { PageFrontStays page.old page.new }
+    ensures front { PageFrontStays page.old page.new }
 {
     let mut line = Page::new(page);
     append_stream(&mut line, names, name, stream);
@@ -160,7 +160,7 @@ pub fn show_message(page: &mut Vec<u8>, names: &Names, name: &str, buffer: &Mess
         ≡ page.old.items ++ line_of (message_text names.now name.now buffer.now)) }
     ensures full { OnErr result
         (LacksRoom page.old (line_of (message_text names.now name.now buffer.now))) }
-    ensures kept { PageFrontStays page.old page.new }
+    ensures front { PageFrontStays page.old page.new }
 {
     let mut line = Page::new(page);
     append_message_buffer(&mut line, names, name, buffer);

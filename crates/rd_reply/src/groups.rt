@@ -81,7 +81,7 @@ pub fn show_group(page: &mut Vec<u8>, names: &Names, name: &str, group: &Group) 
         ≡ page.old.items ++ line_of (group_text names.now name.now group.now)) }
     ensures full { OnErr result
         (LacksRoom page.old (line_of (group_text names.now name.now group.now))) }
-    ensures kept { PageFrontStays page.old page.new }
+    ensures front { PageFrontStays page.old page.new }
 {
     let mut line = Page::new(page);
     append_group(&mut line, names, name, group);

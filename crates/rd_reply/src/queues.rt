@@ -54,7 +54,7 @@ pub fn show_queue(page: &mut Vec<u8>, names: &Names, name: &str, queue: &Queue) 
         ≡ page.old.items ++ line_of (queue_text names.now name.now queue.now)) }
     ensures full { OnErr result
         (LacksRoom page.old (line_of (queue_text names.now name.now queue.now))) }
-    ensures kept { PageFrontStays page.old page.new }
+    ensures front { PageFrontStays page.old page.new }
 {
     let mut line = Page::new(page);
     append_queue(&mut line, names, name, queue);
@@ -122,7 +122,7 @@ pub fn show_queue_set(
         ≡ page.old.items ++ line_of (queue_set_text names.now name.now queue_set.now)) }
     ensures full { OnErr result
         (LacksRoom page.old (line_of (queue_set_text names.now name.now queue_set.now))) }
-    ensures kept { PageFrontStays page.old page.new }
+    ensures front { PageFrontStays page.old page.new }
 {
     let mut line = Page::new(page);
     append_queue_set(&mut line, names, name, queue_set);

@@ -184,7 +184,7 @@ pub fn show_task(
         ≡ page.old.items ++ line_of (task_text names.now name.now core task.now)) }
     ensures full { OnErr result
         (LacksRoom page.old (line_of (task_text names.now name.now core task.now))) }
-    ensures kept { PageFrontStays page.old page.new }
+    ensures front { PageFrontStays page.old page.new }
 {
     let mut line = Page::new(page);
     append_task(&mut line, names, name, core, task);
@@ -229,7 +229,7 @@ pub fn show_cores(page: &mut Vec<u8>, names: &Names, state: &State) -> Appended
         ≡ page.old.items ++ line_of (cores_text names.now state.now)) }
     ensures full { OnErr result
         (LacksRoom page.old (line_of (cores_text names.now state.now))) }
-    ensures kept { PageFrontStays page.old page.new }
+    ensures front { PageFrontStays page.old page.new }
 {
     let mut line = Page::new(page);
     append_cores(&mut line, names, state);

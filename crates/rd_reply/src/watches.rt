@@ -53,7 +53,7 @@ pub fn show_watches(page: &mut Vec<u8>, watches: &[WatchShown]) -> Appended
     ensures text { OnOk result (page.new.items
         ≡ page.old.items ++ line_of (watches_text watches.now)) }
     ensures full { OnErr result (LacksRoom page.old (line_of (watches_text watches.now))) }
-    ensures kept { PageFrontStays page.old page.new }
+    ensures front { PageFrontStays page.old page.new }
 {
     let mut line = Page::new(page);
     append_watches(&mut line, watches);

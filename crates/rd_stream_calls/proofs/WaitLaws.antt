@@ -7,7 +7,7 @@ use Rattle.std.proofs.lemmas.List.{get_or-set_other, get_or-set_same, set_past}
 use Rattle.std.specs.Prelude.{◌&&◌, ◌||◌, min, nat_eq, nat_lt, slice_index_or}
 use Rattle.rd_app.specs.declared.instr.Operand.{Operand}
 use Rattle.rd_notify.specs.Entries.{entry_idle, entry_notified, idle_entry}
-use Rattle.rd_notify.specs.declared.action.Action.TheVariants.{NoAction}
+use Rattle.rd_notify.specs.declared.action.Action.TheVariants.{LeaveValue}
 use Rattle.rd_notify.specs.declared.entries.Entry.{Entry}
 use Rattle.rd_notify.specs.declared.entries.EntryState.TheVariants.{Idle}
 use Rattle.rd_stream.specs.Holders.{HoldersView, holder_of, with_holder_of}
@@ -179,7 +179,7 @@ over_when_completed priorities p task held other rid = by_name (holder_at p othe
         let w = woken_all priorities TriesAgain p tasks in
         let after = AfterWaking-woken_all priorities TriesAgain p tasks in
         record {
-          idle = entry_after w t 0 task 0 (entry_notified NoAction 0 (entry_at p t 0)) (λ (x : Entry). x.state ≡ Idle)
+          idle = entry_after w t 0 task 0 (entry_notified LeaveValue 0 (entry_at p t 0)) (λ (x : Entry). x.state ≡ Idle)
               (λ same first. absurd (differ t e same))
               (ap (λ (entries : List Entry). (slice_index_or entries 0 idle_entry).state) (EntriesStay-woken_all priorities TriesAgain p tasks task) ∙ rid.over.idle);
           unnamed = unnamed_still w.objects other held task (ap (is_named task) (after.holders held) ∙ rid.over.unnamed);
