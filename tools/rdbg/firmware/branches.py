@@ -12,11 +12,14 @@ from typing import List, Optional, Sequence, Tuple
 from rdbg.firmware.numbers import LARGEST, Kept, Numbers
 from rdbg.firmware.tokens import Refusal, Token, shown
 from rdbg.operands import REGISTER
+from rdbg.wording import counted
 
 # The signs that part words of a test, also where no spaces stand round them.
-SIGNS = re.compile(r"==|!=|<=|>=|&&|[=!<>&]")
+PIECE = r"==|!=|<=|>=|&&|[=!<>&]|[^=!<>&]+"
 NOT, EQUAL, UNEQUAL, BITS = ("!", "not"), ("=", "=="), ("!=",), ("&",)
 ORDERED, JOINED = ("<", ">", "<=", ">="), ("&&", "||", "|", "and", "or")
+BEHIND = (*EQUAL, *UNEQUAL, *BITS, *ORDERED, *JOINED)
+ONE_TEST = "one test stands in a line; more are a line each"
 # (parentheses within each other)
 DEEPEST = 20
 # How many instructions look at bits, before it is known whether they are there.
@@ -29,19 +32,14 @@ LOOKS_AT_BITS = (
 ONE_OF = "r0 to r7, what it is compared with, or its bits: r0, !r0, r0 = 7, r0 != 7, r0 & STOP"
 
 
-@dataclasses.dataclass(frozen=True)
-class Jump:
-    """Instructions that jump to their target or go on behind them, and how many moves it takes
-    until they have gone on, and until they have jumped."""
+# Instructions that jump to their target or go on behind them, and what they cost in words.
+Jump = Tuple[Tuple[str, ...], str]
 
-    texts: Tuple[str, ...]
-    goes_on: int
-    jumps: int
 
-    def cost(self) -> str:
-        """The moves in words: `6 moves, 7 where it jumps`."""
-        moves = "1 move" if self.goes_on == 1 else f"{self.goes_on} moves"
-        return moves if self.goes_on == self.jumps else f"{moves}, {self.jumps} where it jumps"
+def cost(goes_on: int, jumps: int) -> str:
+    """The moves until they have gone on, and have jumped: `6 moves, 7 where it jumps`."""
+    moves = counted(goes_on, "move")
+    return moves if goes_on == jumps else f"{moves}, {jumps} where it jumps"
 
 
 @dataclasses.dataclass(frozen=True)
@@ -62,19 +60,14 @@ class Test:
         """The instructions that jump where the test is met."""
         if self.mask is not None:
             return self._by_bits(self.mask)
-        looked, register = self._compared()
-        jump = f"jumpz {register} {{target}}"
+        # (behind what looks, the register is 0 where the number is this one)
+        less, register = -self.number & LARGEST, "{spare}" if self.number else self.register
+        looked = (f"move {{spare}} {self.register}", f"add {{spare}} {less}") if less else ()
+        count = len(looked) + 1
         if not self.is_turned:
-            return Jump((*looked, jump), len(looked) + 1, len(looked) + 1)
-        over = f"jumpz {register} {{here[{len(looked) + 2}]}}"
-        return Jump((*looked, over, "jump {target}"), len(looked) + 1, len(looked) + 2)
-
-    def _compared(self) -> Tuple[Tuple[str, ...], str]:
-        """The instructions behind which a register is 0 where the number is this one."""
-        if not self.number:
-            return (), self.register
-        less = -self.number & LARGEST
-        return (f"move {{spare}} {self.register}", f"add {{spare}} {less}"), "{spare}"
+            return (*looked, f"jumpz {register} {{target}}"), cost(count, count)
+        over = f"jumpz {register} {{here[{count + 1}]}}"
+        return (*looked, over, "jump {target}"), cost(count, count + 1)
 
     def _by_bits(self, mask: int) -> Jump:
         """The same by bits. r0 is what it was again, whichever way it goes on."""
@@ -85,27 +78,20 @@ class Test:
         count, back = len(looked), "move r0 {spare}"
         same = f"jumpz r0 {{here[{count + 3}]}}"
         if self.is_turned:
-            return Jump((*looked, same, back, "jump {target}", back), count + 2, count + 3)
+            return (*looked, same, back, "jump {target}", back), cost(count + 2, count + 3)
         past = f"jump {{here[{count + 5}]}}"
-        return Jump((*looked, same, back, past, back, "jump {target}"), count + 3, count + 3)
+        return (*looked, same, back, past, back, "jump {target}"), cost(count + 3, count + 3)
 
 
 def split(tokens: Sequence[Token]) -> List[Token]:
     """The tokens of a test, parted at its signs: `r0&STOP` is three."""
     found: List[Token] = []
     for token in tokens:
-        at = 0
-        for sign in SIGNS.finditer(token.text) if token.is_word() else ():
-            found += [piece(token, at, sign.start())] if at < sign.start() else []
-            found.append(piece(token, sign.start(), sign.end()))
-            at = sign.end()
-        found += [piece(token, at, len(token.text))] if at < len(token.text) else []
+        pieces = re.finditer(PIECE if token.is_word() else ".+", token.text, re.DOTALL)
+        for it in pieces:
+            gap = "" if it.start() else token.gap
+            found.append(Token(it[0], token.place_of(it.start()), gap))
     return found
-
-
-def piece(token: Token, first: int, end: int) -> Token:
-    """A part of a token."""
-    return Token(token.text[first:end], token.place_of(first), "" if first else token.gap)
 
 
 class Tests:
@@ -134,10 +120,10 @@ class Tests:
         """The token that was passed last, or the first."""
         return self.numbers.tokens[max(0, self.numbers.at - 1)]
 
-    def _no_more(self, why: str) -> None:
+    def _no_more(self, why: str, signs: Sequence[str] = BEHIND) -> None:
         """Refuses a sign behind what was read."""
         token = self.numbers.next()
-        if token is not None and token.text in (*EQUAL, *UNEQUAL, *BITS, *ORDERED, *JOINED):
+        if token is not None and token.text in signs:
             raise Refusal(token.place, why)
 
     def _plain(self, depth: int) -> Test:
@@ -173,7 +159,7 @@ class Tests:
             self._no_order()
             return left
         self._no_order()
-        self._no_more("one test stands in a line; more are a line each")
+        self._no_more(ONE_TEST)
         return found
 
     def _equal(self, left: Test) -> Test:
@@ -195,7 +181,8 @@ class Tests:
         if token is not None and re.fullmatch(REGISTER, token.text):
             message = "no instruction compares two registers, or looks at bits that one has"
             raise Refusal(token.place, message)
-        value = self.numbers.shifted() if token is None else self._signed(token)
+        value = self.numbers.below_0()
+        value = self.numbers.shifted() if value is None else value
         behind = self.numbers.next()
         if token is not None and behind is not None and behind.text == "|":
             what = f"(.. {sign} {shown(token.text)}) | .."
@@ -203,20 +190,7 @@ class Tests:
             raise Refusal(behind.place, message)
         return value
 
-    def _signed(self, token: Token) -> int:
-        """A number; one below 0 as the number that 32 bits make of it."""
-        if not token.text.startswith("-") or token.text == "-":
-            return self.numbers.shifted()
-        self.numbers.at += 1
-        behind = [dataclasses.replace(token, text=token.text[1:], place=token.place_of(1))]
-        return -Numbers(behind, self.numbers.kept).number() & LARGEST
-
     def _no_order(self) -> None:
         """Refuses signs of an order."""
-        self._no_more_of(ORDERED, "no instruction looks at which is more: = and != are there")
-        self._no_more_of(JOINED, "one test stands in a line; more are a line each")
-
-    def _no_more_of(self, signs: Sequence[str], why: str) -> None:
-        token = self.numbers.next()
-        if token is not None and token.text in signs:
-            raise Refusal(token.place, why)
+        self._no_more("no instruction looks at which is more: = and != are there", ORDERED)
+        self._no_more(ONE_TEST, JOINED)

@@ -17,6 +17,17 @@ COLON, SEMICOLON, ANY_TIMES = ":", ";", "any"
 CALLS = "send Q HEX, notify K I N ACTION, or give NAME"
 ROUND = "let a task of the highest priority play it, with wait for its time (docs/FROM_C.md)"
 NOTIFY, SEND = "notify", "send"
+KEYS = AFTER, APART, TIMES = "after", "apart", "times"
+# The operands of each call, and how they are read.
+OPERANDS: Dict[str, Dict[str, Callable[[Operands], Operand]]] = {
+    NOTIFY: {
+        "K": Operands.task,
+        "I": Operands.value,
+        "N": Operands.value,
+        "ACTION": Operands.word,
+    },
+    SEND: {"Q": Operands.word, "HEX": Operands.data},
+}
 
 
 @dataclasses.dataclass(frozen=True)
@@ -74,38 +85,28 @@ class InterruptLine:
     def _keys(self, tokens: Sequence[Token]) -> None:
         """What is said of when it comes."""
         reader = Operands(tokens, self._kept)
-        for token in iter(reader.next, None):
-            assert token is not None
-            reader.at += 1
+        for token in reader.each():
             if token.text not in KEYS:
                 raise Refusal(token.place, f"{shown(token.text)} is no key: {FORM}")
             if reader.next() is None:
                 raise Refusal(token.place, f"{FORM}: nothing stands behind {token.text}")
-            KEYS[token.text](self, reader)
-
-    def _read_after(self, reader: Operands) -> None:
-        reader.word()
-        self._after = reader.tokens[reader.at - 1]
-
-    def _read_apart(self, reader: Operands) -> None:
-        self._apart = self._bounded(reader, "apart", 0, MOST_APART)
-
-    def _read_times(self, reader: Operands) -> None:
-        token = reader.next()
-        if token is not None and token.text == ANY_TIMES:
-            reader.at += 1
-            self._times = ANY
-        else:
-            self._times = self._bounded(reader, "times", 1, MOST_TIMES)
+            if token.text == AFTER:
+                reader.word()
+                self._after = reader.tokens[reader.at - 1]
+            elif token.text == APART:
+                self._apart = self._bounded(reader, APART, 0, MOST_APART)
+            elif reader.is_next(ANY_TIMES):
+                self._times = ANY
+            else:
+                self._times = self._bounded(reader, TIMES, 1, MOST_TIMES)
 
     def _bounded(self, reader: Operands, key: str, least: int, most: int) -> int:
         token, value = reader.next(), reader.number()
-        if token is not None and not least <= value <= most:
-            any_times = ", or any" if key == "times" else ""
-            message = f"{key} is {value}, and is to be {least} to {most}{any_times}"
-            self._kept.refusals.append(Refusal(token.place, message))
-            return least
-        return value
+        if token is None or least <= value <= most:
+            return value
+        limits = f"{least} to {most}{', or any' if key == TIMES else ''}"
+        self._kept.refuse(token.place, f"{key} is {value}, and is to be {limits}")
+        return least
 
     def _calls(self, tokens: Sequence[Token]) -> Iterator[Call]:
         """The calls behind the colon, with semicolons between them."""
@@ -129,20 +130,16 @@ class InterruptLine:
             return self._give(tokens)
         if word not in (NOTIFY, SEND):
             raise Refusal(tokens[0].place, why_no_call(word))
-        kinds: Tuple[Tuple[str, Callable[[Operands], Operand]], ...] = OPERANDS[word]
-        found = [word]
-        for symbol, read in kinds:
+        found, form = [word], f"{word} {' '.join(OPERANDS[word])}"
+        for symbol, read in OPERANDS[word].items():
             if reader.next() is None:
-                message = f"{form_of(word)} lacks its {KIND_OF[symbol].noun}"
-                raise Refusal(tokens[0].place, message)
+                raise Refusal(tokens[0].place, f"{form} lacks its {KIND_OF[symbol].noun}")
             found.append(read(reader).text)
-        reader.end(form_of(word))
+        reader.end(form)
         if word == SEND and found[1] in self._semaphores:
             self._give([tokens[0], tokens[1]])
-            named = self._semaphores[found[1]]
-            raise Refusal(
-                tokens[1].place, f"{named.name} is a {named.word.text}: give {named.name}"
-            )
+            word = self._semaphores[found[1]].word.text
+            raise Refusal(tokens[1].place, f"{found[1]} is a {word}: give {found[1]}")
         return found
 
     def _give(self, tokens: Sequence[Token]) -> List[str]:
@@ -156,27 +153,6 @@ class InterruptLine:
             message = f"{name} has an item while it is taken, and no interrupt takes one out"
             raise Refusal(tokens[1].place, f"{message}: {ROUND}")
         return [SEND, name, "00"]
-
-
-KEYS: Dict[str, Callable[[InterruptLine, Operands], None]] = {
-    "after": InterruptLine._read_after,
-    "apart": InterruptLine._read_apart,
-    "times": InterruptLine._read_times,
-}
-OPERANDS: Dict[str, Tuple[Tuple[str, Callable[[Operands], Operand]], ...]] = {
-    NOTIFY: (
-        ("K", Operands.task),
-        ("I", Operands.value),
-        ("N", Operands.value),
-        ("ACTION", Operands.word),
-    ),
-    SEND: (("Q", Operands.word), ("HEX", Operands.data)),
-}
-
-
-def form_of(word: str) -> str:
-    """How a call is written."""
-    return " ".join([word, *(symbol for symbol, _ in OPERANDS[word])])
 
 
 def why_no_call(word: str) -> str:

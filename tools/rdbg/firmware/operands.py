@@ -63,10 +63,8 @@ def byte_of(token: Token, value: int) -> Operand:
     """The byte that a const is. Raises `Refusal` where it is none, or its name could be bytes."""
     name = shown(token.text)
     if BYTES.fullmatch(token.text):
-        message = (
-            f"{name} is a const, and could be bytes: write 0x{name} for these, or 0x{value:02x}"
-        )
-        raise Refusal(token.place, message)
+        either = f"write 0x{name} for these, or 0x{value:02x}"
+        raise Refusal(token.place, f"{name} is a const, and could be bytes: {either}")
     if value > 0xFF:
         raise Refusal(token.place, f"{name} is {value}, and a byte is 0 to 255")
     return dataclasses.replace(made(f"{value:02x}", token.place), spelled=name)
@@ -132,12 +130,8 @@ class Operands(Numbers):
 
     def signed(self) -> Operand:
         """The next number; one below 0 as the number that 32 bits make of it."""
-        token = self.tokens[self.at]
-        if not token.text.startswith("-") or token.text == "-":
-            return self.value()
-        self.at += 1
-        behind = Numbers([Token(token.text[1:], token.place_of(1))], self.kept)
-        return made(str(-behind.number() & LARGEST), token.place)
+        place, number = self.tokens[self.at].place, self.below_0()
+        return self.value() if number is None else made(str(number), place)
 
     def register_or_value(self) -> Operand:
         """The next register or number."""
@@ -162,16 +156,12 @@ class Operands(Numbers):
 
     def data(self) -> Operand:
         """All bytes that come: digits, a text in quotes, or consts of a byte each."""
-        pieces = [self._piece()]
-        while self.next() is not None:
-            pieces.append(self._piece())
+        pieces = [self._piece(token) for token in self.each()]
         text = "".join(piece.text for piece in pieces)
         columns = [column for piece in pieces for column in piece.columns]
         return Operand(text, columns) if text else made("-", self.tokens[0].place)
 
-    def _piece(self) -> Operand:
-        token = self.tokens[self.at]
-        self.at += 1
+    def _piece(self, token: Token) -> Operand:
         if token.is_quoted():
             return bytes_of(token)
         value = self.constants.value(token)

@@ -74,7 +74,7 @@ def if_at(code: Sequence[str], at: int, own: str) -> Optional[FoundIf]:
     into = jumped_into(code)
     longest: Optional[FoundIf] = None
     for test, spare, entry in tests_at(code, at):
-        templates = test.jump().texts
+        templates, _ = test.jump()
         end = at + len(templates)
         here = range(at, end + 1)
         values = {"spare": spare, "entry": entry, "own": own, "here": here, "target": "{target}"}
