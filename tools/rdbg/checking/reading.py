@@ -6,7 +6,7 @@ from typing import Dict, Iterator, List, Optional, Sequence, Tuple
 
 from rdbg.checking.freertos import sentence
 from rdbg.checking.slips import CONSTANTS, slip, statement
-from rdbg.instructions import FORM_OF, InstructionForm, form_of
+from rdbg.instructions import FORM_OF, InstructionForm
 from rdbg.operands import KIND_OF, NAMED, PATTERN_OF, Scope
 from rdbg.tree import Node, Place
 from rdbg.wording import nearest, shown, with_article
@@ -42,7 +42,9 @@ class Layout:
         """Which word is which operand, where all are right in another order than they stand in."""
         operands, words = len(self.symbols), len(self.words)
         unfit = self.unfit() if words <= operands else []
-        if not unfit or any(self.is_of_kind(*pair) for pair in unfit):
+        # (one that has the form of its operand, but for a limit, stands where it is meant to)
+        kinds = [PATTERN_OF[self.symbols[at]].fullmatch(self.words[word]) for at, word in unfit]
+        if not unfit or any(kinds):
             return None
         fits = [[self.fits(operand, word) for word in range(words)] for operand in range(operands)]
         orders = itertools.permutations(range(operands), words)
@@ -58,24 +60,15 @@ class Layout:
             return -sum(at == word for word, at in enumerate(order)), -weight
         return sum(one > other for one, other in itertools.combinations(order, 2)), -weight
 
-    def is_of_kind(self, operand: int, word: int) -> bool:
-        """Whether a word has the form of an operand, but for a limit."""
-        return PATTERN_OF[self.symbols[operand]].fullmatch(self.words[word]) is not None
-
     def choice(self) -> Dict[int, int]:
         """Which word is which operand, in their order, so that as many as can be fit."""
         operands, words = len(self.symbols), len(self.words)
         few = min(operands, words)
         if words > operands + FEW:
             return {at: at for at in range(few)}
-        best = max(
-            itertools.product(
-                itertools.combinations(range(operands), few),
-                itertools.combinations(range(words), few),
-            ),
-            key=lambda pair: sum(self.weight(*each) for each in zip(*pair)),
-        )
-        return dict(zip(*best))
+        choices = (itertools.combinations(range(count), few) for count in (operands, words))
+        pairs = (list(zip(*pair)) for pair in itertools.product(*choices))
+        return dict(max(pairs, key=lambda it: sum(self.weight(*each) for each in it)))
 
 
 Word = Tuple[str, Place]
@@ -134,7 +127,7 @@ def read(node: Node, scope: Scope) -> Reading:
     words = list(node.words())
     if not words:
         return refused(None, "it is empty", node.place)
-    form = form_of(words[0][0])
+    form = FORM_OF.get(words[0][0])
     if form is None:
         return refused(None, unknown([word for word, _ in words], scope), words[0][1])
     in_text = text_in_quotes(" ".join(word for word, _ in words[1:]))

@@ -136,11 +136,8 @@ READERS: Tuple[Callable[[str, str, Scope], Optional[str]], ...] = (
 
 def slip(symbol: str, word: str, scope: Scope) -> str:
     """What to write in place of a word that is no such operand; empty where nothing is near."""
-    for read in READERS:
-        found = read(symbol, word, scope)
-        if found is not None:
-            return found
-    return ""
+    found = (read(symbol, word, scope) for read in READERS)
+    return next(filter(None, found), "")
 
 
 A, B = "(?P<a>[rR][0-7])", "(?P<b>[rR][0-7])"

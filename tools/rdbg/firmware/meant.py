@@ -15,17 +15,8 @@ from rdbg.firmware.tokens import Token, shown
 from rdbg.instructions import FORM_OF
 from rdbg.wording import by_word, nearest
 
-FIRST_WORDS = (
-    *FORM_OF,
-    *OBJECTS,
-    *SETTINGS,
-    *blocks.WORDS,
-    *FORMS,
-    GIVE,
-    "interrupt",
-    "wait",
-    "const",
-)
+OTHERS = (GIVE, "interrupt", "wait", "const")
+FIRST_WORDS = (*FORM_OF, *OBJECTS, *SETTINGS, *blocks.WORDS, *FORMS, *OTHERS)
 BLOCKS_ARE = "loop, while and if end with end"
 SEMAPHORE = "it is written semaphore NAME length N given, or mutex NAME"
 # How that is written which FreeRTOS calls otherwise.
@@ -147,12 +138,13 @@ def message_of(tokens: Sequence[Token], targets: Set[str]) -> str:
         return said
     if BRACES.fullmatch(word):
         return f"there are no braces: {BLOCKS_ARE}"
-    if len(tokens) > 1 and VARIABLES.fullmatch(word) and word.lower() not in OTHER_WORDS:
-        return f"no line begins with {shown(word)}: {NO_VARIABLES}"
-    if len(tokens) > 1 and NAME.fullmatch(word) and ASSIGNS.fullmatch(tokens[1].text):
-        return f"no line begins with {shown(word)}: {NO_VARIABLES}"
-    if word.lower() in OTHER_WORDS and len(tokens) > 1:
-        return f"{shown(word)} is written {form_of(OTHER_WORDS[word.lower()])}"
+    other, behind = OTHER_WORDS.get(word.lower()), tokens[1:]
+    is_of_c = behind and VARIABLES.fullmatch(word) and not other
+    no_word = f"no line begins with {shown(word)}"
+    if is_of_c or (behind and NAME.fullmatch(word) and ASSIGNS.fullmatch(behind[0].text)):
+        return f"{no_word}: {NO_VARIABLES}"
+    if other and behind:
+        return f"{shown(word)} is written {form_of(other)}"
     if is_label(tokens, targets):
-        return f"no line begins with {shown(word)}; a label has a colon: {shown(word)}:"
-    return f"no line begins with {shown(word)}{near_to(word, FIRST_WORDS)}"
+        return f"{no_word}; a label has a colon: {shown(word)}:"
+    return f"{no_word}{near_to(word, FIRST_WORDS)}"

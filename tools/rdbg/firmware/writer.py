@@ -1,5 +1,6 @@
 """The text in lines (`.fw`) of an application: what `rdbg.firmware` reads, written to be read."""
 import dataclasses
+import itertools
 import re
 from typing import Any, Callable, Dict, Iterator, List, Optional, Sequence, Tuple
 
@@ -13,7 +14,8 @@ from rdbg.json_layout import pairs, settings
 from rdbg.shapes import FILE
 
 JUMPS = ("jump", "jumpz")
-TARGET = re.compile(r"\{target\}")
+# What stands for a number while instructions are compared.
+TARGET = "TARGET"
 
 
 @dataclasses.dataclass(frozen=True)
@@ -36,13 +38,10 @@ def text_of_test(test: Test) -> str:
     return looked if test.is_turned else f"!({looked})"
 
 
-def jumped_into(code: Sequence[str]) -> Dict[int, List[int]]:
-    """The instructions that are jumped to, by their numbers, each with those that jump there."""
-    found: Dict[int, List[int]] = {}
-    for number, words in enumerate(text.split(" ") for text in code):
-        if words[0] in JUMPS and is_digits(words[-1]):
-            found.setdefault(int(words[-1]), []).append(number)
-    return found
+def jumps_in(code: Sequence[str]) -> List[Tuple[int, int]]:
+    """The instructions that jump, by their numbers, each with the one that it jumps to."""
+    words = enumerate(text.split(" ") for text in code)
+    return [(at, int(it[-1])) for at, it in words if it[0] in JUMPS and is_digits(it[-1])]
 
 
 def tests_at(code: Sequence[str], at: int) -> Iterator[Tuple[Test, str, str]]:
@@ -62,32 +61,18 @@ def tests_at(code: Sequence[str], at: int) -> Iterator[Tuple[Test, str, str]]:
             yield from ((test, spare, words[1][2]) for test in tests)
 
 
-def target_of(template: str, text: str) -> Optional[int]:
-    """The target that an instruction has where its template has one."""
-    pattern = TARGET.sub("([0-9]+)", re.escape(template).replace(r"\{target\}", "{target}"))
-    found = re.fullmatch(pattern, text)
-    return int(found[1]) if found else None
-
-
-def if_at(code: Sequence[str], at: int, own: str) -> Optional[FoundIf]:
-    """The `if` that begins with an instruction, into whose middle nothing jumps, or none."""
-    into = jumped_into(code)
-    longest: Optional[FoundIf] = None
+def ifs_at(code: Sequence[str], at: int, own: str) -> Iterator[FoundIf]:
+    """Each `if` that may begin with an instruction, into whose middle nothing jumps."""
+    jumps = jumps_in(code)
     for test, spare, entry in tests_at(code, at):
         templates, _ = test.jump()
         end = at + len(templates)
-        here = range(at, end + 1)
-        values = {"spare": spare, "entry": entry, "own": own, "here": here, "target": "{target}"}
-        texts = [template.format(**values) for template in templates]
-        targets = [target_of(*pair) for pair in zip(texts, code[at:end]) if "{" in pair[0]]
-        plain = [pair for pair in zip(texts, code[at:end]) if "{" not in pair[0]]
-        is_alone = all(at <= it < end for to in range(at + 1, end) for it in into.get(to, ()))
-        if end <= len(code) and is_alone and all(a == b for a, b in plain):
-            is_found = len(targets) == 1 and targets[0] is not None
-            if is_found and (longest is None or longest.length < len(templates)):
-                assert targets[0] is not None
-                longest = FoundIf(test, len(templates), targets[0])
-    return longest
+        values = {"spare": spare, "entry": entry, "own": own, "target": TARGET}
+        text = "\n".join(templates).format(here=range(at, end + 1), **values)
+        pattern = re.escape(text).replace(TARGET, "([0-9]+)")
+        found = re.fullmatch(pattern, "\n".join(code[at:end]))
+        if found and all(at <= it < end for it, to in jumps if at < to < end):
+            yield FoundIf(test, len(templates), int(found[1]))
 
 
 INDENT = "    "
@@ -154,7 +139,8 @@ def lines_of(task: Task, has_ifs: bool) -> List[Line]:
     found: List[Line] = []
     at = 0
     while at < len(code):
-        several = if_at(code, at, task.name) if has_ifs else None
+        ifs = ifs_at(code, at, task.name) if has_ifs else ()
+        several = max(ifs, key=lambda it: it.length, default=None)
         if several is not None:
             text = f"if {text_of_test(several.test)} goto {label(str(several.target))}"
             found.append((at, text, several.target))
@@ -193,14 +179,11 @@ def task_blocks(app: Application, is_plain: bool) -> Iterator[List[str]]:
 def counted(left: Sequence[Tuple[Task, List[str]]]) -> int:
     """How many tasks at the front have one script and priority, and names counted from 0."""
     first, script = left[0]
-    count = 0
-    while first.name.endswith("0") and count < len(left):
-        task, other = left[count]
-        is_one = (task.name, task.priority) == (f"{first.name[:-1]}{count}", first.priority)
-        if not is_one or other != script:
-            break
-        count += 1
-    return count
+    alike = (
+        (it.name, it.priority, other) == (f"{first.name[:-1]}{at}", first.priority, script)
+        for at, (it, other) in enumerate(left)
+    )
+    return len([*itertools.takewhile(bool, alike)])
 
 
 def object_cells(word: str, thing: Any) -> List[str]:

@@ -1,5 +1,6 @@
 """FreeRTOS's calls as they stand in C: what a model says of each, which of its arguments that has,
 and where calls are found."""
+import itertools
 import re
 from typing import Dict, List, Mapping, NamedTuple, Sequence, Tuple
 
@@ -94,15 +95,10 @@ class Template(NamedTuple):
 def template(text: str) -> Template:
     """A row of the table, read."""
     word, *parts = text.split()
-    operands = []
-    for part in parts:
-        kind, sign, value = part.partition("=")
-        if sign:
-            operands.append(Operand(kind, -1, value))
-        else:
-            kind, _, value = part.partition(":")
-            operands.append(Operand(kind, int(value), ""))
-    return Template(word, tuple(operands))
+    found = (re.fullmatch("(.+)(?::([0-9]+)|=(.+))", part) for part in parts)
+    return Template(
+        word, tuple(Operand(it[1], int(it[2] or -1), it[3] or "") for it in found if it)
+    )
 
 
 TEMPLATES = {name: tuple(map(template, texts)) for name, texts in CALLS.items()}
@@ -214,16 +210,13 @@ def made_by(call: Call, functions: Mapping[str, Block]) -> List[Call]:
     """The calls of FreeRTOS that a call of one of these functions makes, by itself and by others of
     them, with what it is given in the place of its parameters."""
     waiting, found = [call], []
-    for _ in range(MOST_CALLS):
-        if not waiting:
-            break
-        one = waiting.pop(0)
+    for one in itertools.islice(waiting, MOST_CALLS):  # (which grows meanwhile)
         block = functions[one.name]
         given = dict(zip(kept(block), one.arguments))
         for it in calls_in(block.pieces):
-            put = (
+            put = [
                 NAME.sub(lambda name: given.get(name[0], name[0]), text) for text in it.arguments
-            )
+            ]
             if it.name in TEMPLATES:
                 found.append(it._replace(arguments=tuple(put)))
             elif it.name in functions:

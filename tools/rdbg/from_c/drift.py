@@ -1,33 +1,12 @@
 """Where the C of a firmware and the model in its comments have gone apart."""
 import pathlib
 import re
-from typing import (
-    Dict,
-    Iterable,
-    Iterator,
-    List,
-    Mapping,
-    NamedTuple,
-    Optional,
-    Sequence,
-    Set,
-    Tuple,
-)
+from typing import Dict, Iterator, List, Mapping, NamedTuple, Optional, Sequence, Set, Tuple
 
 from rdbg.from_c.calls import CHOICES, TEMPLATES, Block, Call, Operand, blocks, calls_in, made_by
 from rdbg.from_c.lexer import DIRECTIVE, Piece, pieces
 from rdbg.from_c.lines import SKIP, Line, lines_of, rows_alone
-from rdbg.from_c.said import (
-    Said,
-    Value,
-    defined,
-    first_of,
-    is_name,
-    said,
-    shown,
-    value_of,
-    values,
-)
+from rdbg.from_c.said import Said, Value, defined, first_of, is_name, said, shown, value_of, values
 from rdbg.json_layout import MOST_BYTES
 from rdbg.operands import PATTERN_OF
 from rdbg.tree import Fault, Place
@@ -143,14 +122,14 @@ INCLUDE = re.compile(r'#\s*include\s*"([^"/\\]+)"')
 KERNEL, CONFIGURATION = "FreeRTOS.h", "FreeRTOSConfig.h"
 
 
-def included(directives: Iterable[Piece]) -> List[str]:
+def included(directives: Sequence[Piece]) -> List[str]:
     """The names that are included by quotes."""
     found = (INCLUDE.match(it.text) for it in directives if it.kind == DIRECTIVE)
     names = [it[1] for it in found if it]
     return [*names, CONFIGURATION] if KERNEL in names else names
 
 
-def of_headers(path: str, source: Iterable[Piece]) -> List[Piece]:
+def of_headers(path: str, source: Sequence[Piece]) -> List[Piece]:
     """What stands in the headers of a source of this path, and in theirs. Those that aren't in its
     folder are passed over."""
     folder, found = pathlib.Path(path).parent, []
@@ -227,12 +206,8 @@ class Function:
 
     def _near(self, it: Beside) -> List[Said]:
         """The lines beside a call that are of no other yet."""
-        reach = self._reach(it)
-        return [
-            line
-            for line in self._said
-            if line.line.number in reach and line.line.place not in self._used
-        ]
+        left = (each for each in self._said if each.line.place not in self._used)
+        return [each for each in left if each.line.number in self._reach(it)]
 
     def _reach(self, it: Beside) -> range:
         """The rows in which what stands is beside a call."""
@@ -253,13 +228,9 @@ class Function:
     def _fitting(self, it: Beside, is_any: bool) -> Optional[Said]:
         """The nearest line beside a call of FreeRTOS. It has the word of the call, or, where it may
         be any, that of another."""
-        words = words_of(it.call)
-        found = [
-            line
-            for line in self._near(it)
-            if not line.line.function and (is_any or line.word in words)
-        ]
-        row = it.call.place.line
+        words, row = words_of(it.call), it.call.place.line
+        near = [line for line in self._near(it) if not line.line.function]
+        found = [line for line in near if is_any or line.word in words]
         nearest = min(found, key=lambda one: abs(one.line.number - row), default=None)
         if nearest is not None:
             self._used.add(nearest.line.place)
@@ -267,12 +238,11 @@ class Function:
 
     def _is_skipped(self, it: Beside, function: str) -> bool:
         """Whether a line beside a call says that the model leaves it out."""
-        reach = self._reach(it)
-        for skip in self._skips:
-            if skip.number in reach and skip.function == function:
-                self._skips.remove(skip)
-                return True
-        return False
+        own = (skip for skip in self._skips if skip.function == function)
+        found = next((skip for skip in own if skip.number in self._reach(it)), None)
+        if found is not None:
+            self._skips.remove(found)
+        return found is not None
 
     def _judge(self, it: Beside, line: Optional[Said]) -> Iterator[Fault]:
         """What is told of a call of FreeRTOS, and of the line beside it."""
@@ -312,11 +282,9 @@ class Function:
     def _without(self, line: Said) -> Fault:
         """That a line stands beside no call."""
         function = line.line.function
-        if function:
-            return fault(line.line.place, f"{shown(line)}: no call of {function} stands beside it")
-        own = f"of a function that makes it: // rdbg(NAME): {shown(line)}"
-        message = f"{shown(line)}: no call of {like(line)} stands beside it; {own}"
-        return fault(line.line.place, message)
+        own = "" if function else f"; of a function that makes it: // rdbg(NAME): {shown(line)}"
+        beside = f"no call of {function or like(line)} stands beside it"
+        return fault(line.line.place, f"{shown(line)}: {beside}{own}")
 
 
 def words_of(call: Call) -> Set[str]:
