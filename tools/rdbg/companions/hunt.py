@@ -18,7 +18,7 @@ from rdbg.hunting.goals import Goal
 from rdbg.hunting.interrupts import handlers
 from rdbg.hunting.search import Search
 from rdbg.hunting.stage import Find, Stage
-from rdbg.options import bounded
+from rdbg.options import APPLICATION, Parser, bounded
 from rdbg.reaching import beside
 from rdbg.reaching.asking import CTRL_C, LOST, QUESTIONS, REACH, Asker, NoQuestion
 from rdbg.reaching.handlers import OPTION
@@ -32,6 +32,11 @@ EPILOG = (
     " said of them to standard error; with -o to OUT, and to standard output. The status is 0 where"
     " none is found (never, or not within what was asked for), 1 where one is, 2 where it can't be"
     " told, 130 after Ctrl-C; with --expect found 0 where one is found, 1 where not."
+)
+ISR = (
+    "an interrupt that may come once, at any place: send Q HEX, notify K I N ACTION, or several"
+    " calls with ; between them; said twice, it may come twice; or one that the text names, which"
+    " comes as that says. Without it all come that the text names; none: none of them"
 )
 NONE_FOUND, FOUND, CANT, STOPPED = 0, 1, 2, 130
 STANDARD = "-"
@@ -70,43 +75,26 @@ class OneGoal(argparse.HelpFormatter):
         return super()._format_args(action, default_metavar)
 
 
-def parser() -> argparse.ArgumentParser:
+def parser() -> Parser:
     """The words of the command line."""
-    made = argparse.ArgumentParser(
-        prog="rdbg hunt", description=SUMMARY, epilog=EPILOG, formatter_class=OneGoal
-    )
-    word = made.add_argument
-    word("file", metavar="FILE", help="the application, JSON or in lines (.fw)")
-    word("goal", metavar="GOAL", nargs="+", help="one goal; its words may be apart")
-    word("-o", dest="output", metavar="OUT", help="where the lines of a find go")
-    word("--page", metavar="OUT.html", help="writes the first find as one page of HTML")
-    word(
-        "--report",
-        metavar="FILE",
-        help="writes what came of it as SARIF, or where FILE ends in .xml as JUnit's XML",
-    )
-    count = bounded(1)
-    word(
-        "--surprises", type=bounded(0), metavar="N", help="orders of so many surprises at the most"
-    )
-    word("--moves", type=count, metavar="N", help="orders of at most so many moves")
-    word(
-        "--isr",
-        action="append",
-        default=[],
-        metavar="CALLS",
-        help="an interrupt that may come once, at any place: send Q HEX, notify K I N ACTION, or"
-        " several calls with ; between them; said twice, it may come twice; or one that the text"
-        " names, which comes as that says. Without it all come that the text names; none: none of"
-        " them",
-    )
-    word("--exhaustive", action="store_true", help="surprises aren't counted: the fewest moves")
-    word("--smallest", action="store_true", help="shows that none has fewer surprises, or moves")
-    word("--all", type=count, metavar="N", help="the first N finds that end otherwise")
-    word("--expect", choices=["none", "found"], help="what the status is 0 for")
-    word("--within", type=seconds, metavar="SECONDS", help="a limit of time")
+    made = Parser("rdbg hunt", description=SUMMARY, epilog=EPILOG, formatter_class=OneGoal)
+    word, count = made.word, bounded(1)
+    word("file", "FILE", APPLICATION)
+    word("goal", "GOAL", "one goal; its words may be apart", nargs="+")
+    word("-o", "OUT", "where the lines of a find go", dest="output")
+    word("--page", "OUT.html", "writes the first find as one page of HTML")
+    report = "writes what came of it as SARIF, or where FILE ends in .xml as JUnit's XML"
+    word("--report", "FILE", report)
+    word("--surprises", "N", "orders of so many surprises at the most", type=bounded(0))
+    word("--moves", "N", "orders of at most so many moves", type=count)
+    word("--isr", "CALLS", ISR, action="append", default=[])
+    made.flag("--exhaustive", "surprises aren't counted: the fewest moves")
+    made.flag("--smallest", "shows that none has fewer surprises, or moves")
+    word("--all", "N", "the first N finds that end otherwise", type=count)
+    made.add_argument("--expect", choices=["none", "found"], help="what the status is 0 for")
+    word("--within", "SECONDS", "a limit of time", type=seconds)
     for name, (value, what) in PASSED.items():
-        word(name, type=part if name == "--part" else str, metavar=value, help=what)
+        word(name, value, what, type=part if name == "--part" else str)
     take_definitions(made)
     return made
 

@@ -1,6 +1,5 @@
 """Makes the JSON of an application from its text in lines, which may stand in comments of C, or the
 text from the JSON."""
-import argparse
 import os
 import sys
 from typing import Iterable, Iterator, Optional, Sequence, Set, Tuple
@@ -13,6 +12,7 @@ from rdbg.firmware.writer import jumps_of, text_of
 from rdbg.from_c.lines import in_lines
 from rdbg.json_layout import MOST_BYTES, json_of
 from rdbg.operands import to_text
+from rdbg.options import Parser
 from rdbg.tree import Place
 from rdbg.whole_file import STANDARD_OUTPUT, written
 from rdbg.wording import counted
@@ -28,23 +28,15 @@ TEXT, JSON, C = ".fw", ".json", ".c"
 MOST_FAULTS = 100
 
 
-def parser() -> argparse.ArgumentParser:
+def parser() -> Parser:
     """The words of the command line."""
-    made = argparse.ArgumentParser(prog="rdbg make", description=SUMMARY, epilog=EPILOG)
-    word = made.add_argument
-    word(
-        "file",
-        metavar="FILE",
-        help="the text in lines, FILE.fw; with --back, FILE.json; with --from-c, FILE.c",
-    )
-    word("--back", action="store_true", help="makes the text from the JSON, on standard output")
-    word("-o", dest="output", metavar="OUT", help="writes to OUT; - is standard output")
-    word(
-        "--from-c",
-        dest="is_c",
-        action="store_true",
-        help="takes the lines from comments of C, FILE.c: // rdbg: LINE; OUT may be FILE.fw, too",
-    )
+    made = Parser("rdbg make", description=SUMMARY, epilog=EPILOG)
+    file = "the text in lines, FILE.fw; with --back, FILE.json; with --from-c, FILE.c"
+    made.word("file", "FILE", file)
+    made.flag("--back", "makes the text from the JSON, on standard output")
+    made.word("-o", "OUT", "writes to OUT; - is standard output", dest="output")
+    lines = "takes the lines from comments of C, FILE.c: // rdbg: LINE; OUT may be FILE.fw, too"
+    made.flag("--from-c", lines, dest="is_c")
     take_definitions(made)
     return made
 

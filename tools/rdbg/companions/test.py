@@ -7,7 +7,7 @@ from xml.etree import ElementTree
 
 from rdbg import client, junit, whole_file
 from rdbg.failure import Failure, of_words, turned
-from rdbg.options import bounded, part
+from rdbg.options import Parser, bounded, part
 from rdbg.reaching import asking
 from rdbg.shown import shown
 from rdbg.testing import cases
@@ -27,28 +27,16 @@ EPILOG = (
 AS_EXPECTED, OTHERWISE, NONE = 0, 1, 2
 
 
-def parser() -> argparse.ArgumentParser:
+def parser() -> Parser:
     """The words of the command line."""
-    made = argparse.ArgumentParser(prog="rdbg test", description=SUMMARY, epilog=EPILOG)
-    word = made.add_argument
-    word(
-        "path", metavar="PATH", nargs="?", default=".", help="the folder or the file, else this one"
-    )
-    word(
-        "--jobs",
-        type=bounded(1),
-        default=len(os.sched_getaffinity(0)),
-        metavar="N",
-        help="so many cases side by side, else as many as there are processors",
-    )
-    word(
-        "--part",
-        type=part,
-        default=(1, 1),
-        metavar="K/N",
-        help="the Kth of N parts of the cases alone, so that N machines try all",
-    )
-    word("--report", metavar="FILE", help="writes what became of them as JUnit's XML")
+    made = Parser("rdbg test", description=SUMMARY, epilog=EPILOG)
+    made.word("path", "PATH", "the folder or the file, else this one", nargs="?", default=".")
+    jobs, count = len(os.sched_getaffinity(0)), bounded(1)
+    side_by_side = "so many cases side by side, else as many as there are processors"
+    made.word("--jobs", "N", side_by_side, type=count, default=jobs)
+    parts = "the Kth of N parts of the cases alone, so that N machines try all"
+    made.word("--part", "K/N", parts, type=part, default=(1, 1))
+    made.word("--report", "FILE", "writes what became of them as JUnit's XML")
     return made
 
 

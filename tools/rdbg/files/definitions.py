@@ -4,6 +4,7 @@ from typing import List, Tuple
 
 from rdbg.firmware.numbers import NAME, Constants, Kept, Numbers
 from rdbg.firmware.tokens import Refusal, Scanner
+from rdbg.options import Parser
 from rdbg.wording import shown
 
 OPTION = "-D"
@@ -25,15 +26,8 @@ def definition(text: str) -> Tuple[str, int]:
     return name, value
 
 
-def take_definitions(parser: argparse.ArgumentParser) -> None:
+def take_definitions(parser: Parser) -> None:
     """Has a command line take consts, as the pairs of `consts`. One that is given twice has its
     last number, as in C."""
-    parser.add_argument(
-        OPTION,
-        dest="consts",
-        type=definition,
-        action="append",
-        default=[],
-        metavar="NAME=N",
-        help="of a text in lines: the const NAME is N; said again, there are more",
-    )
+    text = "of a text in lines: the const NAME is N; said again, there are more"
+    parser.word(OPTION, "NAME=N", text, dest="consts", type=definition, action="append", default=[])
