@@ -1,9 +1,9 @@
 """An application as data: what an accepted file says, each thing with its place in the text."""
 import dataclasses
-from typing import Callable, Iterator, List, Optional, Sequence, Tuple, TypeVar, Union
+from typing import Callable, Iterator, List, Mapping, Optional, Sequence, Tuple, TypeVar, Union
 
 from rdbg import kinds
-from rdbg.tree import Node, Number, Object, Part, Place, objects
+from rdbg.tree import Fault, Node, Number, Object, Part, Place, objects
 from rdbg.wording import counted
 
 
@@ -121,6 +121,20 @@ class Interrupt:
     def lines(self) -> Tuple[str, ...]:
         """The lines of rdbg's that make it."""
         return tuple(f"isr {call}" for call in self.calls)
+
+
+@dataclasses.dataclass(frozen=True)
+class Text:
+    """What a file says: its tree, none where it can't be read to its end, and what is wrong with
+    it; of a text in lines what there is to remark, what lines of objects become, the comments of
+    each line, and the interrupts that may come."""
+
+    root: Optional[Node]
+    faults: Sequence[Fault]
+    remarks: Sequence[Fault] = ()
+    made: Sequence[Tuple[int, str]] = ()
+    comments: Mapping[int, str] = dataclasses.field(default_factory=dict)
+    interrupts: Tuple[Interrupt, ...] = ()
 
 
 # Whatever an application has that has a name.

@@ -3,7 +3,9 @@
 The tree is that of the JSON which rdbg reads. A text in lines (`.fw`) is read into the same tree,
 with the places of its own lines, so that whoever looks for faults needs to know of one form alone.
 """
+import bisect
 import dataclasses
+import re
 from typing import Any, Iterator, List, Optional, Sequence, Tuple, Union
 
 from rdbg.digits import natural
@@ -18,6 +20,18 @@ class Place:
 
     def __str__(self) -> str:
         return f"{self.line}:{self.column}"
+
+
+class Lines:
+    """The lines of a text, and the places of its characters in them."""
+
+    def __init__(self, text: str) -> None:
+        self._begins = [0, *(it.end() for it in re.finditer("\n", text))]
+
+    def place(self, at: int) -> Place:
+        """The place of a character."""
+        line = bisect.bisect_right(self._begins, at)
+        return Place(line, at - self._begins[line - 1] + 1)
 
 
 class Places(Sequence[Place]):

@@ -3,10 +3,10 @@ import contextlib
 import dataclasses
 import pathlib
 import sys
-from typing import TYPE_CHECKING, Iterator, Mapping, Optional, Sequence, Tuple
+from typing import TYPE_CHECKING, Iterator, Mapping, Optional, Tuple
 
 from rdbg import own_file
-from rdbg.application import Application, Instruction, Interrupt, Task, application
+from rdbg.application import Application, Instruction, Task, Text, application
 from rdbg.checking.faults import faults_of
 from rdbg.failure import Failure, trying
 from rdbg.from_c.lines import ENDING, code_below, in_lines
@@ -105,39 +105,28 @@ def accepted(path: Optional[str], given: Optional[Given] = None) -> Optional[Sou
 
 def source(path: str, content: bytes, given: Optional[Given] = None) -> Source:
     """What a file of this content is, where consts of these names are these numbers."""
-    remarks: Sequence[Fault] = ()
-    made: Sequence[Tuple[int, str]] = ()
-    comments: Mapping[int, str] = {}
-    interrupts: Tuple[Interrupt, ...] = ()
+    consts = dict(given or {})
     if path.endswith(LINES):
         from rdbg.firmware.reader import read as read_lines
 
-        text = read_lines(lines_in(path, content), given or {})
-        remarks, made, comments = text.remarks, text.made, text.comments
-        interrupts = text.interrupts
-        root, faults = text.root, list(text.faults)
+        text = read_lines(lines_in(path, content), consts)
     else:
         from rdbg.json_text import read
 
-        check_none(given)
+        for name in consts:
+            raise Failure(f"-D {name}: a JSON has no consts; a text in lines (.fw) has", 2)
         root, found = read(content)
-        faults = [*found, *(faults_of(root) if root is not None and not found else [])]
-    value = None if root is None or faults else root.value
+        text = Text(root, found if root is None else faults_of(root))
+    value = None if text.root is None or text.faults else text.root.value
     said = application(value) if isinstance(value, Object) else None
     shown = content.decode("utf-8", "replace")
-    if said is not None and (comments or interrupts):
+    if said is not None and (text.comments or text.interrupts):
         below = code_below(shown) if path.endswith(ENDING) else {}
-        said = dataclasses.replace(with_comments(said, comments, below), interrupts=interrupts)
-    return Source(
-        path=path,
-        text=shown,
-        root=root,
-        faults=tuple(faults),
-        application=said,
-        remarks=tuple(remarks),
-        made=tuple(made),
-        given=dict(given or {}),
-    )
+        scripts = ((it, tuple(put(it, text.comments, below))) for it in said.tasks)
+        tasks = tuple(dataclasses.replace(task, code=code) for task, code in scripts)
+        said = dataclasses.replace(said, tasks=tasks, interrupts=text.interrupts)
+    faults, remarks, made = tuple(text.faults), tuple(text.remarks), tuple(text.made)
+    return Source(path, shown, text.root, faults, said, remarks, made, consts)
 
 
 def lines_in(path: str, content: bytes) -> bytes:
@@ -148,25 +137,10 @@ def lines_in(path: str, content: bytes) -> bytes:
     return in_lines(content.decode("utf-8", "replace")).encode()
 
 
-def check_none(given: Optional[Given]) -> None:
-    """Raises `Failure` where consts are given for a JSON, which has none."""
-    for name in given or {}:
-        raise Failure(f"-D {name}: a JSON has no consts; a text in lines (.fw) has", 2)
-
-
-def with_comments(
-    application: Application, comments: Mapping[int, str], below: Mapping[int, str]
-) -> Application:
-    """The application with the comments of each line at its first instruction, or else what is
+def put(task: Task, comments: Mapping[int, str], below: Mapping[int, str]) -> Iterator[Instruction]:
+    """The instructions of a task with the comments of each line at its first one, or else what is
     `below` it, and there those of the lines above it, up to the one before it or to the task's own
     line, which is among them."""
-    pairs = ((it, tuple(put(it, comments, below))) for it in application.tasks)
-    tasks = tuple(dataclasses.replace(task, code=code) for task, code in pairs)
-    return dataclasses.replace(application, tasks=tasks)
-
-
-def put(task: Task, comments: Mapping[int, str], below: Mapping[int, str]) -> Iterator[Instruction]:
-    """The instructions of a task with their comments."""
     last = task.place.line - 1
     for it in task.code:
         line = it.place.line

@@ -7,7 +7,7 @@ import itertools
 import re
 from typing import Dict, List, Mapping, NamedTuple, Optional, Sequence, Set, Tuple
 
-from rdbg.application import Interrupt
+from rdbg.application import Interrupt, Text
 from rdbg.checking.faults import faults_of
 from rdbg.failure import Failure
 from rdbg.firmware import blocks, interrupts, meant, semaphores, waits
@@ -429,19 +429,6 @@ def named(text: str, given: Mapping[str, int]) -> Named:
     reader.read(text)
     labels = {name: script.labels() for it, script in reader.scripts() for name in it.names()}
     return Named(reader.constants.values, labels)
-
-
-class Text(NamedTuple):
-    """What a text says: its tree, none where it can't be read to its end, what is wrong with it,
-    what there is to remark, what lines of objects become, the comments of each line, and the
-    interrupts that may come."""
-
-    root: Optional[Node]
-    faults: Sequence[Fault]
-    remarks: Sequence[Fault]
-    made: Sequence[Tuple[int, str]]
-    comments: Mapping[int, str]
-    interrupts: Tuple[Interrupt, ...]
 
 
 def read(content: bytes, given: Mapping[str, int]) -> Text:
