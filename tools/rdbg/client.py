@@ -12,19 +12,7 @@ import socket
 import subprocess
 import tempfile
 import threading
-from typing import (
-    IO,
-    Callable,
-    ContextManager,
-    Deque,
-    Iterable,
-    Iterator,
-    List,
-    Optional,
-    Sequence,
-    Tuple,
-    Union,
-)
+from typing import IO, Callable, Deque, Iterable, Iterator, List, Optional, Sequence, Tuple, Union
 
 from rdbg import children, replies
 from rdbg.commands import MOST_BYTES
@@ -91,13 +79,6 @@ def built_by_wrapper(name: str) -> str:
     """The program of a name that `./rdbg` starts, as it was called itself."""
     file, words = wrapper()
     return built_by(file, " ".join(words), name)
-
-
-def uninterrupted() -> ContextManager[None]:
-    """As long as something is done that no signal may end halfway. (In another thread than the main
-    one none ever does.)"""
-    is_main = threading.current_thread() is threading.main_thread()
-    return ENDING.held() if is_main else contextlib.nullcontext()
 
 
 class Incoming:
@@ -244,9 +225,7 @@ class Session:
         """Says to a room who this is, behind the room's token where the environment has it."""
         token = os.environ.get("RDBG_TOKEN")
         lines = ([f"# token {token}"] if token else []) + [f"# name {name}"]
-        with contextlib.suppress(OSError):
-            self._lines.write("".join(f"{it}\n" for it in lines).encode("utf-8", "replace"))
-            self._lines.flush()
+        self._send("".join(f"{it}\n" for it in lines).encode("utf-8", "replace"))
         try:
             while self.name != name:
                 line = self._line()
@@ -297,16 +276,22 @@ class Session:
         if self.on_ask is not None:
             self.on_ask(batch)
         content = "".join(f"{line}\n" for line in batch).encode()
-        # (what was sent is owed, whenever a signal comes; where it has ended, it may have said why)
-        with uninterrupted(), contextlib.suppress(OSError):
+        # (what was sent is owed, whenever a signal comes: to the main thread, and to no other one)
+        is_main = threading.current_thread() is threading.main_thread()
+        with ENDING.held() if is_main else contextlib.nullcontext():
             self._owed += len(batch)
-            self._lines.write(content)
-            self._lines.flush()
+            self._send(content)
         for line in batch:
             reply = self._reply()
             if self.on_line is not None:
                 self.on_line(line, reply)
             yield reply
+
+    def _send(self, content: bytes) -> None:
+        """Sends lines. Where the other end has gone, what it said last may say why."""
+        with contextlib.suppress(OSError):
+            self._lines.write(content)
+            self._lines.flush()
 
     def _catch_up(self) -> None:
         """Reads the replies that an interrupt left unread."""
@@ -349,9 +334,7 @@ class Session:
         """Says a line that begins with `#` to a room, and hears its answer. Raises `Failure` where
         that has ended."""
         self._catch_up()
-        with contextlib.suppress(OSError):
-            self._lines.write(f"{line}\n".encode("utf-8", "replace"))
-            self._lines.flush()
+        self._send(f"{line}\n".encode("utf-8", "replace"))
         is_answered = False
         while not is_answered:
             heard = self._line()
@@ -364,13 +347,11 @@ class Session:
 
     def note(self, line: str) -> None:
         """Says a line that begins with `#`, and isn't answered, to a room; else it says nothing."""
+        content = line.replace("\n", " ").encode("utf-8", "replace")
+        if len(content) > MOST_BYTES:
+            content = content[: MOST_BYTES - 2].decode("utf-8", "ignore").encode() + b".."
         if self.name is not None:
-            with contextlib.suppress(OSError):
-                content = line.replace("\n", " ").encode("utf-8", "replace")
-                if len(content) > MOST_BYTES:
-                    content = content[: MOST_BYTES - 2].decode("utf-8", "ignore").encode() + b".."
-                self._lines.write(content + b"\n")
-                self._lines.flush()
+            self._send(content + b"\n")
 
     @contextlib.contextmanager
     def looking(self) -> Iterator[None]:

@@ -3,14 +3,15 @@
 A form is written as in docs/COMMANDS.md: words in small letters stand as they are, the others are
 the symbols of what can stand there."""
 import dataclasses
+import itertools
 import re
 from typing import Callable, Dict, FrozenSet, Iterator, List, Optional, Sequence, Tuple, Type
 
 from rdbg import kinds, record, replies
 from rdbg.digits import number
+from rdbg.operands import MOST_NUMBER as MOST_NUMBER, is_name as is_name
 from rdbg.wording import with_article
 
-MOST_NUMBER = 4_294_967_295
 MOST_COUNT = 1_000_000
 MOST_WATCHES = 16
 MOST_BYTES = 1_024
@@ -38,11 +39,6 @@ def is_number(word: str, most: int = MOST_NUMBER) -> bool:
 def is_count(word: str) -> bool:
     """Whether a word is a COUNT."""
     return number(word, MOST_COUNT, 1) is not None
-
-
-def is_name(word: str) -> bool:
-    """Whether a word has the form of a name."""
-    return re.fullmatch(r"[a-z][a-z0-9_]{0,15}", word) is not None
 
 
 def is_bytes(word: str) -> bool:
@@ -195,12 +191,8 @@ class Shape:
 
     def fitting(self, words: Sequence[str]) -> int:
         """How many of the words fit, from the first on."""
-        count = 0
-        for symbol, word in zip(self.symbols, words):
-            if not fits(symbol, word):
-                break
-            count += 1
-        return count
+        fit = (fits(symbol, word) for symbol, word in zip(self.symbols, words))
+        return sum(1 for _ in itertools.takewhile(bool, fit))
 
 
 def shapes_of(form: Form) -> Iterator[Shape]:

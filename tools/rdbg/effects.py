@@ -140,7 +140,7 @@ def change_of(was: Object, now: Object) -> str:
     """What has become of an object that isn't as it was, in a word or two."""
     if isinstance(was, replies.Queue) and isinstance(now, replies.Queue):
         if was.member_of != now.member_of:
-            return f"in set {now.member_of}" if now.member_of else "in no set"
+            return f"in {f'set {now.member_of}' if now.member_of else 'no set'}"
     if isinstance(was, replies.Stream) and isinstance(now, replies.Stream):
         if was.trigger != now.trigger:
             return f"trigger {now.trigger}"
@@ -215,15 +215,8 @@ def done_by_hand(before: Look, after: Look, known: ByHand) -> Move:
     awake = list(woken(before, after, False))
     effects = [*holdings(before, after), *notes(before, after), *awake]
     effects += seats(before, after, [it.name for it in awake], None)
-    return Move(
-        after.place,
-        "isr",
-        line,
-        tick,
-        instruction=line,
-        answer=known.answer,
-        effects=tuple(effects),
-    )
+    what, answer = tuple(effects), known.answer
+    return Move(after.place, "isr", line, tick, instruction=line, answer=answer, effects=what)
 
 
 def could_step(before: Look, after: Look, task: str, script: Script) -> bool:
@@ -258,15 +251,5 @@ def stepped(before: Look, after: Look, core: int, task: str, script: Script) -> 
         effects += notes(before, after)
     awake = list(woken(before, after, False))
     effects += [*awake, *seats(before, after, [it.name for it in awake], None)]
-    return Move(
-        after.place,
-        "step",
-        f"step {core}",
-        after.cores.tick,
-        core=core,
-        task=task,
-        pc=was.pc if was else None,
-        instruction=text,
-        answer=answer,
-        effects=tuple(effects),
-    )
+    pc, tick, line = was.pc if was else None, after.cores.tick, f"step {core}"
+    return Move(after.place, "step", line, tick, core, task, pc, text, answer, tuple(effects))
