@@ -197,14 +197,10 @@ def move_between(before: Look, after: Look, script: Script, known: Optional[ByHa
     core = after.cores.turn - 1
     task = before.cores.running[core] if 0 <= core < len(before.cores.running) else None
     if task is None or not could_step(before, after, task, script):
-        return done_by_hand(before, after, found_by_hand(before, after))
+        edit, interrupt = edit_of(before, after), interrupt_of(before, after)
+        found = ByHand(interrupt, 1) if edit is None and interrupt else ByHand(edit or "")
+        return done_by_hand(before, after, found)
     return stepped(before, after, core, task, script)
-
-
-def found_by_hand(before: Look, after: Look) -> ByHand:
-    """An edit or an interrupt of which nothing is known but the looks."""
-    edit, interrupt = edit_of(before, after), interrupt_of(before, after)
-    return ByHand(interrupt, 1) if edit is None and interrupt else ByHand(edit or "")
 
 
 def done_by_hand(before: Look, after: Look, known: ByHand) -> Move:

@@ -36,9 +36,8 @@ def read(content: bytes) -> Tuple[Optional[Node], List[Fault]]:
     """The tree of a file's content, or none and why it is no JSON. Raises `Failure` where the file
     is longer than rdbg reads."""
     if len(content) > MOST_BYTES:
-        raise Failure(
-            f"the file has {len(content):,} bytes, and rdbg reads {MOST_BYTES:,} at the most", 2
-        )
+        most = f"rdbg reads {MOST_BYTES:,} at the most"
+        raise Failure(f"the file has {len(content):,} bytes, and {most}", 2)
     try:
         text = content.decode("utf-8")
     except UnicodeDecodeError as error:

@@ -10,6 +10,7 @@ MOST_NUMBER = 4_294_967_295
 NAME = r"[a-z][a-z0-9_]{0,15}"
 DIGITS = r"[0-9]{1,10}"
 REGISTER = r"r[0-7]"
+BYTES = r"-|([0-9A-Fa-f]{2}){1,256}"
 
 
 @dataclasses.dataclass(frozen=True)
@@ -36,12 +37,7 @@ KINDS: Tuple[OperandKind, ...] = (
     OperandKind("L", "target", "the number of an instruction", DIGITS),
     OperandKind("I", "index of a notification entry", "a number below notes", DIGITS),
     OperandKind("ROOM", "room", "1 to 256, the bytes that are read at the most", DIGITS),
-    OperandKind(
-        "HEX",
-        "bytes",
-        "1 to 256, as pairs of hexadecimal digits, or -",
-        "-|([0-9A-Fa-f]{2}){1,256}",
-    ),
+    OperandKind("HEX", "bytes", "1 to 256, as pairs of hexadecimal digits, or -", BYTES),
     OperandKind("ACTION", "action", "none, bits, inc, set or setif", "none|bits|inc|set|setif"),
     OperandKind("WISH", "wish", "any or all", "any|all"),
     OperandKind("CLR", "word for clearing", "keep or clear", "keep|clear"),
@@ -52,6 +48,9 @@ KIND_OF: Dict[str, OperandKind] = {kind.symbol: kind for kind in KINDS}
 # The kinds that are names, in the order of a file's keys.
 NAMED = tuple(it.symbol for it in kinds.ALL)
 PATTERN_OF = {kind.symbol: re.compile(kind.pattern) for kind in KINDS}
+# What C calls the actions of a notification.
+OF_C = "eNoAction eSetBits eIncrement eSetValueWithOverwrite eSetValueWithoutOverwrite"
+ACTIONS: Dict[str, str] = dict(zip(OF_C.split(), KIND_OF["ACTION"].words()))
 
 
 @dataclasses.dataclass(frozen=True)

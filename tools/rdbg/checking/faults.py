@@ -35,11 +35,6 @@ def faults_of(root: Node) -> List[Fault]:
     return finder.faults
 
 
-def bounds(key: Key) -> str:
-    """What a key's value can be: `how many bytes an item has, 1 to 64`."""
-    return f"{key.text}, {to_text(key.least, key.most)}" if key.holds == "number" else key.text
-
-
 def bound_by(key: Key, value: int, most: int) -> str:
     """What bounds a number that is too large, where it isn't the key alone: ` (its size)`."""
     if key.most_key and most < value <= key.most:
@@ -151,7 +146,8 @@ class Finder:
                     self.refuse_names(member.node)
         for key in shape.keys:
             if key.is_needed and key.name not in found:
-                message = f"{label} lacks its key {key.name} ({bounds(key)})"
+                limits = f", {to_text(key.least, key.most)}" if key.holds == "number" else ""
+                message = f"{label} lacks its key {key.name} ({key.text}{limits})"
                 self.fault(SHAPE, node.place, message)
         return found
 

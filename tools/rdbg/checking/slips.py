@@ -4,20 +4,14 @@ import re
 from typing import Callable, Dict, Match, Optional, Sequence, Tuple
 
 from rdbg.digits import is_digits
-from rdbg.operands import KIND_OF, MOST_NUMBER, Scope, are
+from rdbg.operands import ACTIONS, KIND_OF, MOST_NUMBER, Scope, are
 from rdbg.wording import by_word, nearest
 
 YES, NO = "pdtrue true 1", "pdfalse false 0"
 # What C calls the words of operands, by the symbols of these.
 CONSTANTS: Dict[str, Dict[str, str]] = {
     "T": by_word({"max": "portmax_delay forever infinite -1"}),
-    "ACTION": {
-        "enoaction": "none",
-        "esetbits": "bits",
-        "eincrement": "inc",
-        "esetvaluewithoverwrite": "set",
-        "esetvaluewithoutoverwrite": "setif",
-    },
+    "ACTION": {name.lower(): word for name, word in ACTIONS.items()},
     "WISH": by_word({"all": YES, "any": NO}),
     "CLR": by_word({"clear": YES, "keep": NO}),
     "clear|dec": by_word({"clear": YES, "dec": NO}),

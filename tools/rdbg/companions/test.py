@@ -118,33 +118,20 @@ def summary(results: Sequence[Result]) -> str:
 ELEMENTS = {Verdict.WRONG: junit.FAILURE, Verdict.REFUSED: junit.ERROR}
 
 
-def instead(case: Case, result: Result) -> str:
-    """What came of a case in place of what is expected."""
-    if result.verdict is Verdict.REFUSED:
-        return f"refused: {result.came}"
-    return f"{case.expect} was expected, and {result.came} came"
-
-
 def element(case: Case, result: Result) -> ElementTree.Element:
     """A case."""
     name = f"{case.question} {case.goal}: {case.expect}"
-    made = ElementTree.Element(
-        "testcase",
-        {"classname": shown(case.file), "name": shown(name), "time": f"{result.seconds:.3f}"},
-    )
+    about = {"classname": shown(case.file), "name": shown(name), "time": f"{result.seconds:.3f}"}
+    made = ElementTree.Element("testcase", about)
     if result.verdict in ELEMENTS:
-        message = shown(instead(case, result))
+        instead = f"{case.expect} was expected, and {result.came} came"
+        is_refused = result.verdict is Verdict.REFUSED
+        message = shown(f"refused: {result.came}" if is_refused else instead)
         ElementTree.SubElement(made, ELEMENTS[result.verdict], {"message": message})
     if result.told:
         told = junit.text_of([result.came, *result.told])
         ElementTree.SubElement(made, junit.OUTPUT).text = told
     return made
-
-
-def report(name: str, tried: Sequence[Tuple[Case, Result]]) -> str:
-    """The report on the cases of a file."""
-    took = sum(it.seconds for _, it in tried)
-    return junit.document(name, [element(*it) for it in tried], time=f"{took:.3f}")
 
 
 def test(given: argparse.Namespace) -> int:
@@ -163,8 +150,9 @@ def test(given: argparse.Namespace) -> int:
         print(*said_of(case, result), sep="\n", flush=True)
     print(summary([result for _, result in tried]), flush=True)
     if given.report is not None:
+        took = sum(it.seconds for _, it in tried)
         with whole_file.written(given.report) as out:
-            out.write(report(file, tried))
+            out.write(junit.document(file, [element(*it) for it in tried], time=f"{took:.3f}"))
     verdicts = {result.verdict for _, result in tried}
     if Verdict.REFUSED in verdicts:
         return NONE

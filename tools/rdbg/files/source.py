@@ -105,11 +105,14 @@ def accepted(path: Optional[str], given: Optional[Given] = None) -> Optional[Sou
 
 def source(path: str, content: bytes, given: Optional[Given] = None) -> Source:
     """What a file of this content is, where consts of these names are these numbers."""
-    consts = dict(given or {})
+    consts, shown = dict(given or {}), content.decode("utf-8", "replace")
     if path.endswith(LINES):
         from rdbg.firmware.reader import read as read_lines
 
-        text = read_lines(lines_in(path, content), consts)
+        # (a C source that is too long is left as it is, and is refused for it)
+        if path.endswith(ENDING) and len(content) <= MOST_BYTES:
+            content = in_lines(shown).encode()
+        text = read_lines(content, consts)
     else:
         from rdbg.json_text import read
 
@@ -119,7 +122,6 @@ def source(path: str, content: bytes, given: Optional[Given] = None) -> Source:
         text = Text(root, found if root is None else faults_of(root))
     value = None if text.root is None or text.faults else text.root.value
     said = application(value) if isinstance(value, Object) else None
-    shown = content.decode("utf-8", "replace")
     if said is not None and (text.comments or text.interrupts):
         below = code_below(shown) if path.endswith(ENDING) else {}
         scripts = ((it, tuple(put(it, text.comments, below))) for it in said.tasks)
@@ -127,14 +129,6 @@ def source(path: str, content: bytes, given: Optional[Given] = None) -> Source:
         said = dataclasses.replace(said, tasks=tasks, interrupts=text.interrupts)
     faults, remarks, made = tuple(text.faults), tuple(text.remarks), tuple(text.made)
     return Source(path, shown, text.root, faults, said, remarks, made, consts)
-
-
-def lines_in(path: str, content: bytes) -> bytes:
-    """The lines of a file: those of a C source, which stand there where they stand in it. One that
-    is too long is left as it is, and is refused for it."""
-    if not path.endswith(ENDING) or len(content) > MOST_BYTES:
-        return content
-    return in_lines(content.decode("utf-8", "replace")).encode()
 
 
 def put(task: Task, comments: Mapping[int, str], below: Mapping[int, str]) -> Iterator[Instruction]:

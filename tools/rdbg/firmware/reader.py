@@ -137,7 +137,10 @@ class Reader:
     def _said(self, tokens: Sequence[Token]) -> None:
         """Reads a line without labels. Of one that is no instruction the first fault counts."""
         word, known = tokens[0].text, len(self.refusals)
-        if self._is_of_block(tokens) or self._is_of_semaphore(tokens):
+        script = self._script_of(tokens[0]) if word in blocks.WORDS else self._script
+        # (`end task` is of no block)
+        is_of_block = script is not None and script.blocks.reads(tokens)
+        if is_of_block or self._is_of_semaphore(tokens):
             return
         if word == waits.WORD:
             self._wait(tokens)
@@ -148,12 +151,6 @@ class Reader:
         with self.kept.keeping():
             self._structure(tokens)
         del self.refusals[known + 1 :]
-
-    def _is_of_block(self, tokens: Sequence[Token]) -> bool:
-        """Whether a line is of a block of a script; then it is read, and `end task` is no such."""
-        if tokens[0].text in blocks.WORDS:
-            return self._script_of(tokens[0]).blocks.reads(tokens)
-        return self._script is not None and self._script.blocks.reads(tokens)
 
     def _is_of_semaphore(self, tokens: Sequence[Token]) -> bool:
         """Whether a line takes, gives or counts a semaphore; then it is read."""

@@ -5,6 +5,7 @@ import re
 from typing import Dict, List, Mapping, NamedTuple, Sequence, Tuple
 
 from rdbg.from_c.lexer import WORD, Piece, joined
+from rdbg.operands import ACTIONS
 from rdbg.tree import Place
 
 # A word of a model, then its operands: of which kind each is, and behind `:` the number of the
@@ -59,13 +60,7 @@ CALLS: Dict[str, Tuple[str, ...]] = {
 }
 # What C calls the choices of a call, and the words of a model for them.
 CHOICES: Dict[str, Dict[str, str]] = {
-    "ACTION": {
-        "eNoAction": "none",
-        "eSetBits": "bits",
-        "eIncrement": "inc",
-        "eSetValueWithOverwrite": "set",
-        "eSetValueWithoutOverwrite": "setif",
-    },
+    "ACTION": ACTIONS,
     "WISH": {"pdTRUE": "all", "pdFALSE": "any"},
     "CLR": {"pdTRUE": "clear", "pdFALSE": "keep"},
     "TAKE": {"pdTRUE": "clear", "pdFALSE": "dec"},
@@ -96,9 +91,8 @@ def template(text: str) -> Template:
     """A row of the table, read."""
     word, *parts = text.split()
     found = (re.fullmatch("(.+)(?::([0-9]+)|=(.+))", part) for part in parts)
-    return Template(
-        word, tuple(Operand(it[1], int(it[2] or -1), it[3] or "") for it in found if it)
-    )
+    operands = [Operand(it[1], int(it[2] or -1), it[3] or "") for it in found if it]
+    return Template(word, tuple(operands))
 
 
 TEMPLATES = {name: tuple(map(template, texts)) for name, texts in CALLS.items()}
@@ -214,9 +208,7 @@ def made_by(call: Call, functions: Mapping[str, Block]) -> List[Call]:
         block = functions[one.name]
         given = dict(zip(kept(block), one.arguments))
         for it in calls_in(block.pieces):
-            put = [
-                NAME.sub(lambda name: given.get(name[0], name[0]), text) for text in it.arguments
-            ]
+            put = [NAME.sub(lambda it: given.get(it[0], it[0]), text) for text in it.arguments]
             if it.name in TEMPLATES:
                 found.append(it._replace(arguments=tuple(put)))
             elif it.name in functions:

@@ -3,10 +3,11 @@ import pathlib
 import re
 from typing import Dict, Iterator, List, Mapping, NamedTuple, Optional, Sequence, Set, Tuple
 
-from rdbg.from_c.calls import CHOICES, TEMPLATES, Block, Call, Operand, blocks, calls_in, made_by
+from rdbg.from_c.calls import CHOICES, NAMES, TEMPLATES, Block, Call, Operand
+from rdbg.from_c.calls import blocks, calls_in, made_by
 from rdbg.from_c.lexer import DIRECTIVE, Piece, pieces
 from rdbg.from_c.lines import SKIP, Line, lines_of, rows_alone
-from rdbg.from_c.said import Said, Value, defined, first_of, is_name, said, shown, value_of, values
+from rdbg.from_c.said import Said, Value, defined, first_of, said, shown, value_of, values
 from rdbg.json_layout import MOST_BYTES
 from rdbg.operands import PATTERN_OF
 from rdbg.tree import Fault, Place
@@ -52,7 +53,7 @@ class Comparing:
             text = call.argument(it.argument)
             named = self._handles.get(handle(text))
             choice = CHOICES.get(it.kind, {}).get(text)
-            plain = handle(text) if is_name(it.kind) else text
+            plain = handle(text) if it.kind in NAMES else text
             parts.append(it.fixed or choice or (named[0] if named else plain) or it.kind)
         return " ".join(parts)
 
@@ -61,7 +62,7 @@ class Comparing:
         from there on."""
         yield from self.faults(line, call)
         for operand, value in self._pairs(line, call):
-            if is_name(operand.kind):
+            if operand.kind in NAMES:
                 text = handle(call.argument(operand.argument))
                 self._handles.setdefault(text, (value.text, line.line.number))
 
@@ -84,14 +85,14 @@ class Comparing:
             yield fault(line.line.place, message + ", with other operands" * (line.word in words))
         for operand, value in pairs:
             wrong = self._differs(operand, value, call)
-            if wrong and (is_one or not is_name(operand.kind)):
+            if wrong and (is_one or operand.kind not in NAMES):
                 yield fault(line.line.place, f"{both} has {wrong}")
 
     def _differs(self, operand: Operand, value: Value, call: Call) -> str:
         """What a call has in the place of an operand, where it is something else."""
         text = operand.fixed or call.argument(operand.argument)
         noun = NOUN.get(operand.kind, "")
-        if is_name(operand.kind):
+        if operand.kind in NAMES:
             return self._other_thing(handle(text), value.text, noun)
         if operand.kind in CHOICES:
             choice = operand.fixed or CHOICES[operand.kind].get(text, "")
@@ -187,9 +188,11 @@ class Function:
                 yield from self._judge_several(it, naming[it.call])
             elif it.call.name in TEMPLATES:
                 yield from self._judge(it, lines[it.call] or self._fitting(it, is_any=True))
-        for left in self._said:
-            if left.line.place not in self._used:
-                yield self._without(left)
+        for left in (it for it in self._said if it.line.place not in self._used):
+            function, line = left.line.function, shown(left)
+            own = "" if function else f"; of a function that makes it: // rdbg(NAME): {line}"
+            beside = f"no call of {function or like(left)} stands beside it"
+            yield fault(left.line.place, f"{line}: {beside}{own}")
 
     def _beside(self) -> Iterator[Beside]:
         """The calls that a model has to say, and those by which lines say that one is made."""
@@ -198,9 +201,8 @@ class Function:
         begins = [it.place for it in self._block.pieces[1:]]
         for call in calls_in(self._block.pieces):
             if call.name in named:
-                last = max(
-                    (it for it in ends if it < call.place), default=self._block.pieces[0].place
-                )
+                before = (it for it in ends if it < call.place)
+                last = max(before, default=self._block.pieces[0].place)
                 begin = min((it.line for it in begins if it > last), default=call.place.line)
                 yield Beside(call, begin)
 
@@ -278,13 +280,6 @@ class Function:
                 would = f"// rdbg({name}): {self._comparing.would_be(call)}"
                 where = f"{call.name} in line {call.place.line}, which {name} calls"
                 yield fault(it.call.place, f"{where}, has no line here: {would}")
-
-    def _without(self, line: Said) -> Fault:
-        """That a line stands beside no call."""
-        function = line.line.function
-        own = "" if function else f"; of a function that makes it: // rdbg(NAME): {shown(line)}"
-        beside = f"no call of {function or like(line)} stands beside it"
-        return fault(line.line.place, f"{shown(line)}: {beside}{own}")
 
 
 def words_of(call: Call) -> Set[str]:
