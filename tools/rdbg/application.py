@@ -1,6 +1,17 @@
 """An application as data: what an accepted file says, each thing with its place in the text."""
 import dataclasses
-from typing import Callable, Iterator, List, Mapping, Optional, Sequence, Tuple, TypeVar, Union
+from typing import (
+    Callable,
+    Iterator,
+    List,
+    Mapping,
+    NamedTuple,
+    Optional,
+    Sequence,
+    Tuple,
+    TypeVar,
+    Union,
+)
 
 from rdbg import kinds
 from rdbg.tree import Fault, Node, Number, Object, Part, Place, objects
@@ -41,8 +52,7 @@ class Instruction:
         return self.text.split()
 
 
-@dataclasses.dataclass(frozen=True)
-class Task:
+class Task(NamedTuple):
     """A task, its priority (0 to 31, a higher number first) and its script."""
 
     name: str
@@ -51,8 +61,7 @@ class Task:
     place: Place
 
 
-@dataclasses.dataclass(frozen=True)
-class Queue:
+class Queue(NamedTuple):
     """A queue of so many items of so many bytes."""
 
     name: str
@@ -61,8 +70,7 @@ class Queue:
     place: Place
 
 
-@dataclasses.dataclass(frozen=True)
-class QueueSet:
+class QueueSet(NamedTuple):
     """A queue set with room for so many handles, and its members at boot."""
 
     name: str
@@ -71,8 +79,7 @@ class QueueSet:
     place: Place
 
 
-@dataclasses.dataclass(frozen=True)
-class Stream:
+class Stream(NamedTuple):
     """A stream buffer of so many bytes, with its trigger level."""
 
     name: str
@@ -81,8 +88,7 @@ class Stream:
     place: Place
 
 
-@dataclasses.dataclass(frozen=True)
-class Messages:
+class Messages(NamedTuple):
     """A message buffer of so many bytes."""
 
     name: str
@@ -90,8 +96,7 @@ class Messages:
     place: Place
 
 
-@dataclasses.dataclass(frozen=True)
-class Group:
+class Group(NamedTuple):
     """An event group."""
 
     name: str
@@ -104,8 +109,7 @@ NO_INTERRUPT = "none"
 ANY, MOST_TIMES, MOST_APART = 0, 255, 255
 
 
-@dataclasses.dataclass(frozen=True)
-class Interrupt:
+class Interrupt(NamedTuple):
     """An interrupt that may come: its name, the calls of its handler as rdbg's lines without `isr`,
     how often it comes at the most (`ANY`: any number of times), that each time answers one of
     another (`after`), how many ticks pass at the least before it comes again, and whether it ends a

@@ -1,7 +1,6 @@
 """What is done by hand between the moves of tasks, edits and interrupts: found from the looks
 before and after it, or held against them."""
-import dataclasses
-from typing import Callable, Dict, List, Optional
+from typing import Callable, Dict, List, NamedTuple, Optional
 
 from rdbg import kinds, replies
 from rdbg.looks import Key, Look, Object, content_of
@@ -18,8 +17,7 @@ VALUE_BY: Dict[str, Callable[[int, int], int]] = {
 }
 
 
-@dataclasses.dataclass(frozen=True)
-class ByHand:
+class ByHand(NamedTuple):
     """An edit or an interrupt that was made: its line, and what an interrupt was answered."""
 
     line: str

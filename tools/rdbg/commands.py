@@ -5,7 +5,18 @@ the symbols of what can stand there."""
 import dataclasses
 import itertools
 import re
-from typing import Callable, Dict, FrozenSet, Iterator, List, Optional, Sequence, Tuple, Type
+from typing import (
+    Callable,
+    Dict,
+    FrozenSet,
+    Iterator,
+    List,
+    NamedTuple,
+    Optional,
+    Sequence,
+    Tuple,
+    Type,
+)
 
 from rdbg import kinds, record, replies
 from rdbg.digits import number
@@ -51,8 +62,7 @@ def is_watch(word: str) -> bool:
     return word[:1] == "w" and is_number(word[1:], MOST_WATCHES - 1)
 
 
-@dataclasses.dataclass(frozen=True)
-class Symbol:
+class Symbol(NamedTuple):
     """What can stand at a place of a form: how it is called, which words those are, and whether a
     word is one of them."""
 
@@ -86,8 +96,7 @@ def fits(symbol: str, word: str) -> bool:
     return known.fits(word) if known else word == symbol
 
 
-@dataclasses.dataclass(frozen=True)
-class Form:
+class Form(NamedTuple):
     """A form of lines, or of conditions: how it is written, what it does, and (of lines) which
     replies there are beside refusals, whether it makes moves or takes them back, and on what its
     answer hangs, refusals among them. A line of a form that `changes` nothing is a look."""
@@ -118,7 +127,7 @@ class Form:
 
 def move(text: str, does: str) -> Form:
     """A form of lines that make moves, or take them back."""
-    return dataclasses.replace(change(TARGET, text, does), moves=True)
+    return change(TARGET, text, does)._replace(moves=True)
 
 
 def change(what: str, text: str, does: str) -> Form:
@@ -181,8 +190,7 @@ FORMS: Tuple[Form, ...] = (
 WORDS: FrozenSet[str] = frozenset(form.word for form in FORMS)
 
 
-@dataclasses.dataclass(frozen=True)
-class Shape:
+class Shape(NamedTuple):
     """A form with one of the conditions in its place: what stands word for word."""
 
     form: Form

@@ -1,6 +1,6 @@
 """What a move did, as a value, found from the looks before and after it."""
 import dataclasses
-from typing import Callable, Dict, Iterator, List, Optional, Sequence, Tuple
+from typing import Callable, Dict, Iterator, List, NamedTuple, Optional, Sequence, Tuple
 
 from rdbg import replies
 from rdbg.by_hand import INTERRUPT, ByHand, edit_of, interrupt_of
@@ -12,8 +12,7 @@ LOCAL = ("set", "add", "move", "data", "pack", "unpack", "jump", "jumpz", "end")
 NOTIFICATIONS = ("notify", "query", "take", "nwait", "nclear", "vclear")
 
 
-@dataclasses.dataclass(frozen=True)
-class Effect:
+class Effect(NamedTuple):
     """Something that a move did: its kind (a key of `TEXTS`), to which task or object, on which
     core where one is meant, and how, in words."""
 

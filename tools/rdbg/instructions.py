@@ -2,15 +2,13 @@
 
 A form is written as in docs/CALLS.md: its word, then the symbols of its operands. What an operand
 can be stands in `rdbg.operands`."""
-import dataclasses
-from typing import Dict, Optional, Tuple
+from typing import Dict, NamedTuple, Optional, Tuple
 
 from rdbg.operands import KIND_OF
 from rdbg.wording import rows
 
 
-@dataclasses.dataclass(frozen=True)
-class InstructionForm:
+class InstructionForm(NamedTuple):
     """A form of instructions: how it is written, the FreeRTOS names that it stands for, what it
     does, what its answer in r0 is, and what each operand is called where its kind says too little
     (`nouns`, one for each operand)."""

@@ -1,12 +1,10 @@
 """The kinds of things that have a name, a table: each as `show` names it, as a form has it, as a
 file and a sentence call it, with the condition that says how much is in it, and how phases name the
 places where tasks wait at it."""
-import dataclasses
-from typing import Dict, Tuple
+from typing import Dict, NamedTuple, Tuple
 
 
-@dataclasses.dataclass(frozen=True)
-class Kind:
+class Kind(NamedTuple):
     """A kind. `word` is what `show` has for it, `symbol` what stands in forms; `amount` is the word
     of a condition, and `places` are those of phases."""
 

@@ -1,7 +1,6 @@
 """The operands of instructions: what each kind is, and whether a word has its form."""
-import dataclasses
 import re
-from typing import Dict, Mapping, Optional, Sequence, Tuple
+from typing import Dict, Mapping, NamedTuple, Optional, Sequence, Tuple
 
 from rdbg import kinds
 from rdbg.digits import is_digits
@@ -13,8 +12,7 @@ REGISTER = r"r[0-7]"
 BYTES = r"-|([0-9A-Fa-f]{2}){1,256}"
 
 
-@dataclasses.dataclass(frozen=True)
-class OperandKind:
+class OperandKind(NamedTuple):
     """What an operand is: its symbol in a form, what it is called, what can stand there in words,
     and a pattern that each such word has."""
 
@@ -53,8 +51,7 @@ OF_C = "eNoAction eSetBits eIncrement eSetValueWithOverwrite eSetValueWithoutOve
 ACTIONS: Dict[str, str] = dict(zip(OF_C.split(), KIND_OF["ACTION"].words()))
 
 
-@dataclasses.dataclass(frozen=True)
-class Scope:
+class Scope(NamedTuple):
     """What an instruction can name: the names of each kind under its symbol (`Q`, `K`, ..), the
     notification entries that each task has, how many instructions its script has, and whether it
     is written in lines."""

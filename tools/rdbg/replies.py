@@ -4,7 +4,7 @@ A form is written as in docs/FORMATS.md: words in small letters stand as they ar
 are fields. A refusal is no value, but an exception with its name."""
 import dataclasses
 import re
-from typing import Any, Callable, Dict, List, Optional, Tuple, Union
+from typing import Any, Callable, Dict, List, NamedTuple, Optional, Tuple, Union
 
 from rdbg.digits import MOST_DIGITS, is_digits
 from rdbg.failure import Failure
@@ -288,8 +288,7 @@ def holds(text: str) -> Tuple[int, bool]:
     return number(which), state == "holds"
 
 
-@dataclasses.dataclass(frozen=True)
-class Form:
+class Form(NamedTuple):
     """A form of replies: how it is written, what it makes, and how each of its fields is read."""
 
     text: str

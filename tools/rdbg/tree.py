@@ -6,7 +6,7 @@ with the places of its own lines, so that whoever looks for faults needs to know
 import bisect
 import dataclasses
 import re
-from typing import Any, Iterator, List, Optional, Sequence, Tuple, Union
+from typing import Any, Iterator, List, NamedTuple, Optional, Sequence, Tuple, Union
 
 from rdbg.digits import natural
 
@@ -67,8 +67,7 @@ class Number:
         return natural(self.text, (1 << 64) - 1)
 
 
-@dataclasses.dataclass(frozen=True)
-class Member:
+class Member(NamedTuple):
     """A key of an object, with its value."""
 
     key: str
@@ -148,8 +147,7 @@ def objects(node: Optional[Node]) -> List[Object]:
     return [each.value for each in values if isinstance(each.value, Object)]
 
 
-@dataclasses.dataclass(frozen=True)
-class Fault:
+class Fault(NamedTuple):
     """A fault: where it is, its kind as rdbg says it (`L3 Limit`), and what would be right."""
 
     place: Place

@@ -1,8 +1,7 @@
 """Reads an instruction: its form and operands, or what is wrong with it and what would be right."""
-import dataclasses
 import itertools
 import re
-from typing import Dict, Iterator, List, Optional, Sequence, Tuple
+from typing import Dict, Iterator, List, NamedTuple, Optional, Sequence, Tuple
 
 from rdbg.checking.freertos import sentence
 from rdbg.checking.slips import CONSTANTS, slip, statement
@@ -87,8 +86,7 @@ INSTEAD = (
 )
 
 
-@dataclasses.dataclass(frozen=True)
-class Operand:
+class Operand(NamedTuple):
     """An operand: its kind's symbol, its name, its word, where that stands, and how it is
     written."""
 
@@ -99,8 +97,7 @@ class Operand:
     spelled: str
 
 
-@dataclasses.dataclass(frozen=True)
-class InstructionFault:
+class InstructionFault(NamedTuple):
     """What is wrong with an instruction; the kind as rdbg says it, and the symbol and the word of
     the operand that is to blame, where one is."""
 
@@ -111,8 +108,7 @@ class InstructionFault:
     word: str = ""
 
 
-@dataclasses.dataclass(frozen=True)
-class Reading:
+class Reading(NamedTuple):
     """An instruction: its form, none for an unknown word; its operands as far as they could be told
     apart; its faults, those of rdbg's first kind first."""
 
@@ -133,7 +129,7 @@ def read(node: Node, scope: Scope) -> Reading:
     in_text = text_in_quotes(" ".join(word for word, _ in words[1:]))
     if form.word == "data" and in_text:
         return refused(form, in_text, words[1][1])
-    known = dataclasses.replace(scope, in_lines=node.written is not None)
+    known = scope._replace(in_lines=node.written is not None)
     return Reader(form, words, known, node).read()
 
 

@@ -1,8 +1,7 @@
 """The words that stand behind `rdbg`, with their options, gathered from where each is read."""
 import argparse
-import dataclasses
 import re
-from typing import Iterator, List, Optional, Tuple
+from typing import Iterator, List, NamedTuple, Optional, Tuple
 
 from rdbg import main, program_help
 
@@ -14,8 +13,7 @@ PLACED = re.compile(r"[<\[]?\b([A-Z]+)\b[>\]]?")
 SHELLS = ("bash", "zsh")
 
 
-@dataclasses.dataclass(frozen=True)
-class Option:
+class Option(NamedTuple):
     """An option by its names; what its value is called, empty where none stands behind it; what
     that can be; and whether the option may stand more than once."""
 
@@ -31,8 +29,7 @@ class Option:
         return self.value in FILES
 
 
-@dataclasses.dataclass(frozen=True)
-class Word:
+class Word(NamedTuple):
     """A word behind `rdbg`: what it is for, its options, and what may stand behind it."""
 
     name: str

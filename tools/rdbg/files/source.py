@@ -125,7 +125,7 @@ def source(path: str, content: bytes, given: Optional[Given] = None) -> Source:
     if said is not None and (text.comments or text.interrupts):
         below = code_below(shown) if path.endswith(ENDING) else {}
         scripts = ((it, tuple(put(it, text.comments, below))) for it in said.tasks)
-        tasks = tuple(dataclasses.replace(task, code=code) for task, code in scripts)
+        tasks = tuple(task._replace(code=code) for task, code in scripts)
         said = dataclasses.replace(said, tasks=tasks, interrupts=text.interrupts)
     faults, remarks, made = tuple(text.faults), tuple(text.remarks), tuple(text.made)
     return Source(path, shown, text.root, faults, said, remarks, made, consts)

@@ -5,9 +5,8 @@ taking it away from a copy, and bits are looked at by a notification entry of th
 value is put there, all other bits are cleared, and what is left is taken. The texts of instructions
 have `{spare}` for a register and `{entry}` for an entry that the task doesn't use, `{own}` for the
 task itself, `{target}` for where they jump, and `{here[N]}` for the Nth of them."""
-import dataclasses
 import re
-from typing import List, Optional, Sequence, Tuple
+from typing import List, NamedTuple, Optional, Sequence, Tuple
 
 from rdbg.firmware.numbers import LARGEST, Kept, Numbers
 from rdbg.firmware.tokens import Refusal, Token, shown
@@ -42,8 +41,7 @@ def cost(goes_on: int, jumps: int) -> str:
     return moves if goes_on == jumps else f"{moves}, {jumps} where it jumps"
 
 
-@dataclasses.dataclass(frozen=True)
-class Test:
+class Test(NamedTuple):
     """Whether a register, or those of its bits that `mask` has, are a number; or aren't, where the
     test is turned round."""
 
@@ -54,7 +52,7 @@ class Test:
 
     def turned(self) -> "Test":
         """The test that is met where this one isn't."""
-        return dataclasses.replace(self, is_turned=not self.is_turned)
+        return self._replace(is_turned=not self.is_turned)
 
     def jump(self) -> Jump:
         """The instructions that jump where the test is met."""
@@ -146,7 +144,7 @@ class Tests:
         is_register = left == Test(left.register, 0, is_turned=True)
         is_closed = self.numbers.tokens[behind - 1].text == ")"
         if is_register and not is_closed and self._is_any(BITS):
-            left = dataclasses.replace(left, mask=self._number(BITS[0]))
+            left = left._replace(mask=self._number(BITS[0]))
             if not left.mask:
                 raise Refusal(self._last().place, f"no bit of {left.register} is looked at")
             self._no_more("in C it would be of what stands on both its sides; write (r0 & N) = N")
@@ -172,7 +170,7 @@ class Tests:
             raise Refusal(self._last().place, "what is so or isn't is compared with 0 alone")
         if left.mask is not None and number & ~left.mask and token is not None:
             raise Refusal(token.place, f"the bits {left.mask:#x} are never {number:#x}")
-        return dataclasses.replace(left, number=number, is_turned=False)
+        return left._replace(number=number, is_turned=False)
 
     def _number(self, sign: str) -> int:
         """The number behind a sign, with a `-` or without. Behind it no `|` may stand, which in C

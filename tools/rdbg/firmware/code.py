@@ -2,7 +2,7 @@
 the registers that a task leaves free."""
 import dataclasses
 import re
-from typing import Dict, Iterator, List, Mapping, Optional, Sequence, Set, Tuple, Union
+from typing import Dict, Iterator, List, Mapping, NamedTuple, Optional, Sequence, Set, Tuple, Union
 
 from rdbg.digits import is_digits
 from rdbg.firmware import waits
@@ -24,8 +24,7 @@ OWN, OF_ANY = ("take", "nwait"), ("notify", "query", "nclear", "vclear")
 BY_ENTRY_0 = ("sread", "swrite", "mread", "mwrite")
 
 
-@dataclasses.dataclass(frozen=True)
-class Spare:
+class Spare(NamedTuple):
     """A register and two notification entries that a task doesn't use, one to look at bits, and one
     at which it waits (`ending`); none where all are used."""
 
@@ -274,7 +273,7 @@ class Script:
             at, count = reader.at, len(operands)
             read = reader.operand(symbols[count]) if count < len(symbols) else reader.whatever()
             spelled = written(reader.tokens[at : reader.at])
-            operands.append(dataclasses.replace(read, spelled=spelled))
+            operands.append(read._replace(spelled=spelled))
         return operands
 
     def lines(self) -> List[int]:
@@ -356,7 +355,7 @@ class Script:
         name = label.text
         if name in self._labels:
             number = made(str(self._labels[name][1]), label.place)
-            return dataclasses.replace(number, spelled=name)
+            return number._replace(spelled=name)
         near = near_to(name, self._labels)
         hint = f"; a label has a colon: {name}:" if name in WORDS else near
         message = f"there is no label {shown(name)}{hint}"
@@ -399,6 +398,4 @@ def renamed(member: Member, name: str) -> Member:
     if node.value == name:
         return member
     columns = [node.place.column] * len(name)
-    return dataclasses.replace(
-        member, node=Node(name, node.place, Places(node.place.line, columns))
-    )
+    return member._replace(node=Node(name, node.place, Places(node.place.line, columns)))

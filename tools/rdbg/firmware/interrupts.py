@@ -1,6 +1,5 @@
 """Interrupts that a text names: `interrupt ping: notify dsp 0 1 set`."""
-import dataclasses
-from typing import Callable, Dict, Iterator, List, Mapping, Optional, Sequence, Tuple
+from typing import Callable, Dict, Iterator, List, Mapping, NamedTuple, Optional, Sequence, Tuple
 
 from rdbg.application import ANY, MOST_APART, MOST_TIMES, NO_INTERRUPT, Interrupt
 from rdbg.checking.freertos import FROM_ISR, called
@@ -30,16 +29,14 @@ OPERANDS: Dict[str, Dict[str, Callable[[Operands], Operand]]] = {
 }
 
 
-@dataclasses.dataclass(frozen=True)
-class Call:
+class Call(NamedTuple):
     """A call of a handler: its words, and its tokens."""
 
     words: Tuple[str, ...]
     tokens: Tuple[Token, ...]
 
 
-@dataclasses.dataclass(frozen=True)
-class Read:
+class Read(NamedTuple):
     """An interrupt as it was read: its name, what is said of when it comes, and its calls."""
 
     name: Token
@@ -111,7 +108,7 @@ class InterruptLine:
     def _calls(self, tokens: Sequence[Token]) -> Iterator[Call]:
         """The calls behind the colon, with semicolons between them."""
         part: List[Token] = []
-        for token in [*tokens[1:], dataclasses.replace(tokens[0], text=SEMICOLON)]:
+        for token in [*tokens[1:], tokens[0]._replace(text=SEMICOLON)]:
             if token.text != SEMICOLON:
                 part.append(token)
                 continue

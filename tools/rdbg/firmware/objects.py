@@ -1,5 +1,4 @@
 """The lines of a text in lines that aren't instructions: what each says of the application."""
-import dataclasses
 import re
 from typing import Dict, Iterator, List, Optional, Sequence, Tuple
 
@@ -93,7 +92,7 @@ class ObjectLine:
             message = f"{self.count} tasks can't have one script: 1 to {MOST_TASKS} can"
             self._kept.refuse(at, message)
             self.count = 1
-        return dataclasses.replace(token, text=found[1])
+        return token._replace(text=found[1])
 
     def _key(self, token: Token) -> None:
         if any(member.key == token.text for member in self.members):

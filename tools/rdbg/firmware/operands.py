@@ -1,7 +1,6 @@
 """The operands of instructions in a text in lines, as rdbg reads them, from what is written."""
-import dataclasses
 import re
-from typing import Callable, Dict, List, Optional, Sequence
+from typing import Callable, Dict, List, NamedTuple, Optional, Sequence
 
 from rdbg.firmware.numbers import FOREVER, LARGEST, NAME, NOTHING_NAMED, NUMBER, Numbers
 from rdbg.firmware.tokens import Refusal, Token, shown, written
@@ -22,8 +21,7 @@ NUMBERS = ("N", "V", "T", "I", "ROOM")
 JOINING = ("|", "<<")
 
 
-@dataclasses.dataclass(frozen=True)
-class Operand:
+class Operand(NamedTuple):
     """An operand as rdbg reads it, with the columns of its characters; or the label that it is. As
     it is written, it is `spelled`."""
 
@@ -67,7 +65,7 @@ def byte_of(token: Token, value: int) -> Operand:
         raise Refusal(token.place, f"{name} is a const, and could be bytes: {either}")
     if value > 0xFF:
         raise Refusal(token.place, f"{name} is {value}, and a byte is 0 to 255")
-    return dataclasses.replace(made(f"{value:02x}", token.place), spelled=name)
+    return made(f"{value:02x}", token.place)._replace(spelled=name)
 
 
 class Operands(Numbers):
@@ -152,7 +150,7 @@ class Operands(Numbers):
         """The next label, or number of an instruction."""
         operand = self.word()
         label = self.tokens[self.at - 1] if NAME.fullmatch(operand.text) else None
-        return dataclasses.replace(operand, label=label)
+        return operand._replace(label=label)
 
     def data(self) -> Operand:
         """All bytes that come: digits, a text in quotes, or consts of a byte each."""

@@ -2,7 +2,6 @@
 
 docs/FORMATS.md has the grammar. What it refuses is a fault of its own; what else can be wrong is
 found in the tree, as in that of a JSON (`rdbg.checking.faults`)."""
-import dataclasses
 import itertools
 import re
 from typing import Dict, List, Mapping, NamedTuple, Optional, Sequence, Set, Tuple
@@ -302,7 +301,7 @@ class Reader:
             self._const([tokens[0], *const])
         elif name is not None:
             is_mutex = word == semaphores.MUTEX
-            first = dataclasses.replace(tokens[0], text="queue" if is_mutex else word)
+            first = tokens[0]._replace(text="queue" if is_mutex else word)
             keys = [] if is_mutex else tokens[tokens.index(name) + 1 :]
             line = [first, name, *keys]
             if word == "task":

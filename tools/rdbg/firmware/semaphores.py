@@ -3,8 +3,7 @@
 A semaphore that is there at the start by nobody's giving can't be a queue with items, since a queue
 is empty at boot. So what is given then is a queue of what is taken: an item stands in it as long as
 somebody has it. Else an item is what can be taken."""
-import dataclasses
-from typing import Dict, Mapping, Optional, Sequence, Tuple
+from typing import Dict, Mapping, NamedTuple, Optional, Sequence, Tuple
 
 from rdbg.firmware.numbers import Constants, Kept, Numbers
 from rdbg.firmware.objects import next_number, queue
@@ -23,8 +22,7 @@ OF_SETS = ("setadd", "setdel")
 NO_INHERITANCE = "no priority inheritance, and nobody owns it"
 
 
-@dataclasses.dataclass(frozen=True)
-class Semaphore:
+class Semaphore(NamedTuple):
     """A semaphore or a mutex: its word, its name, its length, whether it is given at first, and the
     members of its queue, where its line isn't wrong."""
 

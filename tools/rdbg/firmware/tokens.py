@@ -1,7 +1,6 @@
 """The words of a text in lines, each with its place; comments and the ends of lines are gone."""
-import dataclasses
 import re
-from typing import Dict, Iterator, List, Optional, Sequence
+from typing import Dict, Iterator, List, NamedTuple, Optional, Sequence
 
 from rdbg.failure import Failure
 from rdbg.tree import Place
@@ -43,8 +42,7 @@ class Stop(Refusal):
     """A refusal behind which the text isn't read."""
 
 
-@dataclasses.dataclass(frozen=True)
-class Token:
+class Token(NamedTuple):
     """A word, a text in quotes or a sign, as it is written; `gap` is what parts it from the one
     before it: nothing, a space, or a comma and a space."""
 

@@ -1,8 +1,7 @@
 """The text in lines (`.fw`) of an application: what `rdbg.firmware` reads, written to be read."""
-import dataclasses
 import itertools
 import re
-from typing import Any, Callable, Dict, Iterator, List, Optional, Sequence, Tuple
+from typing import Any, Callable, Dict, Iterator, List, NamedTuple, Optional, Sequence, Tuple
 
 from rdbg.application import Application, Instruction, Task
 from rdbg.digits import is_digits
@@ -18,8 +17,7 @@ JUMPS = ("jump", "jumpz")
 TARGET = "TARGET"
 
 
-@dataclasses.dataclass(frozen=True)
-class FoundIf:
+class FoundIf(NamedTuple):
     """An `if` of so many instructions, that jumps to one by its number."""
 
     test: Test
