@@ -33,8 +33,7 @@ class Instruction:
 
     @property
     def told(self) -> str:
-        """It as a move of it is told: the line as it is written, and which of its instructions it
-        is behind the first."""
+        """The line as it is written, and which of its instructions it is behind the first."""
         if self.part is None:
             return self.written
         note = self.part.note
@@ -129,9 +128,7 @@ class Interrupt(NamedTuple):
 
 @dataclasses.dataclass(frozen=True)
 class Text:
-    """What a file says: its tree, none where it can't be read to its end, and what is wrong with
-    it; of a text in lines what there is to remark, what lines of objects become, the comments of
-    each line, and the interrupts that may come."""
+    """What a file says; of one in lines `made` is what lines of objects become, by number."""
 
     root: Optional[Node]
     faults: Sequence[Fault]
@@ -148,8 +145,7 @@ Made = TypeVar("Made")
 
 @dataclasses.dataclass(frozen=True)
 class Application:
-    """What runs. A thing's number is its index in its list. Of a text in lines, there are the
-    interrupts that it names, of which a JSON has none."""
+    """What runs. A thing's number is its index in its list. A JSON names no interrupts."""
 
     profile: int
     cores: int

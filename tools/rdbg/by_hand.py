@@ -31,8 +31,7 @@ def changed_objects(before: Look, after: Look) -> List[Key]:
 
 
 def edit_of(before: Look, after: Look) -> Optional[str]:
-    """The edit that makes the second look of the first, or none where no single one does. Where
-    nothing differs there are many; it is one of them."""
+    """The one edit that makes the second look of the first, if any; any where nothing differs."""
     found: List[str] = []
     for name, now in after.tasks.items():
         was = before.tasks.get(name, now)
@@ -75,8 +74,7 @@ def edit_of_object(was: Object, now: Object) -> str:
 
 
 def interrupt_of(before: Look, after: Look) -> Optional[str]:
-    """An interrupt that makes the second look of the first, and is answered 1; none where no single
-    one does, or where nothing has come that could be seen."""
+    """The one interrupt that makes the second look of the first, and that can be seen, if any."""
     told: List[str] = []
     for name, now in after.tasks.items():
         was = before.tasks.get(name, now)
@@ -110,8 +108,7 @@ def send_of(before: Look, after: Look, changed: List[Key]) -> Optional[str]:
 
 
 def could_be(before: Look, after: Look, made: ByHand) -> bool:
-    """Whether what is known to have been done at a place can be what lies between two looks, or
-    others have moved the target there since."""
+    """Whether what was done can be what lies between two looks, or others have moved since."""
     words = made.line.split(" ")
     if words[0] != INTERRUPT:
         return edit_of(before, after) == made.line

@@ -40,8 +40,7 @@ def text_of(line: bytes) -> str:
 
 
 def said_by(words: Sequence[str], errors: Optional[int]) -> Tuple[bytes, int]:
-    """What a program says on standard output, and its status. Raises `OSError` where it can't be
-    started."""
+    """What a program says on standard output, and its status. Raises `OSError` without one."""
     pipe, none = subprocess.PIPE, subprocess.DEVNULL
     process = children.start(words, none, pipe, errors, signal.SIGTERM, is_apart=False)
     with process:
@@ -208,8 +207,7 @@ class Session:
 
     @classmethod
     def attach(cls, port: int, name: Optional[str] = None) -> "Session":
-        """One more session at a server of this machine, at a room's by a name. Raises `Failure`
-        where none listens, or the name isn't let in."""
+        """One more session at a server, at a room's by a name. Raises `Failure` for none."""
         session = cls.over(connected(port), port)
         if name is not None:
             session._introduce(name)
@@ -267,8 +265,7 @@ class Session:
             yield from self._exchange(batch)
 
     def ask_all(self, lines: Iterable[str]) -> List[replies.Reply]:
-        """The replies to lines that are sent many at a time, as values. Raises `Refused` for the
-        first that is refused, when all are answered."""
+        """The replies to lines as values. Raises the first `Refused` when all are answered."""
         return [replies.read(reply) for reply in list(self.tell_all(lines))]
 
     def _exchange(self, batch: Sequence[str]) -> Iterator[str]:
@@ -331,8 +328,7 @@ class Session:
             self._on_notice(notice)
 
     def remark(self, line: str) -> None:
-        """Says a line that begins with `#` to a room, and hears its answer. Raises `Failure` where
-        that has ended."""
+        """Says a line of `#` to a room, and hears its answer. Raises `Failure` without."""
         self._catch_up()
         self._send(f"{line}\n".encode("utf-8", "replace"))
         is_answered = False
@@ -372,8 +368,7 @@ class Session:
         return self._answers.fileno() if isinstance(self._answers, PortLines) else None
 
     def hear_now(self) -> bool:
-        """Hears the notices that have come, while no reply is owed; false at the end, or where the
-        room has said it."""
+        """Hears notices, while no reply is owed; false at the end, also where the room says it."""
         if not isinstance(self._answers, PortLines):
             return False
         try:
@@ -407,8 +402,7 @@ class Session:
         return self._errors.read().decode("utf-8", "replace")
 
     def kill(self) -> None:
-        """Ends the session and its program at once, without the look at its history that the
-        program has at its end."""
+        """Ends the session and its program at once, without a look at its history."""
         if self._process is not None:
             self._process.kill()
         self.close()

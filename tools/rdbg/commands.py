@@ -63,8 +63,7 @@ def is_watch(word: str) -> bool:
 
 
 class Symbol(NamedTuple):
-    """What can stand at a place of a form: how it is called, which words those are, and whether a
-    word is one of them."""
+    """What can stand at a place of a form."""
 
     text: str
     noun: str
@@ -110,8 +109,7 @@ class Form(NamedTuple):
 
     @property
     def is_look(self) -> bool:
-        """Whether its lines change nothing, so that one is answered as before as long as what its
-        answer hangs on hasn't changed."""
+        """Whether its lines change nothing, so that an answer stays as long as what it hangs on."""
         return self.answers is not None and not self.changes
 
     @property

@@ -13,8 +13,7 @@ NOTIFICATIONS = ("notify", "query", "take", "nwait", "nclear", "vclear")
 
 
 class Effect(NamedTuple):
-    """Something that a move did: its kind (a key of `TEXTS`), to which task or object, on which
-    core where one is meant, and how, in words."""
+    """Something that a move did, by a key of `TEXTS`, and on which core where one is meant."""
 
     kind: str
     name: str

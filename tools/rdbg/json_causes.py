@@ -97,8 +97,7 @@ def begins_value(text: str, at: int) -> bool:
 
 
 def no_comma(text: str, behind: int, at: int, bracket: str) -> Tuple[int, str]:
-    """What is wrong behind a value that ended at `behind`, where something else stands than a comma
-    or the bracket; and where."""
+    """What is wrong behind a value, which ended at `behind`, and where, but for a comma."""
     sign = text[at]
     if sign == ":" and bracket == "]":
         return at, "a key stands in an object, { .. }, and this is a list"

@@ -49,8 +49,7 @@ def list_text(name: str, things: Sequence[str], is_short: bool) -> str:
 
 
 def json_of(app: Application) -> str:
-    """The JSON of an application, with an end of line. Where it would be too long for rdbg if it
-    was laid out, it is on one line."""
+    """The JSON of an application; on one line where rdbg would refuse it laid out, as too long."""
     parts = [f'  "{name}": {value}' for name, value in settings(app)]
     plain: Dict[str, Any] = dict(settings(app))
     for key in FILE.keys:

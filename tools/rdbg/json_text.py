@@ -33,8 +33,7 @@ class NotJson(Exception):
 
 
 def read(content: bytes) -> Tuple[Optional[Node], List[Fault]]:
-    """The tree of a file's content, or none and why it is no JSON. Raises `Failure` where the file
-    is longer than rdbg reads."""
+    """The tree of a content, or why there is none. Raises `Failure` where it is too long."""
     if len(content) > MOST_BYTES:
         most = f"rdbg reads {MOST_BYTES:,} at the most"
         raise Failure(f"the file has {len(content):,} bytes, and {most}", 2)
@@ -51,8 +50,7 @@ def read(content: bytes) -> Tuple[Optional[Node], List[Fault]]:
 
 
 class Reader:
-    """Reads a text from its beginning to its end. Each method takes where it begins, and answers
-    what stands there and where that ends."""
+    """Reads a text. Each method takes where it begins, and answers what is there and its end."""
 
     def __init__(self, text: str) -> None:
         self.text, self.place = text, Lines(text).place
@@ -129,8 +127,7 @@ class Reader:
         return self.text[at : at + 1] == bracket
 
     def comma(self, at: int, bracket: str) -> Tuple[int, Optional[int]]:
-        """Where it goes on behind a value, and the comma that stands before that. Where the list or
-        the object ends there is none."""
+        """Where it goes on behind a value, and the comma before that; none at the end."""
         end = self.after_space(at)
         if self.text[end : end + 1] == ",":
             return self.after_space(end + 1), end

@@ -5,8 +5,7 @@ from typing import Dict, NamedTuple, Tuple
 
 
 class Kind(NamedTuple):
-    """A kind. `word` is what `show` has for it, `symbol` what stands in forms; `amount` is the word
-    of a condition, and `places` are those of phases."""
+    """A kind: the word of `show`, the symbol of forms, and the words of conditions and phases."""
 
     word: str
     symbol: str

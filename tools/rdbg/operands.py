@@ -13,8 +13,7 @@ BYTES = r"-|([0-9A-Fa-f]{2}){1,256}"
 
 
 class OperandKind(NamedTuple):
-    """What an operand is: its symbol in a form, what it is called, what can stand there in words,
-    and a pattern that each such word has."""
+    """What an operand is, and the pattern of each word that can stand there."""
 
     symbol: str
     noun: str
@@ -52,9 +51,7 @@ ACTIONS: Dict[str, str] = dict(zip(OF_C.split(), KIND_OF["ACTION"].words()))
 
 
 class Scope(NamedTuple):
-    """What an instruction can name: the names of each kind under its symbol (`Q`, `K`, ..), the
-    notification entries that each task has, how many instructions its script has, and whether it
-    is written in lines."""
+    """What an instruction can name: the names by symbols, and how many entries and instructions."""
 
     names: Mapping[str, Sequence[str]]
     entries: int = 1
@@ -62,8 +59,7 @@ class Scope(NamedTuple):
     in_lines: bool = False
 
     def limits(self, symbol: str) -> Optional[Tuple[int, int]]:
-        """The least and the largest number that can stand at an operand of this kind. The largest
-        is below the least where there is none; none where the kind isn't one of numbers."""
+        """The least and the largest number of such an operand; none where it isn't one."""
         if symbol in ("N", "V", "T"):
             return 0, MOST_NUMBER
         if symbol == "ROOM":

@@ -96,8 +96,7 @@ def told(way: Owner, connection: socket.socket) -> Optional[int]:
 
 
 def way_to_tell() -> Optional[Owner]:
-    """The way by which this system says whose a connection is, tried on one of this process's own;
-    none where there is none."""
+    """How this system says whose a connection is, tried on one of this process's own; or none."""
     if sys.platform != "linux":
         return None
     with socket.socket() as listening, socket.socket() as ours:

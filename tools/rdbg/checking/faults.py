@@ -284,8 +284,7 @@ def binary(node: Node) -> Iterator[Fault]:
 
 
 def remarks_of(root: Node) -> List[Fault]:
-    """What is no fault to rdbg, and most likely one all the same: a key that stands twice, and
-    bytes that look like a number."""
+    """What is no fault to rdbg, but likely one: a key that stands twice, bytes like a number."""
     found: List[Fault] = []
     values = [root]
     while values:

@@ -87,8 +87,7 @@ INSTEAD = (
 
 
 class Operand(NamedTuple):
-    """An operand: its kind's symbol, its name, its word, where that stands, and how it is
-    written."""
+    """An operand: its kind's symbol, its name, its word and place, and how it is written."""
 
     symbol: str
     noun: str
@@ -98,8 +97,7 @@ class Operand(NamedTuple):
 
 
 class InstructionFault(NamedTuple):
-    """What is wrong with an instruction; the kind as rdbg says it, and the symbol and the word of
-    the operand that is to blame, where one is."""
+    """What is wrong with an instruction, and the operand that is to blame, where one is."""
 
     kind: str
     message: str
@@ -109,8 +107,7 @@ class InstructionFault(NamedTuple):
 
 
 class Reading(NamedTuple):
-    """An instruction: its form, none for an unknown word; its operands as far as they could be told
-    apart; its faults, those of rdbg's first kind first."""
+    """An instruction: its operands as far as they were told apart, rdbg's first faults first."""
 
     form: Optional[InstructionForm]
     operands: Tuple[Operand, ...] = ()
@@ -134,8 +131,7 @@ def read(node: Node, scope: Scope) -> Reading:
 
 
 def text_in_quotes(text: str) -> str:
-    """What to write in place of bytes that are a text in quotes, as `'A'`; empty where they are
-    no such text."""
+    """What to write in place of bytes that are a text in quotes, as `'A'`; empty for others."""
     found = re.fullmatch(r"(['\"])(.+?)\1?", text)
     if not found:
         return ""
@@ -217,8 +213,7 @@ class Reader:
         return f"{lacks}, and its words stand in another order; write {line}"
 
     def aligned(self) -> Iterator[Operand]:
-        """Each operand that has a word, after a fault where operands lack a word, or words are
-        left over."""
+        """Each operand that has a word, after faults for what is lacking and left over."""
         operands, words = len(self.symbols), len(self.words)
         chosen = self.layout.choice()
         missing = [at for at in range(operands) if at not in chosen]

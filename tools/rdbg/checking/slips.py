@@ -188,8 +188,7 @@ def written_as(found: Match[str], instruction: str, in_lines: bool) -> Optional[
 
 
 def statement(words: Sequence[str], in_lines: bool) -> Optional[str]:
-    """What a statement on registers is written as: `r1++` is `add r1 1`. None where it is no such
-    one, or where no instruction does it."""
+    """What a statement on registers is written as, if it is one: `r1++` is `add r1 1`."""
     text = NOISE.sub(" ", " ".join(words)[:100]).strip()
     for pattern, instruction in STATEMENTS:
         found = re.fullmatch(pattern, text)

@@ -131,8 +131,7 @@ def write_report(asked: Words, answer: Answer) -> None:
 
 
 def source_of(asked: Words, file: str) -> Source:
-    """The application's file, of which the consts that are asked for are these numbers. Raises
-    `Failure` where it can't be read, or has no such const."""
+    """The application's file, with the consts that are asked for. Raises `Failure` without."""
     with turned(of_words, argparse.ArgumentTypeError, of=DEFINE):
         source = load(file, dict(map(definition, asked.consts)))
     return source

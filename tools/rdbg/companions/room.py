@@ -68,8 +68,7 @@ def parser() -> Parser:
 
 
 class Signals:
-    """Ctrl-C and SIGTERM end a port once it is there; before, and where they come again and again,
-    the process."""
+    """Ctrl-C and SIGTERM end a port once it is there; before, and again and again, the process."""
 
     def __init__(self) -> None:
         self.port: Optional[Port] = None
@@ -89,8 +88,7 @@ class Signals:
 
 
 def open_room(source: Source, limits: Limits, sessions: int, talk: Optional[Talk]) -> Room:
-    """A room, once it has its program. As long as others come to that first it is tried again,
-    which is said."""
+    """A room, once it has its program. Where others are first it says so, and tries again."""
     while True:
         try:
             return Room.open(source, limits, sessions, talk)
@@ -101,8 +99,7 @@ def open_room(source: Source, limits: Limits, sessions: int, talk: Optional[Talk
 def with_pages(
     room: Room, number: int, door: Door, ends: contextlib.ExitStack
 ) -> Tuple[Served, str]:
-    """The room's pages, at a port, and what is said of where they are. Where that can't be had the
-    room ends, by a `Failure`."""
+    """The room's pages, and what is said of where they are. Without them the room ends."""
     try:
         pages = web.serve(room, number, door)
         is_terminal = sys.stdout.isatty()

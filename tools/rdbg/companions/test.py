@@ -56,8 +56,7 @@ def checked(path: str) -> Tuple[str, List[Case]]:
 
 
 class Shown:
-    """Shows which case is waited for at a terminal, in a line that is gone when its answer is
-    there. Elsewhere nothing is shown."""
+    """Shows at a terminal which case is waited for, in a line that goes with its answer."""
 
     def __init__(self, stream: IO[str], count: int) -> None:
         self._stream, self._count = stream, count

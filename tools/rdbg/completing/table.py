@@ -14,8 +14,7 @@ SHELLS = ("bash", "zsh")
 
 
 class Option(NamedTuple):
-    """An option by its names; what its value is called, empty where none stands behind it; what
-    that can be; and whether the option may stand more than once."""
+    """An option; what its value is called is empty where it takes none."""
 
     names: Tuple[str, ...]
     value: str

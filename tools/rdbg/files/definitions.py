@@ -27,7 +27,6 @@ def definition(text: str) -> Tuple[str, int]:
 
 
 def take_definitions(parser: Parser) -> None:
-    """Has a command line take consts, as the pairs of `consts`. One that is given twice has its
-    last number, as in C."""
+    """Has a command line take `consts`. The last of one name counts, as in C."""
     text = "of a text in lines: the const NAME is N; said again, there are more"
     parser.word(OPTION, "NAME=N", text, dest="consts", type=definition, action="append", default=[])

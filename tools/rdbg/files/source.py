@@ -73,8 +73,7 @@ class Source:
 
 
 def load(path: str, given: Optional[Given] = None) -> Source:
-    """Reads a file, by its ending as JSON or in lines, of which consts of these names are these
-    numbers. Raises `Failure` where it can't be read."""
+    """Reads a file by its ending, with such consts. Raises `Failure` where it can't be read."""
     with trying(f"read {path}"):
         content = pathlib.Path(path).read_bytes()
     return source(path, content, given)
@@ -89,8 +88,7 @@ def standard_input() -> bytes:
 
 
 def accepted(path: Optional[str], given: Optional[Given] = None) -> Optional[Source]:
-    """The application's file, if one is named; its faults end it with a line each. Raises `Failure`
-    where consts are given and no file."""
+    """The application's file, if one is named. Raises `Failure` for faults, or consts alone."""
     if path is None:
         if given:
             raise Failure("-D goes with a file: a text in lines (.fw)", 2)

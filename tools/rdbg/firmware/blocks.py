@@ -91,8 +91,7 @@ class Blocks:
         return True
 
     def close_all(self) -> None:
-        """Refuses blocks that are open at the end of a script, and those behind which it goes on
-        where there is no instruction."""
+        """Refuses blocks that are open at the end, and those behind which nothing stands."""
         for block in self._open:
             if not block.is_refused:
                 message = f"this {block.word.text} isn't closed: end is missing"

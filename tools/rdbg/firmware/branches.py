@@ -42,8 +42,7 @@ def cost(goes_on: int, jumps: int) -> str:
 
 
 class Test(NamedTuple):
-    """Whether a register, or those of its bits that `mask` has, are a number; or aren't, where the
-    test is turned round."""
+    """Whether a register, or those of its bits that `mask` has, are a number, or aren't."""
 
     register: str
     number: int
@@ -173,8 +172,7 @@ class Tests:
         return left._replace(number=number, is_turned=False)
 
     def _number(self, sign: str) -> int:
-        """The number behind a sign, with a `-` or without. Behind it no `|` may stand, which in C
-        would join more than the number."""
+        """The number behind a sign. A `|` behind it would join more in C, and is refused."""
         token = self.numbers.next()
         if token is not None and re.fullmatch(REGISTER, token.text):
             message = "no instruction compares two registers, or looks at bits that one has"

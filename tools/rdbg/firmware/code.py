@@ -25,8 +25,7 @@ BY_ENTRY_0 = ("sread", "swrite", "mread", "mwrite")
 
 
 class Spare(NamedTuple):
-    """A register and two notification entries that a task doesn't use, one to look at bits, and one
-    at which it waits (`ending`); none where all are used."""
+    """What a task doesn't use, to look at bits, and to wait at (`ending`); none for all used."""
 
     register: Optional[str]
     entry: Optional[int]
@@ -66,8 +65,7 @@ class Uses:
 def spare(
     names: Sequence[str], own: Uses, all_uses: Sequence[Uses], entries: int, has_waits: bool
 ) -> Spare:
-    """What tasks of these names, which have one script, don't use, of so many entries each, where
-    some lines wait at one or none does."""
+    """What tasks of one script don't use, of so many entries each; one is to wait at."""
     told = {entry for uses in all_uses for name, entry in uses.told if name in names}
     free = (it for it in reversed(range(entries)) if it not in own.entries | told)
     register = next((it for it in REGISTERS if it not in own.registers), None)
@@ -95,8 +93,7 @@ def without_parentheses(tokens: Sequence[Token]) -> Sequence[Token]:
 
 @dataclasses.dataclass(frozen=True)
 class Draft:
-    """An instruction: its word and operands, of which labels aren't numbers until its script is
-    closed, and its tokens."""
+    """An instruction. Labels among its operands are numbers once its script is closed."""
 
     parts: Tuple[Operand, ...]
     tokens: Tuple[Token, ...]
@@ -107,8 +104,7 @@ class Draft:
         uses.add([part.text for part in self.parts])
 
     def needs_label(self, labels: Mapping[str, object]) -> bool:
-        """Whether the instruction jumps, and where its label should be there is none: then another
-        of its words is the label, out of its place."""
+        """Whether it jumps, and no label stands in its place: then another word is one."""
         if "L" not in FORM_OF[self.tokens[0].text].symbols:
             return False
         names = [part.label.text for part in self.parts if part.label is not None]
@@ -242,8 +238,7 @@ class Script:
                 yield from [line.tokens[0]] if line.tokens[0].text in waits.FILLS else []
 
     def instruction(self, tokens: Sequence[Token]) -> None:
-        """Reads an instruction. Of one that is refused its word is kept, so that it counts. Raises
-        `Stop` where there are far too many."""
+        """Reads an instruction; where it is refused its word counts. Raises `Stop` at the most."""
         parts, index = [as_written(tokens[0])], self.length
         kept = Kept(self.kept.constants, [])
         with kept.keeping():
@@ -308,8 +303,7 @@ class Script:
                 self.refusals.append(self._told(refusal, at, line.tokens))
 
     def remarks(self, spare: Spare, names: Sequence[str]) -> Iterator[Fault]:
-        """What there is to say of lines that look at bits, and of waits whose end is chosen, of
-        tasks of these names. Nothing is said of one that is refused."""
+        """What there is to say of lines that look at bits or wait, and aren't refused."""
         for _, line in self._lines:
             if not isinstance(line, Several) or line.lacks(spare):
                 continue
@@ -365,8 +359,7 @@ class Script:
 
 @dataclasses.dataclass(frozen=True)
 class Thing:
-    """An object or a task: its first word, its keys with their values, and a task's script, which
-    several have where there is a count."""
+    """An object or a task, by its first word; of a script several have, `count` of them."""
 
     word: Token
     members: Tuple[Member, ...]

@@ -108,8 +108,7 @@ def near_object(word: str, others: Sequence[str]) -> str:
 
 
 def as_const(tokens: Sequence[Token]) -> Optional[Sequence[Token]]:
-    """The name and the number of a const that is written otherwise: `const int RX = 5`, `cosnt RX
-    5`. None where a line is none."""
+    """The name and number of a const that is written otherwise, if one is: `const int RX = 5`."""
     words = [token.text for token in tokens[:MOST_TOKENS]]
     at = 0
     while at < len(words) and (TYPES.fullmatch(words[at]) or words[at].lower() in CONSTANTS):

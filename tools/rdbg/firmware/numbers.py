@@ -40,8 +40,7 @@ def too_large(place: Place, text: str) -> Refusal:
 
 
 def value_of(place: Place, text: str) -> Optional[int]:
-    """The value of a text that is a number; none where it isn't. Raises `Refusal` where it is too
-    large, or would be another number in C."""
+    """The value of a text, if it is a number. Raises `Refusal` where C has another."""
     found = NUMBER.fullmatch(text)
     if not found:
         return None

@@ -22,8 +22,7 @@ JOINING = ("|", "<<")
 
 
 class Operand(NamedTuple):
-    """An operand as rdbg reads it, with the columns of its characters; or the label that it is. As
-    it is written, it is `spelled`."""
+    """An operand as rdbg reads it, its characters' columns, its label, and as it is `spelled`."""
 
     text: str
     columns: Sequence[int]

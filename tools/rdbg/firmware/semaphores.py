@@ -23,8 +23,7 @@ NO_INHERITANCE = "no priority inheritance, and nobody owns it"
 
 
 class Semaphore(NamedTuple):
-    """A semaphore or a mutex: its word, its name, its length, whether it is given at first, and the
-    members of its queue, where its line isn't wrong."""
+    """A semaphore or a mutex, with the members of its queue where its line isn't wrong."""
 
     word: Token
     name: str

@@ -43,8 +43,7 @@ class Stop(Refusal):
 
 
 class Token(NamedTuple):
-    """A word, a text in quotes or a sign, as it is written; `gap` is what parts it from the one
-    before it: nothing, a space, or a comma and a space."""
+    """A word, a text in quotes or a sign; `gap` is what parts it from the one before it."""
 
     text: str
     place: Place

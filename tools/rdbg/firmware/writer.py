@@ -130,9 +130,7 @@ Line = Tuple[int, str, Optional[int]]
 
 
 def lines_of(task: Task, has_ifs: bool) -> List[Line]:
-    """The lines of a script without labels: the number of the first instruction of each, its text,
-    and to which instruction it jumps, if to any. An `if` that became several instructions is one,
-    where that is asked."""
+    """The lines of a script: its first instruction, its text, and where it jumps, of each."""
     code = [it.text for it in task.code]
     found: List[Line] = []
     at = 0
@@ -211,9 +209,7 @@ def object_lines(app: Application) -> List[str]:
 
 
 def text_of(app: Application, is_plain: bool = False) -> str:
-    """The text of an application, with an end of line. Reading it gives the application again, with
-    several tasks and an `if` in a line each, where they can be found; or without, where that is
-    asked."""
+    """The text of an application; not plain, it has several tasks and ifs in a line each."""
     numbers = [pair for pair in settings(app) if pair != PROFILE]
     blocks = [[f"{name} {value}" for name, value in numbers]]
     blocks += [object_lines(app), *task_blocks(app, is_plain)]
@@ -221,8 +217,7 @@ def text_of(app: Application, is_plain: bool = False) -> str:
 
 
 def jumps_of(app: Application) -> List[str]:
-    """The tasks of which some jumps come back with labels, as there is no loop, no while and no
-    block of an if in a JSON, each with the numbers of these jumps."""
+    """The tasks of which jumps come back with labels, as no JSON has blocks, with their numbers."""
     found: List[str] = []
     for task in app.tasks:
         ends = [(at, text) for at, text, target in lines_of(task, True) if target is not None]

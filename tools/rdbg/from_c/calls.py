@@ -201,8 +201,7 @@ def kept(block: Block) -> List[str]:
 
 
 def made_by(call: Call, functions: Mapping[str, Block]) -> List[Call]:
-    """The calls of FreeRTOS that a call of one of these functions makes, by itself and by others of
-    them, with what it is given in the place of its parameters."""
+    """The calls of FreeRTOS that a call makes by these functions, with what it is given in them."""
     waiting, found = [call], []
     for one in itertools.islice(waiting, MOST_CALLS):  # (which grows meanwhile)
         block = functions[one.name]

@@ -58,8 +58,7 @@ class Comparing:
         return " ".join(parts)
 
     def judge(self, line: Said, call: Call) -> Iterator[Fault]:
-        """Where the line of a call of FreeRTOS says something else; what it names stands for that
-        from there on."""
+        """Where a line says something else than its call; what it names is known from there on."""
         yield from self.faults(line, call)
         for operand, value in self._pairs(line, call):
             if operand.kind in NAMES:
@@ -131,8 +130,7 @@ def included(directives: Sequence[Piece]) -> List[str]:
 
 
 def of_headers(path: str, source: Sequence[Piece]) -> List[Piece]:
-    """What stands in the headers of a source of this path, and in theirs. Those that aren't in its
-    folder are passed over."""
+    """What stands in the headers of a source, and in theirs, as far as its folder has them."""
     folder, found = pathlib.Path(path).parent, []
     names = [*dict.fromkeys(included(source))]
     for name in names:
@@ -219,8 +217,7 @@ class Function:
         return range(begin, it.call.end + 1)
 
     def _naming(self, it: Beside) -> List[Said]:
-        """The lines beside a call that name its function. Those that name another which that calls
-        are beside it, too."""
+        """The lines beside a call that name its function, beside those of what that calls."""
         block = self._source.functions.get(it.call.name)
         inner = {call.name for call in calls_in(block.pieces)} if block else set()
         near = [line for line in self._near(it) if line.line.function in (it.call.name, *inner)]
@@ -228,8 +225,7 @@ class Function:
         return [line for line in near if line.line.function == it.call.name]
 
     def _fitting(self, it: Beside, is_any: bool) -> Optional[Said]:
-        """The nearest line beside a call of FreeRTOS. It has the word of the call, or, where it may
-        be any, that of another."""
+        """The nearest line beside a call of FreeRTOS, with its word, or with any."""
         words, row = words_of(it.call), it.call.place.line
         near = [line for line in self._near(it) if not line.line.function]
         found = [line for line in near if is_any or line.word in words]

@@ -76,8 +76,7 @@ def code_beside(text: str, found: Sequence[Piece]) -> Dict[int, str]:
 
 
 def in_lines(text: str) -> str:
-    """The model of a source as a text in lines: each line stands where it stands in the source,
-    with the C beside it as its comment."""
+    """The model of a source as a text in lines, each where it stands, with the C as its comment."""
     found = [*pieces(text)]
     said: Dict[int, str] = {}
     for line in lines_of(found):
