@@ -138,7 +138,7 @@ def change_of(was: Object, now: Object) -> str:
     """What has become of an object that isn't as it was, in a word or two."""
     if isinstance(was, replies.Queue) and isinstance(now, replies.Queue):
         if was.member_of != now.member_of:
-            return f"in {f'set {now.member_of}' if now.member_of else 'no set'}"
+            return f"in set {now.member_of}" if now.member_of else "in no set"
     if isinstance(was, replies.Stream) and isinstance(now, replies.Stream):
         if was.trigger != now.trigger:
             return f"trigger {now.trigger}"

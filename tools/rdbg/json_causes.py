@@ -56,9 +56,8 @@ def no_value(text: str, at: int) -> str:
     if found:
         word = wording.shown(found.group())
         meant = VALUES.get(word.lower())
-        return f"{word} is no value of JSON" + (
-            f": {meant}?" if meant else f'; a text stands between quotes: "{word}"'
-        )
+        hint = f": {meant}?" if meant else f'; a text stands between quotes: "{word}"'
+        return f"{word} is no value of JSON{hint}"
     return f"{shown(sign)} begins no value"
 
 
@@ -75,9 +74,8 @@ def number(text: str, at: int) -> str:
         return f"{word}: a number is decimal" + (f", {value}" if value else "")
     if re.match(r"-?0[0-9]", word):
         plain = word.lstrip("-0") or "0"
-        return f"{word}: a number has no zero in front" + (
-            f": {plain}" if is_digits(plain) and word[0] != "-" else ""
-        )
+        hint = f": {plain}" if is_digits(plain) and word[0] != "-" else ""
+        return f"{word}: a number has no zero in front{hint}"
     if re.match(r"-?\.", word) or re.fullmatch(r"-?[0-9]+\.", word):
         return f"{word}: digits stand before a point and behind it"
     return f"{word} is no number of JSON: it has digits alone"

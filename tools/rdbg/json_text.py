@@ -7,7 +7,7 @@ from typing import Callable, List, Optional, Sequence, Tuple, TypeVar
 
 from rdbg import json_causes as causes
 from rdbg.failure import Failure
-from rdbg.tree import Fault, Lines, Member, Node, Number, Object, Places, Value
+from rdbg.tree import Fault, Lines, Member, Node, Number, Object, Value
 
 NOT_JSON = "L1 NotJson"
 MOST_BYTES = 1_048_576
@@ -114,24 +114,20 @@ class Reader:
         found: List[Part] = []
         end = self.after_space(at + 1)
         comma: Optional[int] = None
-        while comma is not None or not self.closes(end, bracket):
-            if comma is not None and self.text[end : end + 1] in (bracket, ","):
+        while comma is not None or not self.text.startswith(bracket, end):
+            if comma is not None and self.text.startswith((bracket, ","), end):
                 raise NotJson(comma if self.text[end] == bracket else end, causes.COMMA)
             part, end = read(end)
             found.append(part)
             end, comma = self.comma(end, bracket)
         return tuple(found), end + 1
 
-    def closes(self, at: int, bracket: str) -> bool:
-        """Whether this bracket stands here."""
-        return self.text[at : at + 1] == bracket
-
     def comma(self, at: int, bracket: str) -> Tuple[int, Optional[int]]:
         """Where it goes on behind a value, and the comma before that; none at the end."""
         end = self.after_space(at)
-        if self.text[end : end + 1] == ",":
+        if self.text.startswith(",", end):
             return self.after_space(end + 1), end
-        if not self.closes(end, bracket):
+        if not self.text.startswith(bracket, end):
             cause = self.cause(end)
             if cause is None:
                 raise NotJson(*causes.no_comma(self.text, at, end, bracket))
@@ -177,14 +173,14 @@ class Reader:
             columns: Sequence[int] = range(first, first + len(value))
         else:
             value, columns, end = self.escaped(at, place.column)
-        return Node(value, place, Places(place.line, columns)), end
+        return Node(value, place, columns), end
 
     def escaped(self, start: int, column: int) -> Tuple[str, List[int], int]:
         """A text with escapes: its characters, the column of each, and its end."""
         parts: List[str] = []
         columns: List[int] = []
         at = start + 1
-        while not self.closes(at, '"'):
+        while not self.text.startswith('"', at):
             run = CHARACTERS.match(self.text, at)
             if run:
                 part, end = run.group(), run.end()

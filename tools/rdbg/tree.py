@@ -6,7 +6,7 @@ with the places of its own lines, so that whoever looks for faults needs to know
 import bisect
 import dataclasses
 import re
-from typing import Any, Iterator, List, NamedTuple, Optional, Sequence, Tuple, Union
+from typing import Iterator, List, NamedTuple, Optional, Sequence, Tuple, Union
 
 from rdbg.digits import natural
 
@@ -32,28 +32,6 @@ class Lines:
         """The place of a character."""
         line = bisect.bisect_right(self._begins, at)
         return Place(line, at - self._begins[line - 1] + 1)
-
-
-class Places(Sequence[Place]):
-    """The places of the characters of a text that stands on one line."""
-
-    def __init__(self, line: int, columns: Sequence[int]) -> None:
-        self._line, self._columns = line, columns
-
-    def __len__(self) -> int:
-        return len(self._columns)
-
-    def __getitem__(self, index: Any) -> Any:
-        found = self._columns[index]
-        if isinstance(found, int):
-            return Place(self._line, found)
-        return Places(self._line, found)
-
-    def __eq__(self, other: object) -> bool:
-        return isinstance(other, (Places, tuple)) and tuple(self) == tuple(other)
-
-    def __hash__(self) -> int:
-        return hash(tuple(self))
 
 
 @dataclasses.dataclass(frozen=True)
@@ -104,20 +82,21 @@ class Part:
 
 @dataclasses.dataclass(frozen=True)
 class Node:
-    """A value and its place. Of a text, `places` are those of its characters, where they are known.
-    `written` is what stands there where it differs, as an instruction with a label, and `spelled`
-    each of its words; `part` is given where the line isn't the instruction itself."""
+    """A value and its place. Of a text, `columns` are those of its characters in its line, if they
+    are known. `written` is what stands there where it differs, as an instruction with a label, and
+    `spelled` each of its words; `part` is given where the line isn't the instruction itself."""
 
     value: Value
     place: Place
-    places: Sequence[Place] = ()
+    columns: Sequence[int] = ()
     written: Optional[str] = None
     spelled: Tuple[str, ...] = ()
     part: Optional[Part] = None
 
     def place_of(self, index: int) -> Place:
         """The place of a character of a text, or of the text where that isn't known."""
-        return self.places[index] if index < len(self.places) else self.place
+        known = self.columns[index : index + 1]
+        return Place(self.place.line, known[0]) if known else self.place
 
     def words(self) -> Iterator[Tuple[str, Place]]:
         """The words of a text, separated by spaces, each with its place."""

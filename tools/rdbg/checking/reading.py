@@ -256,9 +256,7 @@ class Reader:
             message = f"{self.form.text}: {said} can't be its {operand.noun} ({rule})"
             self.fault(message + (f"; {meant}" if meant else ""), operand.place, operand)
         elif symbol in NAMED and word not in self.scope.names.get(symbol, ()):
-            self.faults.append(
-                InstructionFault(NAME, self.nobody(symbol, word), operand.place, symbol, word)
-            )
+            self.fault(self.nobody(symbol, word), operand.place, operand, NAME)
 
     def said(self, operand: Operand) -> str:
         """A word as it is written, with its number where it is written by a name."""
@@ -290,7 +288,9 @@ class Reader:
         few = ", ".join(names[:FEW]) + (", .." if len(names) > FEW else "")
         return f"{said}; there is {few}" if len(names) == 1 else f"{said}; there are {few}"
 
-    def fault(self, message: str, place: Place, operand: Optional[Operand] = None) -> None:
-        """Keeps a fault of form."""
+    def fault(
+        self, message: str, place: Place, operand: Optional[Operand] = None, kind: str = INSTR
+    ) -> None:
+        """Keeps a fault."""
         symbol, word = (operand.symbol, operand.word) if operand else ("", "")
-        self.faults.append(InstructionFault(INSTR, message, place, symbol, word))
+        self.faults.append(InstructionFault(kind, message, place, symbol, word))

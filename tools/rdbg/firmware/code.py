@@ -14,7 +14,7 @@ from rdbg.firmware.semaphores import Semaphore, why_not
 from rdbg.firmware.tokens import Refusal, Stop, Token, shown, written
 from rdbg.instructions import FORM_OF, WRITES_R1
 from rdbg.operands import PATTERN_OF
-from rdbg.tree import Fault, Member, Node, Object, Part, Place, Places
+from rdbg.tree import Fault, Member, Node, Object, Part, Place
 from rdbg.wording import quoted
 
 # The registers that a line can have, the first one first.
@@ -117,7 +117,7 @@ class Draft:
             columns += [*part.columns, part.columns[-1]]
         place, text = self.tokens[0].place, " ".join(part.text for part in self.parts)
         spelled = tuple(part.spelled or part.text for part in self.parts)
-        return Node(text, place, Places(place.line, columns[:-1]), written(self.tokens), spelled)
+        return Node(text, place, columns[:-1], written(self.tokens), spelled)
 
 
 def label_out_of_place(part: Operand, line: int) -> Optional[Token]:
@@ -169,9 +169,9 @@ class Several:
         free = {"spare": spare.register, "entry": spare.entry, "ending": spare.ending}
         for index, text in enumerate(self.texts):
             made = text.format(own=own, target=self.target, here=here, **free)
-            places = Places(place.line, [place.column] * len(made))
             part = Part(index, self.length, self.note, self.cost)
-            yield Node(made, place, places, written(self.tokens), (), part)
+            columns = [place.column] * len(made)
+            yield Node(made, place, columns, written(self.tokens), (), part)
 
 
 Line = Union[Draft, Several]
@@ -387,8 +387,5 @@ class Thing:
 
 def renamed(member: Member, name: str) -> Member:
     """The name of a thing, or of one of several tasks."""
-    node = member.node
-    if node.value == name:
-        return member
-    columns = [node.place.column] * len(name)
-    return member._replace(node=Node(name, node.place, Places(node.place.line, columns)))
+    is_own, place = member.node.value == name, member.node.place
+    return member if is_own else member._replace(node=Node(name, place, [place.column] * len(name)))

@@ -4,7 +4,7 @@ import re
 from typing import Dict, Iterable, Iterator, List, Mapping, NamedTuple, Optional, Sequence, Set
 
 from rdbg.checking.slips import slip
-from rdbg.firmware.tokens import GRAMMAR, Refusal, Stop, Token, shown
+from rdbg.firmware.tokens import Refusal, Stop, Token, shown
 from rdbg.operands import Scope
 from rdbg.tree import Place
 from rdbg.wording import nearest
@@ -105,9 +105,9 @@ class Kept(NamedTuple):
     constants: Constants
     refusals: List[Refusal]
 
-    def refuse(self, place: Place, message: str, kind: str = GRAMMAR) -> None:
+    def refuse(self, place: Place, message: str) -> None:
         """Keeps what is refused, where the reading goes on."""
-        self.refusals.append(Refusal(place, message, kind))
+        self.refusals.append(Refusal(place, message))
 
     @contextlib.contextmanager
     def keeping(self) -> Iterator[None]:

@@ -6,7 +6,7 @@ from rdbg.digits import is_digits
 from rdbg.firmware.numbers import NAME, Kept, Numbers
 from rdbg.firmware.tokens import Refusal, Token, shown
 from rdbg.shapes import FILE, Key, Shape
-from rdbg.tree import Member, Node, Number, Places
+from rdbg.tree import Member, Node, Number
 
 # By the first word of a line: the keys of a file that are numbers, and those that are lists.
 SETTINGS: Dict[str, Key] = {key.name: key for key in FILE.keys if key.of is None}
@@ -36,7 +36,7 @@ def next_number(reader: Numbers) -> Node:
 
 def name_node(token: Token) -> Node:
     """A name."""
-    return Node(token.text, token.place, Places(token.place.line, token.columns()))
+    return Node(token.text, token.place, token.columns())
 
 
 def queue(name: Node, length: Node, item: Node) -> Tuple[Member, ...]:
