@@ -1,17 +1,6 @@
 """An application as data: what an accepted file says, each thing with its place in the text."""
 import dataclasses
-from typing import (
-    Callable,
-    Iterator,
-    List,
-    Mapping,
-    NamedTuple,
-    Optional,
-    Sequence,
-    Tuple,
-    TypeVar,
-    Union,
-)
+from typing import Callable, List, Mapping, NamedTuple, Optional, Sequence, Tuple, TypeVar, Union
 
 from rdbg import kinds
 from rdbg.tree import Fault, Node, Number, Object, Part, Place, objects
@@ -186,10 +175,9 @@ class Application:
         found = ((len(self.of(it)), it.noun) for it in (kinds.TASK, *kinds.OBJECTS))
         return [counted(count, noun) for count, noun in found if count]
 
-    def objects(self) -> Iterator[Tuple[str, str]]:
+    def objects(self) -> List[Tuple[str, str]]:
         """Each object's kind, as `show` names it, and its name, in the order of the file."""
-        for kind in kinds.OBJECTS:
-            yield from ((kind.word, it.name) for it in self.of(kind))
+        return [(kind.word, it.name) for kind in kinds.OBJECTS for it in self.of(kind)]
 
 
 def number(owner: Object, key: str, absent: int = 0) -> int:

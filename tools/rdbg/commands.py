@@ -4,23 +4,11 @@ A form is written as in docs/COMMANDS.md: words in small letters stand as they a
 the symbols of what can stand there."""
 import dataclasses
 import itertools
-import re
-from typing import (
-    Callable,
-    Dict,
-    FrozenSet,
-    Iterator,
-    List,
-    NamedTuple,
-    Optional,
-    Sequence,
-    Tuple,
-    Type,
-)
+from typing import Callable, Dict, FrozenSet, Iterator, List, NamedTuple, Optional, Sequence, Tuple
 
 from rdbg import kinds, record, replies
 from rdbg.digits import number
-from rdbg.operands import MOST_NUMBER as MOST_NUMBER, is_name as is_name
+from rdbg.operands import MOST_NUMBER as MOST_NUMBER, is_bytes as is_bytes, is_name as is_name
 from rdbg.wording import with_article
 
 MOST_COUNT = 1_000_000
@@ -35,7 +23,7 @@ CONDITION = "COND"
 TARGET, WHEEL, WATCHES = "target", "wheel", "watches"
 ALL: FrozenSet[str] = frozenset((TARGET, WHEEL, WATCHES))
 # What is answered to a line that changes each.
-ANSWERS: Dict[str, Type[object]] = {
+ANSWERS: Dict[str, type] = {
     TARGET: replies.Moved,
     WHEEL: replies.WheelDone,
     WATCHES: replies.WatchDone,
@@ -50,11 +38,6 @@ def is_number(word: str, most: int = MOST_NUMBER) -> bool:
 def is_count(word: str) -> bool:
     """Whether a word is a COUNT."""
     return number(word, MOST_COUNT, 1) is not None
-
-
-def is_bytes(word: str) -> bool:
-    """Whether a word is 1 to 256 bytes, or none."""
-    return word == "-" or re.fullmatch(r"([0-9A-Fa-f]{2}){1,256}", word) is not None
 
 
 def is_watch(word: str) -> bool:
@@ -102,7 +85,7 @@ class Form(NamedTuple):
 
     text: str
     does: str
-    answers: Optional[Type[object]] = None
+    answers: Optional[type] = None
     moves: bool = False
     changes: FrozenSet[str] = frozenset()
     hangs_on: FrozenSet[str] = ALL
@@ -133,7 +116,7 @@ def change(what: str, text: str, does: str) -> Form:
     return Form(text, does, ANSWERS[what], False, frozenset((what,)))
 
 
-def look(text: str, does: str, answers: Type[object], *hangs_on: str) -> Form:
+def look(text: str, does: str, answers: type, *hangs_on: str) -> Form:
     """A form of lines that change nothing; their answer hangs on the target, or on what is said."""
     return Form(text, does, answers, False, frozenset(), frozenset(hangs_on or (TARGET,)))
 

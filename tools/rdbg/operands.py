@@ -101,3 +101,8 @@ def are(entries: int) -> str:
 def is_name(text: str) -> bool:
     """Whether a text is a name."""
     return re.fullmatch(NAME, text) is not None
+
+
+def is_bytes(text: str) -> bool:
+    """Whether a text is 1 to 256 bytes, or none."""
+    return re.fullmatch(BYTES, text) is not None

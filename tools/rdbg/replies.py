@@ -295,10 +295,6 @@ class Form(NamedTuple):
     make: Callable[..., Reply]
     fields: Tuple[Callable[[str], Any], ...] = ()
 
-    def pattern(self) -> "re.Pattern[str]":
-        """What a line of this form looks like."""
-        return re.compile(re.sub(r"[A-Z]+", r"([^ /]+)", self.text))
-
 
 NAMES = listed(name)
 SOMEBODY = or_nobody(name)
@@ -354,7 +350,8 @@ REFUSALS: Dict[str, bool] = {
 # The forms by their first word, each with what its lines look like.
 BY_WORD: Dict[str, List[Tuple[Form, "re.Pattern[str]"]]] = {}
 for _form in FORMS:
-    BY_WORD.setdefault(_form.text.split(" ")[0], []).append((_form, _form.pattern()))
+    _pattern = re.compile(re.sub(r"[A-Z]+", r"([^ /]+)", _form.text))
+    BY_WORD.setdefault(_form.text.split(" ")[0], []).append((_form, _pattern))
 
 
 def refusal(line: str) -> Refused:

@@ -108,17 +108,14 @@ def passed(given: argparse.Namespace) -> List[Tuple[str, str]]:
 def check_words(given: argparse.Namespace, goal: Goal) -> None:
     """Raises `Failure` where words can't stand together."""
     options_given = (("--surprises", given.surprises is not None), ("--smallest", given.smallest))
-    for name, is_given in options_given:
-        if given.exhaustive and is_given:
-            raise Failure(f"--exhaustive goes through every order; it takes no {name}", CANT)
+    for name in (name for name, is_given in options_given if is_given and given.exhaustive):
+        raise Failure(f"--exhaustive goes through every order; it takes no {name}", CANT)
     if given.smallest and given.all is not None:
         raise Failure("--smallest is of one find; it takes no --all", CANT)
-    if goal.compares:
-        if given.smallest:
-            raise Failure("--smallest is of goals that are met, and none of differs", CANT)
-        for name, _ in passed(given):
-            if name in OF_ONE_GOAL:
-                raise Failure(f"{name} is of goals that are met, and none of differs", CANT)
+    smallest = ["--smallest"] if given.smallest else []
+    names = [*smallest, *(name for name, _ in passed(given) if name in OF_ONE_GOAL)]
+    if goal.compares and names:
+        raise Failure(f"{names[0]} is of goals that are met, and none of differs", CANT)
 
 
 def empty(path: Optional[str], source: str) -> None:
@@ -170,8 +167,7 @@ class Hunt:
         elif given.smallest:
             self.finds = search.smallest()
         elif given.exhaustive:
-            found = search.shortest(self.goal.asked)
-            self.finds = [] if found is None else [found]
+            self.finds = [*filter(None, [search.shortest(self.goal.asked)])]
         else:
             self.finds = search.first()
 

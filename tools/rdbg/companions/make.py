@@ -81,9 +81,8 @@ def main(words: Sequence[str]) -> int:
 def check_form(path: str, is_c: bool) -> None:
     """Raises `Failure` where a file is, by its name, not what lines are taken from."""
     if path.endswith(JSON):
-        raise Failure(
-            f"{path} is JSON already; its text in lines is made by: rdbg make --back {path}", 2
-        )
+        back = f"its text in lines is made by: rdbg make --back {path}"
+        raise Failure(f"{path} is JSON already; {back}", 2)
     if path.endswith(C) and not is_c:
         raise Failure(f"{path} is C: its lines are taken by: rdbg make --from-c {path}", 2)
     ending, what = (C, "C") if is_c else (TEXT, "a text in lines")

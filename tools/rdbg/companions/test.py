@@ -49,10 +49,10 @@ def checked(path: str) -> Tuple[str, List[Case]]:
         folder = os.path.dirname(file)
         pairs = ((it, wrong_with(it, folder)) for it in found)
         said = [f"{file}:{it.place}: {wrong}" for it, wrong in pairs if wrong]
-    if not said:
-        return file, found
-    print(*said, sep="\n", file=sys.stderr)
-    raise Failure(f"{file} has {counted(len(said), 'fault')}; nothing is tried", NONE)
+    if said:
+        print(*said, sep="\n", file=sys.stderr)
+        raise Failure(f"{file} has {counted(len(said), 'fault')}; nothing is tried", NONE)
+    return file, found
 
 
 class Shown:

@@ -68,9 +68,8 @@ def check_words(given: argparse.Namespace) -> None:
     if given.ask is not None:
         check_question(given)
     if given.note == "-" and given.port is None and given.commands in (None, "-"):
-        raise Failure(
-            "--note -: standard input is COMMANDS already; name a file for one of them", 2
-        )
+        why = "standard input is COMMANDS already; name a file for one of them"
+        raise Failure(f"--note -: {why}", 2)
     if given.events and given.page:
         raise Failure("--events or --page, one at a time", 2)
     if given.first is not None and given.last is not None and given.first > given.last:

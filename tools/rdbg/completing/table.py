@@ -60,16 +60,14 @@ def of_parser(name: str, parser: argparse.ArgumentParser) -> Word:
 
 def of_help(name: str, text: str) -> Word:
     """A word of a program, by its help."""
-    options = []
-    for short, long, value, said in TOLD.findall(text):
-        if not long.startswith("-"):
-            continue
-        names = tuple(name for name in (short, long) if name)
-        options.append(Option(names, value, said, is_repeated=True))
+    options = tuple(
+        Option(tuple(filter(None, names)), value, said, is_repeated=True)
+        for *names, value, said in TOLD.findall(text)
+    )
     usage = next(line for line in text.split("\n") if line.startswith("Usage:"))
     usage = re.sub(r"--?[\w-]+ <?\w+>?", "", usage)
     has_files = any(it in FILES for it in PLACED.findall(usage))
-    return Word(name, text.split("\n")[0], tuple(options), has_files)
+    return Word(name, text.split("\n")[0], options, has_files)
 
 
 def companion(name: str) -> Optional[Word]:
@@ -84,9 +82,8 @@ def words() -> List[Word]:
     known = {it.name for it in found}
     found += filter(None, (companion(name) for name in main.names() if name not in known))
     names = tuple(sorted(it.name for it in found))
-    return sorted(
-        [*found, Word("help", "says more of a word", choices=names)], key=lambda it: it.name
-    )
+    found.append(Word("help", "says more of a word", choices=names))
+    return sorted(found, key=lambda it: it.name)
 
 
 def own() -> Iterator[Option]:

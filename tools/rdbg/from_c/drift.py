@@ -1,4 +1,5 @@
 """Where the C of a firmware and the model in its comments have gone apart."""
+import itertools
 import pathlib
 import re
 from typing import Dict, Iterator, List, Mapping, NamedTuple, Optional, Sequence, Set, Tuple
@@ -211,9 +212,8 @@ class Function:
 
     def _reach(self, it: Beside) -> range:
         """The rows in which what stands is beside a call."""
-        begin = it.begin
-        while begin - 1 in self._source.alone:
-            begin -= 1
+        above = itertools.count(it.begin, -1)
+        begin = next(row for row in above if row - 1 not in self._source.alone)
         return range(begin, it.call.end + 1)
 
     def _naming(self, it: Beside) -> List[Said]:
@@ -301,12 +301,10 @@ def is_of_task(block: Block, lines: Sequence[Line], before: int) -> bool:
 def differing_consts(lines: Sequence[Line], model: Model) -> Iterator[Fault]:
     """Consts of the model that are other numbers in the C."""
     for line in lines:
-        words = line.text.replace(",", " ").split()
-        if words and words[0] in CONSTS and len(words) > 1:
-            name = words[1]
-            known, own = model.known.get(name), model.of_c.get(name)
-            if known is not None and own is not None and known != own:
-                yield fault(line.place, f"const {name} is {known}, and {own} in the C")
+        word, name, *_ = [*line.text.replace(",", " ").split(), "", ""]
+        known, own = model.known.get(name), model.of_c.get(name)
+        if word in CONSTS and None not in (known, own) and known != own:
+            yield fault(line.place, f"const {name} is {known}, and {own} in the C")
 
 
 def drifts(path: str, text: str, names: Set[str], known: Mapping[str, int]) -> List[Fault]:
