@@ -1,7 +1,8 @@
 """Consts that are given beside a text in lines: `-D NAME=N` on a command line."""
 import argparse
-from typing import List, Tuple
+from typing import Tuple
 
+from rdbg.failure import turned
 from rdbg.firmware.numbers import NAME, Constants, Kept, Numbers
 from rdbg.firmware.tokens import Refusal, Scanner
 from rdbg.options import Parser
@@ -15,14 +16,12 @@ def definition(text: str) -> Tuple[str, int]:
     name, sign, number = text.partition("=")
     if not sign or not NAME.fullmatch(name):
         raise argparse.ArgumentTypeError(f"NAME=N, as JOBS=3, and not '{shown(text)}'")
-    refusals: List[Refusal] = []
-    try:
-        reader = Numbers(next(Scanner(number, refusals).lines()), Kept(Constants(), refusals))
+    kept = Kept(Constants(), [])
+    reader = Numbers(next(Scanner(number, kept.refusals).lines()), kept)
+    with turned(argparse.ArgumentTypeError, Refusal, of=name):
         value = reader.number() if reader.tokens else 0
-        if refusals or reader.next() is not None or not reader.tokens:
-            raise argparse.ArgumentTypeError(f"{name}: '{shown(number)}' is no number")
-    except Refusal as refusal:
-        raise argparse.ArgumentTypeError(f"{name}: {refusal.message}") from None
+    if kept.refusals or reader.next() is not None or not reader.tokens:
+        raise argparse.ArgumentTypeError(f"{name}: '{shown(number)}' is no number")
     return name, value
 
 

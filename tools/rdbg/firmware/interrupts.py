@@ -176,19 +176,18 @@ class Names:
 
     def faults(self, it: Read, above: Sequence[Read]) -> Iterator[Refusal]:
         """What is wrong with the names of an interrupt, where these stand above it."""
-        names = [other.name.text for other in above]
-        if it.name.text in names:
-            line = above[names.index(it.name.text)].name.place.line
-            message = f"interrupt {it.name.text} stands in line {line} already"
-            yield Refusal(it.name.place, message)
-        if it.after is not None and it.after.text not in (*names, *self.refused):
-            message = f"no interrupt {shown(it.after.text)} stands above"
-            yield Refusal(it.after.place, message + near_to(it.after.text, names))
-        elif it.after is not None and it.after.text in names:
-            other = above[names.index(it.after.text)]
-            if other.times == ANY and other.after is None:
-                message = f"{it.after.text} comes any number of times: what comes after it needs"
-                yield Refusal(it.after.place, f"{message} times N in the line of {it.after.text}")
+        named = {other.name.text: other for other in reversed(above)}
+        if it.name.text in named:
+            line = named[it.name.text].name.place.line
+            yield Refusal(it.name.place, f"interrupt {it.name.text} stands in line {line} already")
+        after = it.after.text if it.after else ""
+        other = named.get(after)
+        if it.after is not None and other is None and after not in self.refused:
+            message = f"no interrupt {shown(after)} stands above{near_to(after, named)}"
+            yield Refusal(it.after.place, message)
+        if it.after is not None and other and other.times == ANY and other.after is None:
+            message = f"{after} comes any number of times: what comes after it needs times N"
+            yield Refusal(it.after.place, f"{message} in the line of {after}")
         for call in it.calls:
             yield from self._of_call(call)
 
