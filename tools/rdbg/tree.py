@@ -11,8 +11,7 @@ from typing import Iterator, List, NamedTuple, Optional, Sequence, Tuple, Union
 from rdbg.digits import natural
 
 
-@dataclasses.dataclass(frozen=True, order=True)
-class Place:
+class Place(NamedTuple):
     """A line and a column of a text, both counted from 1, the column in characters."""
 
     line: int

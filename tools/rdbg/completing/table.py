@@ -22,11 +22,6 @@ class Option(NamedTuple):
     choices: Tuple[str, ...] = ()
     is_repeated: bool = False
 
-    @property
-    def is_file(self) -> bool:
-        """Whether a file stands behind it."""
-        return self.value in FILES
-
 
 class Word(NamedTuple):
     """A word behind `rdbg`: what it is for, its options, and what may stand behind it."""

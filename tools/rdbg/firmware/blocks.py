@@ -5,7 +5,7 @@ A block begins with `loop`, `while TEST` or `if TEST`, and ends with `end`. Wher
 import dataclasses
 from typing import TYPE_CHECKING, Callable, Dict, List, Optional, Sequence, Tuple
 
-from rdbg.firmware.branches import Test, Tests
+from rdbg.firmware.branches import Test, Tests, split
 from rdbg.firmware.tokens import Refusal, Token, shown
 
 if TYPE_CHECKING:
@@ -153,9 +153,8 @@ class Blocks:
         """The test behind the first word of a line, and what stands behind it."""
         if len(tokens) < 2:
             raise Refusal(tokens[0].place, f"{FORMS[tokens[0].text]}: there is no test")
-        tests = Tests(tokens[1:], self._script.kept)
-        found = tests.test()
-        return found, tests.numbers.tokens[tests.numbers.at :]
+        tests = Tests(split(tokens[1:]), self._script.kept)
+        return tests.test(), tests.tokens[tests.at :]
 
     def _of_loop(self, word: Token) -> Mark:
         """Where `break` or `continue` goes on."""

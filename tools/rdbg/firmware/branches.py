@@ -8,7 +8,7 @@ task itself, `{target}` for where they jump, and `{here[N]}` for the Nth of them
 import re
 from typing import List, NamedTuple, Optional, Sequence, Tuple
 
-from rdbg.firmware.numbers import LARGEST, Kept, Numbers
+from rdbg.firmware.numbers import LARGEST, Numbers
 from rdbg.firmware.tokens import Refusal, Token, shown
 from rdbg.operands import REGISTER
 from rdbg.wording import counted
@@ -91,47 +91,40 @@ def split(tokens: Sequence[Token]) -> List[Token]:
     return found
 
 
-class Tests:
-    """Reads a test from the tokens of a line. `numbers` stands where it goes on."""
-
-    def __init__(self, tokens: Sequence[Token], kept: Kept) -> None:
-        self.numbers = Numbers(split(tokens), kept)
+class Tests(Numbers):
+    """Reads a test from the tokens of a line, which are parted at its signs."""
 
     def test(self, depth: int = 0) -> Test:
         """The next test. Raises `Refusal` where there is none."""
         turns = 0
-        while self._is_any(NOT):
+        while self.is_next(*NOT):
             turns += 1
         if turns:
             found = self._plain(depth)
             self._no_more(f"write !(..) where all of it is turned round: ! is of {found.register}")
         else:
-            found = self._compared(self._plain(depth), self.numbers.at)
+            found = self._compared(self._plain(depth), self.at)
         return found.turned() if turns % 2 else found
-
-    def _is_any(self, signs: Sequence[str]) -> bool:
-        """Whether one of these signs comes next; then it is passed."""
-        return any(self.numbers.is_next(sign) for sign in signs)
 
     def _last(self) -> Token:
         """The token that was passed last, or the first."""
-        return self.numbers.tokens[max(0, self.numbers.at - 1)]
+        return self.tokens[max(0, self.at - 1)]
 
     def _no_more(self, why: str, signs: Sequence[str] = BEHIND) -> None:
         """Refuses a sign behind what was read."""
-        token = self.numbers.next()
+        token = self.next()
         if token is not None and token.text in signs:
             raise Refusal(token.place, why)
 
     def _plain(self, depth: int) -> Test:
         """A register, or a test in parentheses."""
-        token = self.numbers.next()
+        token = self.next()
         if token is None:
             raise Refusal(self._last().place, f"a register is missing: {ONE_OF}")
-        self.numbers.at += 1
+        self.at += 1
         if token.text == "(" and depth < DEEPEST:
             found = self.test(depth + 1)
-            if not self.numbers.is_next(")"):
+            if not self.is_next(")"):
                 raise Refusal(token.place, "this ( isn't closed")
             return found
         if not re.fullmatch(REGISTER, token.text):
@@ -141,16 +134,16 @@ class Tests:
     def _compared(self, left: Test, behind: int) -> Test:
         """A test with what it is compared with, or its bits, if these come next."""
         is_register = left == Test(left.register, 0, is_turned=True)
-        is_closed = self.numbers.tokens[behind - 1].text == ")"
-        if is_register and not is_closed and self._is_any(BITS):
+        is_closed = self.tokens[behind - 1].text == ")"
+        if is_register and not is_closed and self.is_next(*BITS):
             left = left._replace(mask=self._number(BITS[0]))
             if not left.mask:
                 raise Refusal(self._last().place, f"no bit of {left.register} is looked at")
             self._no_more("in C it would be of what stands on both its sides; write (r0 & N) = N")
             return left
-        if self._is_any(EQUAL):
+        if self.is_next(*EQUAL):
             found = self._equal(left)
-        elif self._is_any(UNEQUAL):
+        elif self.is_next(*UNEQUAL):
             found = self._equal(left).turned()
         else:
             self._no_order()
@@ -161,7 +154,7 @@ class Tests:
 
     def _equal(self, left: Test) -> Test:
         """Whether a register or its bits are the next number."""
-        token = self.numbers.next()
+        token = self.next()
         number = self._number("=")
         if (left.number, left.is_turned) != (0, True):
             if not number:
@@ -173,13 +166,13 @@ class Tests:
 
     def _number(self, sign: str) -> int:
         """The number behind a sign. A `|` behind it would join more in C, and is refused."""
-        token = self.numbers.next()
+        token = self.next()
         if token is not None and re.fullmatch(REGISTER, token.text):
             message = "no instruction compares two registers, or looks at bits that one has"
             raise Refusal(token.place, message)
-        value = self.numbers.below_0()
-        value = self.numbers.shifted() if value is None else value
-        behind = self.numbers.next()
+        value = self.below_0()
+        value = self.shifted() if value is None else value
+        behind = self.next()
         if token is not None and behind is not None and behind.text == "|":
             what = f"(.. {sign} {shown(token.text)}) | .."
             message = f"in C this is {what}: write {sign} ({shown(token.text)} | ..)"

@@ -165,14 +165,13 @@ def why_no_call(word: str) -> str:
     return f"{shown(word)} is no call of an interrupt{near_to(word, (NOTIFY, SEND, GIVE))}: {CALLS}"
 
 
-class Names:
+class Names(NamedTuple):
     """What there is that interrupts can name; of some interrupts the line is refused."""
 
-    def __init__(
-        self, tasks: Sequence[str], queues: Sequence[str], entries: int, refused: Sequence[str]
-    ) -> None:
-        self.tasks, self.queues, self.entries = tasks, queues, entries
-        self.refused = refused
+    tasks: Sequence[str]
+    queues: Sequence[str]
+    entries: int
+    refused: Sequence[str]
 
     def faults(self, it: Read, above: Sequence[Read]) -> Iterator[Refusal]:
         """What is wrong with the names of an interrupt, where these stand above it."""

@@ -138,13 +138,12 @@ class Numbers:
             self.at += 1
             yield self.tokens[self.at - 1]
 
-    def is_next(self, sign: str) -> bool:
-        """Whether this sign comes next; then it is passed."""
+    def is_next(self, *signs: str) -> bool:
+        """Whether one of these signs comes next; then it is passed."""
         token = self.next()
-        if token is None or token.text != sign:
-            return False
-        self.at += 1
-        return True
+        is_there = token is not None and token.text in signs
+        self.at += is_there
+        return is_there
 
     def end(self, form: str = "") -> None:
         """Refuses what stands behind the end of a line, which is written so."""

@@ -85,13 +85,10 @@ class ObjectLine:
             return token
         at = token.place_of(found.start(2))
         known = len(self._kept.refusals)
-        self.count = Numbers([Token(found[2], at)], self._kept).number()
-        if len(self._kept.refusals) > known:
-            self.count = 1
-        elif not 1 <= self.count <= MOST_TASKS:
-            message = f"{self.count} tasks can't have one script: 1 to {MOST_TASKS} can"
-            self._kept.refuse(at, message)
-            self.count = 1
+        count = Numbers([Token(found[2], at)], self._kept).number()
+        if len(self._kept.refusals) == known and not 1 <= count <= MOST_TASKS:
+            self._kept.refuse(at, f"{count} tasks can't have one script: 1 to {MOST_TASKS} can")
+        self.count = count if len(self._kept.refusals) == known else 1
         return token._replace(text=found[1])
 
     def _key(self, token: Token) -> None:

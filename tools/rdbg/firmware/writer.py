@@ -101,11 +101,8 @@ def summand(word: str) -> str:
 
 # How the operands are written that can be written in other ways than in the JSON.
 WRITERS: Dict[str, Callable[[str], str]] = {
-    "N": decimal,
-    "V": decimal,
+    **dict.fromkeys(("N", "V", "I", "ROOM"), decimal),
     "T": lambda word: FOREVER if word == "max" else decimal(word),
-    "I": decimal,
-    "ROOM": decimal,
     "L": label,
     "HEX": lambda word: word if word == "-" else f"0x{word}",
 }
