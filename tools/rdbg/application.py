@@ -127,6 +127,13 @@ class Text:
     interrupts: Tuple[Interrupt, ...] = ()
 
 
+class Beside(NamedTuple):
+    """What a text names besides tasks and objects: numbers, and of each task instructions."""
+
+    constants: Mapping[str, int]
+    labels: Mapping[str, Mapping[str, int]]
+
+
 # Whatever an application has that has a name.
 Named = Union[Task, Queue, QueueSet, Stream, Messages, Group]
 Made = TypeVar("Made")

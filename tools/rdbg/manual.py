@@ -2,16 +2,10 @@
 import textwrap
 from typing import NamedTuple, Sequence, Tuple
 
+from rdbg.main import Entry
 from rdbg.wording import rows
 
 WIDTH = 79
-
-
-class Entry(NamedTuple):
-    """Words that may be written, and what they do."""
-
-    words: str
-    text: str
 
 
 class Section(NamedTuple):

@@ -3,20 +3,16 @@ import contextlib
 import dataclasses
 import pathlib
 import sys
-from typing import TYPE_CHECKING, Iterator, Mapping, Optional, Tuple
+from typing import Iterator, Mapping, Optional, Tuple
 
 from rdbg import own_file
-from rdbg.application import Application, Instruction, Task, Text, application
+from rdbg.application import Application, Beside, Instruction, Task, Text, application
 from rdbg.checking.faults import faults_of
 from rdbg.failure import Failure, trying
 from rdbg.from_c.lines import ENDING, code_below, in_lines
 from rdbg.json_layout import MOST_BYTES, json_of
 from rdbg.tree import Fault, Node, Object
 from rdbg.wording import counted
-
-if TYPE_CHECKING:
-    from rdbg.firmware.reader import Named
-
 
 # A text in lines, or a C source in whose comments the lines stand.
 LINES = (".fw", ENDING)
@@ -51,7 +47,7 @@ class Source:
         named = f" as {kind}" if kind[1:2].isdigit() else ""
         return f"is refused{named}: {count}, as `./rdbg check {self.path}` says"
 
-    def named(self) -> Optional["Named"]:
+    def named(self) -> Optional[Beside]:
         """What an accepted text in lines names besides tasks and objects; none of a JSON."""
         if not self.path.endswith(LINES):
             return None

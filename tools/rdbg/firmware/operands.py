@@ -2,7 +2,7 @@
 import re
 from typing import Callable, Dict, List, NamedTuple, Optional, Sequence
 
-from rdbg.firmware.numbers import FOREVER, LARGEST, NAME, NOTHING_NAMED, NUMBER, Numbers
+from rdbg.firmware.numbers import FOREVER, NAME, NOTHING_NAMED, NUMBER, Numbers
 from rdbg.firmware.tokens import Refusal, Token, shown, written
 from rdbg.operands import NAMED, REGISTER
 from rdbg.checking.slips import CONSTANTS, PAIRS, as_bytes, is_binary, slip

@@ -4,9 +4,9 @@ docs/FORMATS.md has the grammar. What it refuses is a fault of its own; what els
 found in the tree, as in that of a JSON (`rdbg.checking.faults`)."""
 import itertools
 import re
-from typing import Dict, List, Mapping, NamedTuple, Optional, Sequence, Set, Tuple
+from typing import Dict, List, Mapping, Optional, Sequence, Set, Tuple
 
-from rdbg.application import Interrupt, Text
+from rdbg.application import Beside, Interrupt, Text
 from rdbg.checking.faults import faults_of
 from rdbg.failure import Failure
 from rdbg.firmware import blocks, interrupts, meant, semaphores, waits
@@ -412,19 +412,12 @@ class Reader:
         return Node(Object(tuple(members)), TOP)
 
 
-class Named(NamedTuple):
-    """What a text names besides tasks and objects: numbers, and of each task instructions."""
-
-    constants: Mapping[str, int]
-    labels: Mapping[str, Mapping[str, int]]
-
-
-def named(text: str, given: Mapping[str, int]) -> Named:
+def named(text: str, given: Mapping[str, int]) -> Beside:
     """What an accepted text names, whose consts of these names are these numbers."""
     reader = Reader(given)
     reader.read(text)
     labels = {name: script.labels() for it, script in reader.scripts() for name in it.names()}
-    return Named(reader.constants.values, labels)
+    return Beside(reader.constants.values, labels)
 
 
 def read(content: bytes, given: Mapping[str, int]) -> Text:
