@@ -234,12 +234,9 @@ def stepped(before: Look, after: Look, core: int, task: str, script: Script) -> 
     was, now = before.tasks.get(task), after.tasks.get(task)
     text = script(task, was.pc) if was else None
     word = text.split()[0] if text else ""
-    answer: Optional[int] = None
-    effects: List[Effect] = []
-    if was and now:
-        if word and word not in LOCAL and now.phase.word == "run":
-            answer = now.registers[0]
-        effects += own(was, now, word or "set")
+    is_answered = word and word not in LOCAL and was and now and now.phase.word == "run"
+    answer = now.registers[0] if now and is_answered else None
+    effects = [*own(was, now, word or "set")] if was and now else []
     effects += holdings(before, after)
     if word in NOTIFICATIONS:
         effects += notes(before, after)

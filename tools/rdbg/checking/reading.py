@@ -14,62 +14,6 @@ from rdbg.wording import nearest, shown, with_article
 FEW = 3
 
 
-class Layout:
-    """Lays words against the kinds of operands, given by their symbols; both by their indices."""
-
-    def __init__(self, symbols: Sequence[str], words: Sequence[str], scope: Scope) -> None:
-        self.symbols, self.words, self.scope = symbols, words, scope
-
-    def fits(self, operand: int, word: int) -> bool:
-        """Whether a word has the form of an operand."""
-        return self.scope.fits(self.symbols[operand], self.words[word])
-
-    def weight(self, operand: int, word: int) -> int:
-        """How well a word fits an operand; a name that nothing has fits less than others."""
-        symbol, text = self.symbols[operand], self.words[word]
-        is_there = symbol not in NAMED or text in self.scope.names.get(symbol, ())
-        if self.fits(operand, word):
-            return 2 + 2 * is_there
-        # (`pdTRUE` is meant to be `clear`; a variable is no operand)
-        return -1 if text.startswith("&") else int(text.lower() in CONSTANTS.get(symbol, ()))
-
-    def unfit(self) -> List[Tuple[int, int]]:
-        """The operands, each with its word, that haven't the form of the operand."""
-        return [pair for pair in self.choice().items() if not self.fits(*pair)]
-
-    def in_order(self) -> Optional[Dict[int, int]]:
-        """Which word is which operand, where all are right in another order than they stand in."""
-        operands, words = len(self.symbols), len(self.words)
-        unfit = self.unfit() if words <= operands else []
-        # (one that has the form of its operand, but for a limit, stands where it is meant to)
-        kinds = [PATTERN_OF[self.symbols[at]].fullmatch(self.words[word]) for at, word in unfit]
-        if not unfit or any(kinds):
-            return None
-        fits = [[self.fits(operand, word) for word in range(words)] for operand in range(operands)]
-        orders = itertools.permutations(range(operands), words)
-        fitting = [it for it in orders if all(fits[at][word] for word, at in enumerate(it))]
-        # (the order that moves the fewest words, of which names those that are there are more)
-        best = min(fitting, default=None, key=self.moved)
-        return None if best is None else {at: word for word, at in enumerate(best)}
-
-    def moved(self, order: Sequence[int]) -> Tuple[int, int]:
-        """How far an order is from the one that the words stand in."""
-        weight = sum(self.weight(at, word) for word, at in enumerate(order))
-        if len(order) == len(self.symbols):
-            return -sum(at == word for word, at in enumerate(order)), -weight
-        return sum(one > other for one, other in itertools.combinations(order, 2)), -weight
-
-    def choice(self) -> Dict[int, int]:
-        """Which word is which operand, in their order, so that as many as can be fit."""
-        operands, words = len(self.symbols), len(self.words)
-        few = min(operands, words)
-        if words > operands + FEW:
-            return {at: at for at in range(few)}
-        choices = (itertools.combinations(range(count), few) for count in (operands, words))
-        pairs = (list(zip(*pair)) for pair in itertools.product(*choices))
-        return dict(max(pairs, key=lambda it: sum(self.weight(*each) for each in it)))
-
-
 Word = Tuple[str, Place]
 INSTR, NAME = "L5 Instr", "L4 Name"
 NAME_RULE = "a name is 1 to 16 characters of a to z, 0 to 9 and _, the first a letter"
@@ -180,16 +124,64 @@ class Reader:
     ) -> None:
         self.form, self.scope, self.place = form, scope, node.place
         self.words, self.symbols = words[1:], form.symbols
-        self.layout = Layout(self.symbols, [word for word, _ in self.words], scope)
         is_spelled = len(node.spelled) == len(words)
         self.spelled = node.spelled[1:] if is_spelled else [word for word, _ in self.words]
         self.faults: List[InstructionFault] = []
 
+    def fits(self, operand: int, word: int) -> bool:
+        """Whether a word has the form of an operand."""
+        return self.scope.fits(self.symbols[operand], self.words[word][0])
+
+    def weight(self, operand: int, word: int) -> int:
+        """How well a word fits an operand; a name that nothing has fits less than others."""
+        symbol, text = self.symbols[operand], self.words[word][0]
+        is_there = symbol not in NAMED or text in self.scope.names.get(symbol, ())
+        if self.fits(operand, word):
+            return 2 + 2 * is_there
+        # (`pdTRUE` is meant to be `clear`; a variable is no operand)
+        return -1 if text.startswith("&") else int(text.lower() in CONSTANTS.get(symbol, ()))
+
+    def unfit(self) -> List[Tuple[int, int]]:
+        """The operands, each with its word, that haven't the form of the operand."""
+        return [pair for pair in self.choice().items() if not self.fits(*pair)]
+
+    def in_order(self) -> Optional[Dict[int, int]]:
+        """Which word is which operand, where all are right in another order than they stand in."""
+        operands, words = len(self.symbols), len(self.words)
+        unfit = self.unfit() if words <= operands else []
+        # (one that has the form of its operand, but for a limit, stands where it is meant to)
+        kinds = [PATTERN_OF[self.symbols[at]].fullmatch(self.words[word][0]) for at, word in unfit]
+        if not unfit or any(kinds):
+            return None
+        fits = [[self.fits(operand, word) for word in range(words)] for operand in range(operands)]
+        orders = itertools.permutations(range(operands), words)
+        fitting = [it for it in orders if all(fits[at][word] for word, at in enumerate(it))]
+        # (the order that moves the fewest words, of which names those that are there are more)
+        best = min(fitting, default=None, key=self.moved)
+        return None if best is None else {at: word for word, at in enumerate(best)}
+
+    def moved(self, order: Sequence[int]) -> Tuple[int, int]:
+        """How far an order is from the one that the words stand in."""
+        weight = sum(self.weight(at, word) for word, at in enumerate(order))
+        if len(order) == len(self.symbols):
+            return -sum(at == word for word, at in enumerate(order)), -weight
+        return sum(one > other for one, other in itertools.combinations(order, 2)), -weight
+
+    def choice(self) -> Dict[int, int]:
+        """Which word is which operand, in their order, so that as many as can be fit."""
+        operands, words = len(self.symbols), len(self.words)
+        few = min(operands, words)
+        if words > operands + FEW:
+            return {at: at for at in range(few)}
+        choices = (itertools.combinations(range(count), few) for count in (operands, words))
+        pairs = (list(zip(*pair)) for pair in itertools.product(*choices))
+        return dict(max(pairs, key=lambda it: sum(self.weight(*each) for each in it)))
+
     def read(self) -> Reading:
         """The operands and the faults."""
-        order = self.layout.in_order()
+        order = self.in_order()
         if order is not None:
-            first = min(word for _, word in self.layout.unfit())
+            first = min(word for _, word in self.unfit())
             return refused(self.form, self.another_order(order), self.words[first][1])
         operands: List[Operand] = []
         for operand in self.aligned():
@@ -215,7 +207,7 @@ class Reader:
     def aligned(self) -> Iterator[Operand]:
         """Each operand that has a word, after faults for what is lacking and left over."""
         operands, words = len(self.symbols), len(self.words)
-        chosen = self.layout.choice()
+        chosen = self.choice()
         missing = [at for at in range(operands) if at not in chosen]
         if missing:
             parts = [self.described(at) for at in missing]
