@@ -240,8 +240,5 @@ def read(line: str) -> Optional[Command]:
 
 def following(words: Sequence[str]) -> List[str]:
     """The words and symbols that can come next, each once; an empty one where the line can end."""
-    found: Dict[str, None] = {}
-    for shape in SHAPES:
-        if shape.fitting(words) == len(words) <= len(shape.symbols):
-            found[shape.symbols[len(words)] if len(words) < len(shape.symbols) else ""] = None
-    return list(found)
+    fitting = (it.symbols for it in SHAPES if it.fitting(words) == len(words))
+    return list(dict.fromkeys((*symbols, "")[len(words)] for symbols in fitting))

@@ -14,13 +14,10 @@ DEFAULTS: Dict[str, int] = {"notes": 1, "tick": 0}
 
 def pairs(thing: Any, shape: Shape) -> List[Tuple[str, Any]]:
     """The keys of an object or a task with their values, in the documents' order."""
-    found: List[Tuple[str, Any]] = []
-    for key in shape.keys:
-        value = getattr(thing, key.name)
-        if key.holds == "code":
-            value = [instruction.text for instruction in value]
-        found.append((key.name, value))
-    return found
+    found = {key.name: getattr(thing, key.name) for key in shape.keys}
+    if "code" in found:
+        found["code"] = [instruction.text for instruction in found["code"]]
+    return list(found.items())
 
 
 def settings(app: Application) -> List[Tuple[str, int]]:

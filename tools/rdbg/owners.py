@@ -52,10 +52,8 @@ def asked(connection: socket.socket) -> Optional[int]:
 def listed(connection: socket.socket) -> Optional[int]:
     """Looks for the socket at the other end in the system's tables."""
     ends = [written(it) for it in (connection.getpeername(), connection.getsockname())]
-    for before, fields in rows():
-        if fields[1:3] == [before + it for it in ends]:
-            return user_of(fields)
-    return None
+    found = (it for before, it in rows() if it[1:3] == [before + end for end in ends])
+    return next(map(user_of, found), None)
 
 
 def callers(port: int) -> Dict[int, Optional[int]]:

@@ -60,8 +60,7 @@ class Object:
 
     def get(self, key: str) -> Optional["Node"]:
         """The value of a key, the last one where it stands twice."""
-        found = [member.node for member in self.members if member.key == key]
-        return found[-1] if found else None
+        return next((it.node for it in reversed(self.members) if it.key == key), None)
 
 
 Value = Union[None, bool, Number, str, Tuple["Node", ...], Object]

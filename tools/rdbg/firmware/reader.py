@@ -360,11 +360,8 @@ class Reader:
 
     def several(self) -> Set[int]:
         """The lines of scripts that several tasks have."""
-        found: Set[int] = set()
-        for thing, script in self.scripts():
-            if thing.count is not None:
-                found |= {thing.word.place.line, *script.lines()}
-        return found
+        those = (it for it in self.scripts() if it[0].count is not None)
+        return {at for it, script in those for at in (it.word.place.line, *script.lines())}
 
     def _spares(self) -> Dict[int, Spare]:
         """What each task doesn't use; its script is closed."""
