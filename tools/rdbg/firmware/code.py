@@ -112,9 +112,7 @@ class Draft:
 
     def node(self) -> Node:
         """The instruction. A space has the place before it."""
-        columns: List[int] = []
-        for part in self.parts:
-            columns += [*part.columns, part.columns[-1]]
+        columns = [at for part in self.parts for at in (*part.columns, part.columns[-1])]
         place, text = self.tokens[0].place, " ".join(part.text for part in self.parts)
         spelled = tuple(part.spelled or part.text for part in self.parts)
         return Node(text, place, columns[:-1], written(self.tokens), spelled)

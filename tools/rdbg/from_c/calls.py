@@ -178,12 +178,10 @@ def arguments(code: Sequence[Piece], at: int) -> Tuple[Tuple[str, ...], int]:
 
 def calls_in(code: Sequence[Piece]) -> List[Call]:
     """All calls in a function, of whatever it calls, in order."""
-    found: List[Call] = []
-    for at, piece in enumerate(code[:-1]):
-        if piece.kind == WORD and code[at + 1].text == "(":
-            given, end = arguments(code, at + 1)
-            found.append(Call(piece.text, given, piece.place, code[end].end))
-    return found
+    pairs = zip(code, code[1:])
+    heads = (at for at, (it, behind) in enumerate(pairs) if it.kind == WORD and behind.text == "(")
+    given = ((code[at], *arguments(code, at + 1)) for at in heads)
+    return [Call(it.text, texts, it.place, code[end].end) for it, texts, end in given]
 
 
 def parameter(written: str) -> str:
