@@ -1,5 +1,4 @@
 """An application as data: what an accepted file says, each thing with its place in the text."""
-import dataclasses
 from typing import Callable, List, Mapping, NamedTuple, Optional, Sequence, Tuple, TypeVar, Union
 
 from rdbg import kinds
@@ -7,8 +6,7 @@ from rdbg.tree import Fault, Node, Number, Object, Part, Place, objects
 from rdbg.wording import counted
 
 
-@dataclasses.dataclass(frozen=True)
-class Instruction:
+class Instruction(NamedTuple):
     """An instruction: `text` is what rdbg reads, `written` what stands in the text; `part` is given
     where that is a line of several instructions, or one that says it in another way. `beside` is
     the comment of its line, and `above` those of the lines above it."""
@@ -115,15 +113,14 @@ class Interrupt(NamedTuple):
         return tuple(f"isr {call}" for call in self.calls)
 
 
-@dataclasses.dataclass(frozen=True)
-class Text:
+class Text(NamedTuple):
     """What a file says; of one in lines `made` is what lines of objects become, by number."""
 
     root: Optional[Node]
     faults: Sequence[Fault]
     remarks: Sequence[Fault] = ()
     made: Sequence[Tuple[int, str]] = ()
-    comments: Mapping[int, str] = dataclasses.field(default_factory=dict)
+    comments: Mapping[int, str] = {}
     interrupts: Tuple[Interrupt, ...] = ()
 
 
@@ -139,8 +136,7 @@ Named = Union[Task, Queue, QueueSet, Stream, Messages, Group]
 Made = TypeVar("Made")
 
 
-@dataclasses.dataclass(frozen=True)
-class Application:
+class Application(NamedTuple):
     """What runs. A thing's number is its index in its list. A JSON names no interrupts."""
 
     profile: int

@@ -176,12 +176,7 @@ class Hunt:
         """Whether something is."""
         return bool(self.finds or self.differences)
 
-    def say(self) -> None:
-        """Prints what was found, or that nothing was, and reports it."""
-        self._print(self._said())
-        self._report()
-
-    def _report(self) -> None:
+    def report(self) -> None:
         """Writes what came of it, where that was asked."""
         if self.given.report is None:
             return
@@ -193,9 +188,9 @@ class Hunt:
         with whole_file.written(path) as file:
             file.write(reports.text_of(path, self.source.path, goal, found, self.given.expect))
 
-    def _print(self, said: Sequence[str]) -> None:
+    def say(self) -> None:
         """Prints what is said, and the lines of what was found."""
-        path = self.given.output
+        path, said = self.given.output, self._said()
         if not self.is_found:
             is_mixed = path in (None, STANDARD)
             print(*said, sep="\n", file=sys.stderr if is_mixed else sys.stdout, flush=True)
@@ -290,6 +285,7 @@ def hunt(given: argparse.Namespace, source: Source, path: str) -> int:
         except KeyboardInterrupt:
             search.none.append(Answer(Kind.UNTOLD, why=CTRL_C))
         it.say()
+        it.report()
         return it.status()
 
 

@@ -133,6 +133,7 @@ def element(case: Case, result: Result) -> ElementTree.Element:
     return made
 
 
+@turned(of_words, Failure)
 def test(given: argparse.Namespace) -> int:
     """Tries the cases, and says what became of them."""
     file, listed = checked(given.path)
@@ -160,7 +161,4 @@ def test(given: argparse.Namespace) -> int:
 
 def main(words: Sequence[str]) -> int:
     """Runs the cases of a folder."""
-    given = parser().parse_args(words)
-    with turned(of_words, Failure):
-        status = test(given)
-    return status
+    return test(parser().parse_args(words))

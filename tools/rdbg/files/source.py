@@ -1,9 +1,8 @@
 """An application's text, as JSON or in lines, with all its faults and what it says."""
 import contextlib
-import dataclasses
 import pathlib
 import sys
-from typing import Iterator, Mapping, Optional, Tuple
+from typing import Iterator, Mapping, NamedTuple, Optional, Tuple
 
 from rdbg import own_file
 from rdbg.application import Application, Beside, Instruction, Task, Text, application
@@ -20,8 +19,7 @@ LINES = (".fw", ENDING)
 Given = Mapping[str, int]
 
 
-@dataclasses.dataclass(frozen=True)
-class Source:
+class Source(NamedTuple):
     """A file: its text, its faults in the order in which rdbg looks for them, the application where
     there is none; of a text in lines what there is to remark, what lines of objects become, and
     which consts were given."""
@@ -33,7 +31,7 @@ class Source:
     application: Optional[Application]
     remarks: Tuple[Fault, ...] = ()
     made: Tuple[Tuple[int, str], ...] = ()
-    given: Given = dataclasses.field(default_factory=dict)
+    given: Given = {}
 
     @property
     def is_c(self) -> bool:
@@ -120,7 +118,7 @@ def source(path: str, content: bytes, given: Optional[Given] = None) -> Source:
         below = code_below(shown) if path.endswith(ENDING) else {}
         scripts = ((it, tuple(put(it, text.comments, below))) for it in said.tasks)
         tasks = tuple(task._replace(code=code) for task, code in scripts)
-        said = dataclasses.replace(said, tasks=tasks, interrupts=text.interrupts)
+        said = said._replace(tasks=tasks, interrupts=text.interrupts)
     faults, remarks, made = tuple(text.faults), tuple(text.remarks), tuple(text.made)
     return Source(path, shown, text.root, faults, said, remarks, made, consts)
 
@@ -135,6 +133,6 @@ def put(task: Task, comments: Mapping[int, str], below: Mapping[int, str]) -> It
         if it.begins:
             above = tuple(comments[at] for at in range(last + 1, line) if at in comments)
             said = comments.get(line, below.get(line, ""))
-            it = dataclasses.replace(it, above=above, beside=said)
+            it = it._replace(above=above, beside=said)
         yield it
         last = max(last, line)
