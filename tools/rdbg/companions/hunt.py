@@ -162,6 +162,7 @@ class Hunt:
         if self.goal.compares:
             self.differs = Differs(search)
             self.differences = self.differs.find(given.all or 1)
+            self.finds = [it.find for it in self.differences]
         elif given.all is not None:
             self.finds = search.all(given.all)
         elif given.smallest:
@@ -171,33 +172,26 @@ class Hunt:
         else:
             self.finds = search.first()
 
-    @property
-    def is_found(self) -> bool:
-        """Whether something is."""
-        return bool(self.finds or self.differences)
-
     def report(self) -> None:
         """Writes what came of it, where that was asked."""
         if self.given.report is None:
             return
         from rdbg.hunting import reports, sarif  # (which take their time)
 
-        finds = self.finds or [it.find for it in self.differences]
         goal, path, left = self.goal.text, self.given.report, self.search.left()
-        found = [*sarif.results(self.source, goal, self.stage, finds, left)]
+        found = [*sarif.results(self.source, goal, self.stage, self.finds, left)]
         with whole_file.written(path) as file:
             file.write(reports.text_of(path, self.source.path, goal, found, self.given.expect))
 
     def say(self) -> None:
         """Prints what is said, and the lines of what was found."""
         path, said = self.given.output, self._said()
-        if not self.is_found:
+        if not self.finds:
             is_mixed = path in (None, STANDARD)
             print(*said, sep="\n", file=sys.stderr if is_mixed else sys.stdout, flush=True)
             return
         own = [] if self.differs is None else [self.differs.own.find]
-        orders = [*own, *self.finds, *(it.find for it in self.differences)]
-        lines = report.lines_of(self.goal, self.stage, orders)
+        lines = report.lines_of(self.goal, self.stage, [*own, *self.finds])
         with outputs(path) as (file, out):
             print(*lines, sep="\n", file=file, flush=True)
             print(*said, sep="\n", file=out, flush=True)
@@ -205,7 +199,7 @@ class Hunt:
 
     def _said(self) -> List[str]:
         """What is said."""
-        if not self.is_found:
+        if not self.finds:
             left = self.search.left()
             said = [*report.none(self.goal, left, self.stage.application)]
             return [*said, *self._remarks(left)]
@@ -234,7 +228,7 @@ class Hunt:
         from rdbg.tracing.command import page_of  # (which takes its time)
         from rdbg.tracing.page.asked import Asked
 
-        order = (self.finds or [it.find for it in self.differences])[0].order
+        order = self.finds[0].order
         how = "" if self.given.exhaustive else f", {report.with_surprises(len(order.told))}"
         said = f"Found: the order of this page leads there, at {order.place}{how}."
         told = () if self.given.exhaustive else order.told
@@ -244,7 +238,7 @@ class Hunt:
     def status(self) -> int:
         """The exit status."""
         expected, left = self.given.expect, self.search.left()
-        if self.is_found:
+        if self.finds:
             return NONE_FOUND if expected == "found" else FOUND
         if left.why == CTRL_C:
             return STOPPED

@@ -151,10 +151,10 @@ TASK, CONSTS = "task", ("const", "#define")
 
 
 class Beside(NamedTuple):
-    """A call, with the first line of its statement."""
+    """A call, with the rows in which what stands is beside it."""
 
     call: Call
-    begin: int
+    rows: range
 
 
 class Source(NamedTuple):
@@ -197,24 +197,19 @@ class Function:
         """The calls that a model has to say, and those by which lines say that one is made."""
         named = {*TEMPLATES, *self._source.functions, *(it.line.function for it in self._said)}
         ends = [it.place for it in self._block.pieces if it.text in (";", "{", "}")]
-        begins = [it.place for it in self._block.pieces[1:]]
+        begins, alone = [it.place for it in self._block.pieces[1:]], self._source.alone
         for call in calls_in(self._block.pieces):
             if call.name in named:
                 before = (it for it in ends if it < call.place)
                 last = max(before, default=self._block.pieces[0].place)
                 begin = min((it.line for it in begins if it > last), default=call.place.line)
-                yield Beside(call, begin)
+                above = (row for row in itertools.count(begin, -1) if row - 1 not in alone)
+                yield Beside(call, range(next(above), call.end + 1))
 
     def _near(self, it: Beside) -> List[Said]:
         """The lines beside a call that are of no other yet."""
         left = (each for each in self._said if each.line.place not in self._used)
-        return [each for each in left if each.line.number in self._reach(it)]
-
-    def _reach(self, it: Beside) -> range:
-        """The rows in which what stands is beside a call."""
-        above = itertools.count(it.begin, -1)
-        begin = next(row for row in above if row - 1 not in self._source.alone)
-        return range(begin, it.call.end + 1)
+        return [each for each in left if each.line.number in it.rows]
 
     def _naming(self, it: Beside) -> List[Said]:
         """The lines beside a call that name its function, beside those of what that calls."""
@@ -237,7 +232,7 @@ class Function:
     def _is_skipped(self, it: Beside, function: str) -> bool:
         """Whether a line beside a call says that the model leaves it out."""
         own = (skip for skip in self._skips if skip.function == function)
-        found = next((skip for skip in own if skip.number in self._reach(it)), None)
+        found = next((skip for skip in own if skip.number in it.rows), None)
         if found is not None:
             self._skips.remove(found)
         return found is not None
