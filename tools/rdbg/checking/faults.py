@@ -74,21 +74,18 @@ class Finder:
         """The file: its keys in their order, then its scripts."""
         found = self.values(FILE, root, "the application")
         numbers: Dict[str, Optional[int]] = {"notes": 1}
-        for key in FILE.keys:
-            node = found.get(key.name)
+        for key in (it for it in FILE.keys if it.name in found):
             if key.of is not None:
-                self.list_of(key, key.of, node)
-            elif node is not None:
+                self.list_of(key, key.of, found[key.name])
+            else:
                 most = key.most_in(numbers.get("profile"))
-                numbers[key.name] = self.number(key, node, "", most)
+                numbers[key.name] = self.number(key, found[key.name], "", most)
         names = {symbol: list(names) for symbol, names in self.names.items()}
         for label, code in self.scripts:
             self.script(label, code, Scope(names, numbers["notes"] or MOST_ENTRIES, len(code)))
 
-    def list_of(self, key: Key, shape: Shape, node: Optional[Node]) -> None:
+    def list_of(self, key: Key, shape: Shape, node: Node) -> None:
         """A list of objects of one kind."""
-        if node is None:
-            return
         if not isinstance(node.value, tuple):
             self.unsure.add(shape.symbol)
             self.other(node, key.name, f"a list of {shape.plural}")
@@ -112,10 +109,8 @@ class Finder:
         if "name" not in found:
             self.unsure.add(shape.symbol)
         numbers: Dict[str, Optional[int]] = {}
-        for key in shape.keys:
-            value = found.get(key.name)
-            if value is None:
-                continue
+        for key in (it for it in shape.keys if it.name in found):
+            value = found[key.name]
             if key.holds == "name":
                 self.name(shape, value, label)
             elif key.holds == "number":
@@ -135,20 +130,18 @@ class Finder:
             return {}
         given = {member.key: member for member in node.value.members}
         found = {key: given[key].node for key in shape.names() if key in given}
-        for member in given.values():
-            if member.key not in shape.names():
-                meant, said = self.meant(shape, member.key)
-                message = f"{label}: {quoted(member.key)} is none of its keys"
-                self.fault(SHAPE, member.place, message + said)
-                if meant and meant not in found:
-                    found[meant] = member.node
-                elif shape is FILE:
-                    self.refuse_names(member.node)
-        for key in shape.keys:
-            if key.is_needed and key.name not in found:
-                limits = f", {to_text(key.least, key.most)}" if key.holds == "number" else ""
-                message = f"{label} lacks its key {key.name} ({key.text}{limits})"
-                self.fault(SHAPE, node.place, message)
+        for member in (it for it in given.values() if it.key not in shape.names()):
+            meant, said = self.meant(shape, member.key)
+            said = f"{label}: {quoted(member.key)} is none of its keys{said}"
+            self.fault(SHAPE, member.place, said)
+            if meant and meant not in found:
+                found[meant] = member.node
+            elif shape is FILE:
+                self.refuse_names(member.node)
+        for key in (it for it in shape.keys if it.is_needed and it.name not in found):
+            limits = f", {to_text(key.least, key.most)}" if key.holds == "number" else ""
+            message = f"{label} lacks its key {key.name} ({key.text}{limits})"
+            self.fault(SHAPE, node.place, message)
         return found
 
     def refuse_names(self, node: Node) -> None:
