@@ -1,4 +1,5 @@
 """The usual causes of a text that is no JSON: what stands there, and what would be right."""
+import contextlib
 import re
 from typing import Optional, Tuple
 
@@ -70,8 +71,9 @@ def number(text: str, at: int) -> str:
     if word.startswith("+"):
         return f"{word}: a number has no plus sign"
     if re.match(r"-?0[xXbBoO]", word):
-        value = as_decimal(word)
-        return f"{word}: a number is decimal" + (f", {value}" if value else "")
+        with contextlib.suppress(ValueError):
+            return f"{word}: a number is decimal, {int(word, 0)}"
+        return f"{word}: a number is decimal"
     if re.match(r"-?0[0-9]", word):
         plain = word.lstrip("-0") or "0"
         hint = f": {plain}" if is_digits(plain) and word[0] != "-" else ""
@@ -79,14 +81,6 @@ def number(text: str, at: int) -> str:
     if re.match(r"-?\.", word) or re.fullmatch(r"-?[0-9]+\.", word):
         return f"{word}: digits stand before a point and behind it"
     return f"{word} is no number of JSON: it has digits alone"
-
-
-def as_decimal(word: str) -> str:
-    """The decimal number that `0x10` is, or an empty text."""
-    try:
-        return str(int(word, 0))
-    except ValueError:
-        return ""
 
 
 def begins_value(text: str, at: int) -> bool:

@@ -1,5 +1,6 @@
 """Makes the JSON of an application from its text in lines, which may stand in comments of C, or the
 text from the JSON."""
+import contextlib
 import os
 import sys
 from typing import Iterable, Iterator, Optional, Sequence, Set, Tuple
@@ -106,8 +107,9 @@ def make(path: str, output: Optional[str], consts: Given) -> int:
     chosen = os.path.splitext(path)[0] + JSON if output is None else output
     if chosen != STANDARD_OUTPUT and not chosen.endswith(JSON):
         raise Failure(f"{chosen} doesn't end in {JSON}; it isn't written", 2)
-    if same_file(path, chosen):
-        raise Failure(f"{chosen} is {path} itself; it isn't written", 2)
+    with contextlib.suppress(OSError):
+        if os.path.samefile(path, chosen):
+            raise Failure(f"{chosen} is {path} itself; it isn't written", 2)
     found, application = accepted(path, MOST_FAULTS, consts)
     text = json_of(application)
     if len(text) > MOST_BYTES:
@@ -144,14 +146,6 @@ def back(path: str, output: Optional[str]) -> int:
         said = "jumps with labels, where the text may have had loop, while or an if of lines"
         print(f"rdbg make: {said}: {'; '.join(jumps)}", file=sys.stderr)
     return 0
-
-
-def same_file(path: str, other: str) -> bool:
-    """Whether both are one file."""
-    try:
-        return os.path.samefile(path, other)
-    except OSError:
-        return False
 
 
 def accepted(path: str, most: int, consts: Optional[Given] = None) -> Tuple[Source, Application]:

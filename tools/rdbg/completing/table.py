@@ -65,17 +65,12 @@ def of_help(name: str, text: str) -> Word:
     return Word(name, text.split("\n")[0], options, has_files)
 
 
-def companion(name: str) -> Optional[Word]:
-    """A companion, if it reads its words here."""
-    make = getattr(main.companion(name), "parser", None)
-    return None if make is None else of_parser(name, make())
-
-
 def words() -> List[Word]:
     """All words, but options of the wrapper's own."""
     found = [of_help(name, text) for name, text in program_help.OF.items()]
     known = {it.name for it in found}
-    found += filter(None, (companion(name) for name in main.names() if name not in known))
+    others = ((name, main.companion(name)) for name in main.names() if name not in known)
+    found += [of_parser(name, it.parser()) for name, it in others if hasattr(it, "parser")]
     names = tuple(sorted(it.name for it in found))
     found.append(Word("help", "says more of a word", choices=names))
     return sorted(found, key=lambda it: it.name)

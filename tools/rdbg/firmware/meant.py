@@ -3,7 +3,7 @@
 Such a line is refused. The names that it gives are kept all the same, so that the lines that use
 them aren't refused as well."""
 import re
-from typing import Container, Iterator, Optional, Sequence, Set, Tuple
+from typing import Iterator, Optional, Sequence, Set, Tuple
 
 from rdbg.checking.freertos import called, sentence
 from rdbg.checking.slips import statement
@@ -89,13 +89,11 @@ def object_of(tokens: Sequence[Token]) -> Tuple[str, Optional[Token]]:
     return (meant or "", name) if name and is_object and not is_set else ("", None)
 
 
-def semaphores_of(
-    lines: Sequence[Sequence[Token]], known: Container[str]
-) -> Iterator[Tuple[str, Semaphore]]:
-    """Those that lines were meant to give, by their names, beside those that are known."""
-    for tokens in lines:
-        word, name = object_of(tokens) if tokens[0].text.lower() in SEMAPHORES else ("", None)
-        if name is not None and word == MUTEX and name.text not in known:
+def semaphores_of(lines: Sequence[Sequence[Token]]) -> Iterator[Tuple[str, Semaphore]]:
+    """Those that lines were meant to give, by their names."""
+    for tokens in (it for it in lines if it[0].text.lower() in SEMAPHORES):
+        word, name = object_of(tokens)
+        if name is not None and word == MUTEX:
             yield name.text, Semaphore(tokens[0], name.text, 1, True)
 
 

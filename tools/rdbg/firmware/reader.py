@@ -71,8 +71,8 @@ class Reader:
             consts = [tokens for tokens in lines if is_const(tokens)]
             for tokens in consts:
                 self._try(tokens)
-            self._semaphores = semaphores.named(lines, self.constants)
-            self._semaphores.update(meant.semaphores_of(lines, self._semaphores))
+            known = semaphores.named(lines, self.constants)
+            self._semaphores = {**known, **dict(meant.semaphores_of(lines)), **known}
             for tokens in lines:
                 if not is_const(tokens):
                     self._try(tokens)

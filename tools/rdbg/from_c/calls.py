@@ -68,6 +68,7 @@ CHOICES: Dict[str, Dict[str, str]] = {
 VALUES, NAMES = ("V", "T"), ("Q", "K")
 # A name that is none of a part of something.
 NAME = re.compile(r"(?<![\w.>])[A-Za-z_]\w*")
+PARAMETER = re.compile(r"\(\*(\w+)\)|(\w+)[\[\]\w]*$")
 # So many calls are gone into at the most from one.
 MOST_CALLS = 100
 
@@ -184,17 +185,12 @@ def calls_in(code: Sequence[Piece]) -> List[Call]:
     return [Call(it.text, texts, it.place, code[end].end) for it, texts, end in given]
 
 
-def parameter(written: str) -> str:
-    """The name of a parameter."""
-    found = re.search(r"\(\*(\w+)\)|(\w+)[\[\]\w]*$", written)
-    return (found[1] or found[2]) if found else ""
-
-
 def kept(block: Block) -> List[str]:
     """The names of a function's parameters; empty that of one which it may change."""
     text = joined(block.pieces)
     changed = r"\b{0}(?:[-+*/%|&^]|<<|>>)?=(?!=)|[(,]&{0}\b|\b{0}(?:--|\+\+)|(?:--|\+\+){0}\b"
-    names = map(parameter, block.parameters)
+    found = (PARAMETER.search(it) for it in block.parameters)
+    names = [(it[1] or it[2]) if it else "" for it in found]
     return ["" if re.search(changed.format(it), text) else it for it in names]
 
 

@@ -8,7 +8,7 @@ from rdbg.from_c.calls import CHOICES, NAMES, TEMPLATES, Block, Call, Operand
 from rdbg.from_c.calls import blocks, calls_in, made_by
 from rdbg.from_c.lexer import DIRECTIVE, Piece, pieces
 from rdbg.from_c.lines import SKIP, Line, lines_of, rows_alone
-from rdbg.from_c.said import Said, Value, defined, first_of, said, shown, value_of, values
+from rdbg.from_c.said import Said, Value, defined, said, shown, tokens_of, value_of, values
 from rdbg.json_layout import MOST_BYTES
 from rdbg.operands import PATTERN_OF
 from rdbg.tree import Fault, Place
@@ -290,7 +290,7 @@ def is_of_task(block: Block, lines: Sequence[Line], before: int) -> bool:
     if any(block.begin <= it.number <= block.end for it in lines):
         return True
     above = [it for it in lines if before < it.number < block.begin]
-    return bool(above) and first_of(above[-1]) == TASK
+    return [it.text for line in above[-1:] for it in tokens_of(line.text)[:1]] == [TASK]
 
 
 def differing_consts(lines: Sequence[Line], model: Model) -> Iterator[Fault]:

@@ -100,12 +100,6 @@ def said(line: Line) -> Optional[Said]:
     return Said(line, tokens[0].text, behind)
 
 
-def first_of(line: Line) -> str:
-    """The first word of a line."""
-    tokens = tokens_of(line.text)
-    return tokens[0].text if tokens else ""
-
-
 def grouped(tokens: Sequence[Token]) -> List[str]:
     """Operands as texts: `RX | 1<<4` is one."""
     found: List[str] = []
