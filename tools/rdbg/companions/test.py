@@ -106,13 +106,6 @@ def said_of(case: Case, result: Result) -> Iterator[str]:
         yield from (f"       {line}" for line in result.told)
 
 
-def summary(results: Sequence[Result]) -> str:
-    """How many are as expected, and how many not."""
-    counts = {it: sum(result.verdict is it for result in results) for it in Verdict}
-    each = ", ".join(f"{count} {it.value}" for it, count in counts.items() if count)
-    return f"{counted(len(results), 'case')}: {each or 'none in this part'}"
-
-
 # What a case that isn't as expected has in a report.
 ELEMENTS = {Verdict.WRONG: junit.FAILURE, Verdict.REFUSED: junit.ERROR}
 
@@ -148,15 +141,16 @@ def test(given: argparse.Namespace) -> int:
     for case, result in results_of(os.path.dirname(file), found, given.jobs):
         tried.append((case, result))
         print(*said_of(case, result), sep="\n", flush=True)
-    print(summary([result for _, result in tried]), flush=True)
+    counts = {it: sum(result.verdict is it for _, result in tried) for it in Verdict}
+    each = ", ".join(f"{count} {it.value}" for it, count in counts.items() if count)
+    print(f"{counted(len(tried), 'case')}: {each or 'none in this part'}", flush=True)
     if given.report is not None:
         took = sum(it.seconds for _, it in tried)
         with whole_file.written(given.report) as out:
             out.write(junit.document(file, [element(*it) for it in tried], time=f"{took:.3f}"))
-    verdicts = {result.verdict for _, result in tried}
-    if Verdict.REFUSED in verdicts:
+    if counts[Verdict.REFUSED]:
         return NONE
-    return OTHERWISE if Verdict.WRONG in verdicts else AS_EXPECTED
+    return OTHERWISE if counts[Verdict.WRONG] else AS_EXPECTED
 
 
 def main(words: Sequence[str]) -> int:

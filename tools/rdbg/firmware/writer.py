@@ -36,12 +36,6 @@ def text_of_test(test: Test) -> str:
     return looked if test.is_turned else f"!({looked})"
 
 
-def jumps_in(code: Sequence[str]) -> List[Tuple[int, int]]:
-    """The instructions that jump, by their numbers, each with the one that it jumps to."""
-    words = enumerate(text.split(" ") for text in code)
-    return [(at, int(it[-1])) for at, it in words if it[0] in JUMPS and is_digits(it[-1])]
-
-
 def tests_at(code: Sequence[str], at: int) -> Iterator[Tuple[Test, str, str]]:
     """What an `if` that begins here may look at, its register and its entry of the task's own."""
     words = [text.split(" ") for text in code[at : at + 5]]
@@ -61,7 +55,8 @@ def tests_at(code: Sequence[str], at: int) -> Iterator[Tuple[Test, str, str]]:
 
 def ifs_at(code: Sequence[str], at: int, own: str) -> Iterator[FoundIf]:
     """Each `if` that may begin with an instruction, into whose middle nothing jumps."""
-    jumps = jumps_in(code)
+    words = enumerate(text.split(" ") for text in code)
+    jumps = [(it, int(to[-1])) for it, to in words if to[0] in JUMPS and is_digits(to[-1])]
     for test, spare, entry in tests_at(code, at):
         templates, _ = test.jump()
         end = at + len(templates)
@@ -88,17 +83,6 @@ def decimal(word: str) -> str:
     return str(int(word)) if is_digits(word) else word
 
 
-def hexadecimal(word: str) -> str:
-    """A number that stands for bits; a register as it is."""
-    return hex(int(word)) if is_digits(word) and int(word) else decimal(word)
-
-
-def summand(word: str) -> str:
-    """A number that is added: the upper half of them take away."""
-    value = int(word)
-    return str(value) if value <= LARGEST // 2 else str(value - LARGEST - 1)
-
-
 # How the operands are written that can be written in other ways than in the JSON.
 WRITERS: Dict[str, Callable[[str], str]] = {
     **dict.fromkeys(("N", "V", "I", "ROOM"), decimal),
@@ -109,17 +93,17 @@ WRITERS: Dict[str, Callable[[str], str]] = {
 
 
 def instruction_text(instruction: Instruction) -> str:
-    """An instruction with labels, and with bits as hexadecimal numbers."""
+    """An instruction with labels, with bits as hexadecimal numbers, and less of what is added."""
     first, *operands = instruction.words()
     form = FORM_OF[first]
     parts = [first]
     for symbol, noun, word in zip(form.symbols, form.nouns, operands):
-        write = WRITERS.get(symbol, str)
-        if noun.startswith("bits") or symbol == "V" and operands[-1] == "bits":
-            write = hexadecimal
-        elif first == "add" and symbol == "N":
-            write = summand
-        parts.append(write(word))
+        said, value = WRITERS.get(symbol, str)(word), int(word) if is_digits(word) else 0
+        if value and (noun.startswith("bits") or symbol == "V" and operands[-1] == "bits"):
+            said = hex(value)
+        elif first == "add" and symbol == "N" and value > LARGEST // 2:
+            said = str(value - LARGEST - 1)
+        parts.append(said)
     return " ".join(parts)
 
 
