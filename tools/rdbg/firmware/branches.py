@@ -13,7 +13,7 @@ from rdbg.firmware.tokens import Refusal, Token, shown
 from rdbg.operands import REGISTER
 from rdbg.wording import counted
 
-# The signs that part words of a test, also where no spaces stand round them.
+# The pieces of a test: its signs, also where no spaces stand round them, and what they part.
 PIECE = r"==|!=|<=|>=|&&|[=!<>&]|[^=!<>&]+"
 NOT, EQUAL, UNEQUAL, BITS = ("!", "not"), ("=", "=="), ("!=",), ("&",)
 ORDERED, JOINED = ("<", ">", "<=", ">="), ("&&", "||", "|", "and", "or")
