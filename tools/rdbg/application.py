@@ -1,14 +1,12 @@
 """An application as data: what an accepted file says, each thing with its place in the text."""
-import dataclasses
-from typing import Callable, Iterator, List, Optional, Sequence, Tuple, TypeVar, Union
+from typing import Callable, List, Mapping, NamedTuple, Optional, Sequence, Tuple, TypeVar, Union
 
 from rdbg import kinds
-from rdbg.tree import Node, Number, Object, Part, Place, objects
+from rdbg.tree import Fault, Node, Number, Object, Part, Place, objects
 from rdbg.wording import counted
 
 
-@dataclasses.dataclass(frozen=True)
-class Instruction:
+class Instruction(NamedTuple):
     """An instruction: `text` is what rdbg reads, `written` what stands in the text; `part` is given
     where that is a line of several instructions, or one that says it in another way. `beside` is
     the comment of its line, and `above` those of the lines above it."""
@@ -22,8 +20,7 @@ class Instruction:
 
     @property
     def told(self) -> str:
-        """It as a move of it is told: the line as it is written, and which of its instructions it
-        is behind the first."""
+        """The line as it is written, and which of its instructions it is behind the first."""
         if self.part is None:
             return self.written
         note = self.part.note
@@ -41,8 +38,7 @@ class Instruction:
         return self.text.split()
 
 
-@dataclasses.dataclass(frozen=True)
-class Task:
+class Task(NamedTuple):
     """A task, its priority (0 to 31, a higher number first) and its script."""
 
     name: str
@@ -51,8 +47,7 @@ class Task:
     place: Place
 
 
-@dataclasses.dataclass(frozen=True)
-class Queue:
+class Queue(NamedTuple):
     """A queue of so many items of so many bytes."""
 
     name: str
@@ -61,8 +56,7 @@ class Queue:
     place: Place
 
 
-@dataclasses.dataclass(frozen=True)
-class QueueSet:
+class QueueSet(NamedTuple):
     """A queue set with room for so many handles, and its members at boot."""
 
     name: str
@@ -71,8 +65,7 @@ class QueueSet:
     place: Place
 
 
-@dataclasses.dataclass(frozen=True)
-class Stream:
+class Stream(NamedTuple):
     """A stream buffer of so many bytes, with its trigger level."""
 
     name: str
@@ -81,8 +74,7 @@ class Stream:
     place: Place
 
 
-@dataclasses.dataclass(frozen=True)
-class Messages:
+class Messages(NamedTuple):
     """A message buffer of so many bytes."""
 
     name: str
@@ -90,8 +82,7 @@ class Messages:
     place: Place
 
 
-@dataclasses.dataclass(frozen=True)
-class Group:
+class Group(NamedTuple):
     """An event group."""
 
     name: str
@@ -104,8 +95,7 @@ NO_INTERRUPT = "none"
 ANY, MOST_TIMES, MOST_APART = 0, 255, 255
 
 
-@dataclasses.dataclass(frozen=True)
-class Interrupt:
+class Interrupt(NamedTuple):
     """An interrupt that may come: its name, the calls of its handler as rdbg's lines without `isr`,
     how often it comes at the most (`ANY`: any number of times), that each time answers one of
     another (`after`), how many ticks pass at the least before it comes again, and whether it ends a
@@ -123,15 +113,31 @@ class Interrupt:
         return tuple(f"isr {call}" for call in self.calls)
 
 
+class Text(NamedTuple):
+    """What a file says; of one in lines `made` is what lines of objects become, by number."""
+
+    root: Optional[Node]
+    faults: Sequence[Fault]
+    remarks: Sequence[Fault] = ()
+    made: Sequence[Tuple[int, str]] = ()
+    comments: Mapping[int, str] = {}
+    interrupts: Tuple[Interrupt, ...] = ()
+
+
+class Beside(NamedTuple):
+    """What a text names besides tasks and objects: numbers, and of each task instructions."""
+
+    constants: Mapping[str, int]
+    labels: Mapping[str, Mapping[str, int]]
+
+
 # Whatever an application has that has a name.
 Named = Union[Task, Queue, QueueSet, Stream, Messages, Group]
 Made = TypeVar("Made")
 
 
-@dataclasses.dataclass(frozen=True)
-class Application:
-    """What runs. A thing's number is its index in its list. Of a text in lines, there are the
-    interrupts that it names, of which a JSON has none."""
+class Application(NamedTuple):
+    """What runs. A thing's number is its index in its list. A JSON names no interrupts."""
 
     profile: int
     cores: int
@@ -172,10 +178,9 @@ class Application:
         found = ((len(self.of(it)), it.noun) for it in (kinds.TASK, *kinds.OBJECTS))
         return [counted(count, noun) for count, noun in found if count]
 
-    def objects(self) -> Iterator[Tuple[str, str]]:
+    def objects(self) -> List[Tuple[str, str]]:
         """Each object's kind, as `show` names it, and its name, in the order of the file."""
-        for kind in kinds.OBJECTS:
-            yield from ((kind.word, it.name) for it in self.of(kind))
+        return [(kind.word, it.name) for kind in kinds.OBJECTS for it in self.of(kind)]
 
 
 def number(owner: Object, key: str, absent: int = 0) -> int:

@@ -1,12 +1,12 @@
 """What is done by hand between the moves of tasks, edits and interrupts: found from the looks
 before and after it, or held against them."""
-import dataclasses
-from typing import Callable, Dict, List, Optional
+from typing import Callable, Dict, List, NamedTuple, Optional, Sequence, Tuple, TypeVar
 
 from rdbg import kinds, replies
 from rdbg.looks import Key, Look, Object, content_of
 
 INTERRUPT = "isr"
+Value = TypeVar("Value")
 MOST = 2**32
 # What a notification makes of a value and the one that is sent.
 VALUE_BY: Dict[str, Callable[[int, int], int]] = {
@@ -18,12 +18,16 @@ VALUE_BY: Dict[str, Callable[[int, int], int]] = {
 }
 
 
-@dataclasses.dataclass(frozen=True)
-class ByHand:
+class ByHand(NamedTuple):
     """An edit or an interrupt that was made: its line, and what an interrupt was answered."""
 
     line: str
     answer: Optional[int] = None
+
+
+def changes(was: Sequence[Value], now: Sequence[Value]) -> List[Tuple[int, Value]]:
+    """What is another value now, each with its index."""
+    return [(at, new) for at, (old, new) in enumerate(zip(was, now)) if old != new]
 
 
 def changed_objects(before: Look, after: Look) -> List[Key]:
@@ -33,8 +37,7 @@ def changed_objects(before: Look, after: Look) -> List[Key]:
 
 
 def edit_of(before: Look, after: Look) -> Optional[str]:
-    """The edit that makes the second look of the first, or none where no single one does. Where
-    nothing differs there are many; it is one of them."""
+    """The one edit that makes the second look of the first, if any; any where nothing differs."""
     found: List[str] = []
     for name, now in after.tasks.items():
         was = before.tasks.get(name, now)
@@ -46,11 +49,9 @@ def edit_of(before: Look, after: Look) -> Optional[str]:
             found.append(f"poke pc {name} {now.pc}")
         if was.data != now.data:
             found.append(f"poke data {name} {now.data.hex() or '-'}")
-        pairs = zip(was.registers, now.registers)
-        changed = [(at, value) for at, (old, value) in enumerate(pairs) if old != value]
-        found += [f"poke reg {name} {at} {value}" for at, value in changed]
-        entries = enumerate(zip(was.notes, now.notes))
-        found += [f"poke note {name} {at} {new.value}" for at, (old, new) in entries if old != new]
+        registers, notes = changes(was.registers, now.registers), changes(was.notes, now.notes)
+        found += [f"poke reg {name} {at} {value}" for at, value in registers]
+        found += [f"poke note {name} {at} {note.value}" for at, note in notes]
     for key in changed_objects(before, after):
         found.append(edit_of_object(before.objects[key], after.objects[key]))
     if not found and after.tasks:
@@ -64,31 +65,27 @@ def edit_of_object(was: Object, now: Object) -> str:
     if isinstance(now, replies.Group):
         return f"poke group {now.name} {now.bits}"
     if isinstance(now, replies.Queue) and isinstance(was, replies.Queue):
-        items = zip(was.items, now.items)
-        changed = [(at, new.hex()) for at, (old, new) in enumerate(items) if old != new]
-        if len(changed) == 1 and was.count == now.count:
-            return f"poke item {now.name} {changed[0][0]} {changed[0][1]}"
+        items = changes(was.items, now.items)
+        if len(items) == 1 and was.count == now.count:
+            return f"poke item {now.name} {items[0][0]} {items[0][1].hex()}"
     if isinstance(now, replies.Stream) and isinstance(was, replies.Stream):
-        pairs = enumerate(zip(was.content, now.content))
-        values = [(at, new) for at, (old, new) in pairs if old != new]
+        values = changes(was.content, now.content)
         if len(values) == 1 and was.held == now.held:
             return f"poke byte {now.name} {values[0][0]} {values[0][1]}"
     return ""
 
 
 def interrupt_of(before: Look, after: Look) -> Optional[str]:
-    """An interrupt that makes the second look of the first, and is answered 1; none where no single
-    one does, or where nothing has come that could be seen."""
+    """The one interrupt that makes the second look of the first, and that can be seen, if any."""
     told: List[str] = []
     for name, now in after.tasks.items():
         was = before.tasks.get(name, now)
         if (was.pc, was.data, was.registers) != (now.pc, now.data, now.registers):
             return None
-        for index, (old, new) in enumerate(zip(was.notes, now.notes)):
-            if old != new:
-                told.append(f"isr notify {name} {index} {new.value} set")
-                if new.state != "received":
-                    return None
+        for index, new in changes(was.notes, now.notes):
+            told.append(f"isr notify {name} {index} {new.value} set")
+            if new.state != "received":
+                return None
     changed = changed_objects(before, after)
     if not changed:
         return told[0] if len(told) == 1 else None
@@ -112,8 +109,7 @@ def send_of(before: Look, after: Look, changed: List[Key]) -> Optional[str]:
 
 
 def could_be(before: Look, after: Look, made: ByHand) -> bool:
-    """Whether what is known to have been done at a place can be what lies between two looks, or
-    others have moved the target there since."""
+    """Whether what was done can be what lies between two looks, or others have moved since."""
     words = made.line.split(" ")
     if words[0] != INTERRUPT:
         return edit_of(before, after) == made.line

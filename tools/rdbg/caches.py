@@ -26,8 +26,7 @@ def is_own() -> bool:
 
 
 class Loader(importlib.machinery.SourceFileLoader):
-    """Loads the modules of a checkout. Python's own, which it has byte code of, aren't loaded so,
-    nor are they written a second time."""
+    """Loads the modules of a checkout; Python's own stay where they are."""
 
     def get_code(self, fullname: str) -> Optional[CodeType]:
         """The code of a module, from below `out/` where it is there."""

@@ -39,8 +39,7 @@ def bind(parent: int, number: int) -> None:
 
 
 def end_with_parent() -> None:
-    """Is what a process that this program has made of itself does first. It ends as by SIGTERM, so
-    that it takes away what it has made."""
+    """Has a process that this program has made of itself end with it, as by SIGTERM."""
     from multiprocessing import parent_process
 
     parent = parent_process()

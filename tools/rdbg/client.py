@@ -12,19 +12,7 @@ import socket
 import subprocess
 import tempfile
 import threading
-from typing import (
-    IO,
-    Callable,
-    ContextManager,
-    Deque,
-    Iterable,
-    Iterator,
-    List,
-    Optional,
-    Sequence,
-    Tuple,
-    Union,
-)
+from typing import IO, Callable, Deque, Iterable, Iterator, List, Optional, Sequence, Tuple, Union
 
 from rdbg import children, replies
 from rdbg.commands import MOST_BYTES
@@ -52,8 +40,7 @@ def text_of(line: bytes) -> str:
 
 
 def said_by(words: Sequence[str], errors: Optional[int]) -> Tuple[bytes, int]:
-    """What a program says on standard output, and its status. Raises `OSError` where it can't be
-    started."""
+    """What a program says on standard output, and its status. Raises `OSError` without one."""
     pipe, none = subprocess.PIPE, subprocess.DEVNULL
     process = children.start(words, none, pipe, errors, signal.SIGTERM, is_apart=False)
     with process:
@@ -91,13 +78,6 @@ def built_by_wrapper(name: str) -> str:
     """The program of a name that `./rdbg` starts, as it was called itself."""
     file, words = wrapper()
     return built_by(file, " ".join(words), name)
-
-
-def uninterrupted() -> ContextManager[None]:
-    """As long as something is done that no signal may end halfway. (In another thread than the main
-    one none ever does.)"""
-    is_main = threading.current_thread() is threading.main_thread()
-    return ENDING.held() if is_main else contextlib.nullcontext()
 
 
 class Incoming:
@@ -227,8 +207,7 @@ class Session:
 
     @classmethod
     def attach(cls, port: int, name: Optional[str] = None) -> "Session":
-        """One more session at a server of this machine, at a room's by a name. Raises `Failure`
-        where none listens, or the name isn't let in."""
+        """One more session at a server, at a room's by a name. Raises `Failure` for none."""
         session = cls.over(connected(port), port)
         if name is not None:
             session._introduce(name)
@@ -244,9 +223,7 @@ class Session:
         """Says to a room who this is, behind the room's token where the environment has it."""
         token = os.environ.get("RDBG_TOKEN")
         lines = ([f"# token {token}"] if token else []) + [f"# name {name}"]
-        with contextlib.suppress(OSError):
-            self._lines.write("".join(f"{it}\n" for it in lines).encode("utf-8", "replace"))
-            self._lines.flush()
+        self._send("".join(f"{it}\n" for it in lines).encode("utf-8", "replace"))
         try:
             while self.name != name:
                 line = self._line()
@@ -288,8 +265,7 @@ class Session:
             yield from self._exchange(batch)
 
     def ask_all(self, lines: Iterable[str]) -> List[replies.Reply]:
-        """The replies to lines that are sent many at a time, as values. Raises `Refused` for the
-        first that is refused, when all are answered."""
+        """The replies to lines as values. Raises the first `Refused` when all are answered."""
         return [replies.read(reply) for reply in list(self.tell_all(lines))]
 
     def _exchange(self, batch: Sequence[str]) -> Iterator[str]:
@@ -297,16 +273,22 @@ class Session:
         if self.on_ask is not None:
             self.on_ask(batch)
         content = "".join(f"{line}\n" for line in batch).encode()
-        # (what was sent is owed, whenever a signal comes; where it has ended, it may have said why)
-        with uninterrupted(), contextlib.suppress(OSError):
+        # (what was sent is owed, whenever a signal comes: to the main thread, and to no other one)
+        is_main = threading.current_thread() is threading.main_thread()
+        with ENDING.held() if is_main else contextlib.nullcontext():
             self._owed += len(batch)
-            self._lines.write(content)
-            self._lines.flush()
+            self._send(content)
         for line in batch:
             reply = self._reply()
             if self.on_line is not None:
                 self.on_line(line, reply)
             yield reply
+
+    def _send(self, content: bytes) -> None:
+        """Sends lines. Where the other end has gone, what it said last may say why."""
+        with contextlib.suppress(OSError):
+            self._lines.write(content)
+            self._lines.flush()
 
     def _catch_up(self) -> None:
         """Reads the replies that an interrupt left unread."""
@@ -346,12 +328,9 @@ class Session:
             self._on_notice(notice)
 
     def remark(self, line: str) -> None:
-        """Says a line that begins with `#` to a room, and hears its answer. Raises `Failure` where
-        that has ended."""
+        """Says a line of `#` to a room, and hears its answer. Raises `Failure` without."""
         self._catch_up()
-        with contextlib.suppress(OSError):
-            self._lines.write(f"{line}\n".encode("utf-8", "replace"))
-            self._lines.flush()
+        self._send(f"{line}\n".encode("utf-8", "replace"))
         is_answered = False
         while not is_answered:
             heard = self._line()
@@ -364,13 +343,11 @@ class Session:
 
     def note(self, line: str) -> None:
         """Says a line that begins with `#`, and isn't answered, to a room; else it says nothing."""
+        content = line.replace("\n", " ").encode("utf-8", "replace")
+        if len(content) > MOST_BYTES:
+            content = content[: MOST_BYTES - 2].decode("utf-8", "ignore").encode() + b".."
         if self.name is not None:
-            with contextlib.suppress(OSError):
-                content = line.replace("\n", " ").encode("utf-8", "replace")
-                if len(content) > MOST_BYTES:
-                    content = content[: MOST_BYTES - 2].decode("utf-8", "ignore").encode() + b".."
-                self._lines.write(content + b"\n")
-                self._lines.flush()
+            self._send(content + b"\n")
 
     @contextlib.contextmanager
     def looking(self) -> Iterator[None]:
@@ -391,8 +368,7 @@ class Session:
         return self._answers.fileno() if isinstance(self._answers, PortLines) else None
 
     def hear_now(self) -> bool:
-        """Hears the notices that have come, while no reply is owed; false at the end, or where the
-        room has said it."""
+        """Hears notices, while no reply is owed; false at the end, also where the room says it."""
         if not isinstance(self._answers, PortLines):
             return False
         try:
@@ -426,8 +402,7 @@ class Session:
         return self._errors.read().decode("utf-8", "replace")
 
     def kill(self) -> None:
-        """Ends the session and its program at once, without the look at its history that the
-        program has at its end."""
+        """Ends the session and its program at once, without a look at its history."""
         if self._process is not None:
             self._process.kill()
         self.close()

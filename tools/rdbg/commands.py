@@ -3,14 +3,14 @@
 A form is written as in docs/COMMANDS.md: words in small letters stand as they are, the others are
 the symbols of what can stand there."""
 import dataclasses
-import re
-from typing import Callable, Dict, FrozenSet, Iterator, List, Optional, Sequence, Tuple, Type
+import itertools
+from typing import Callable, Dict, FrozenSet, Iterator, List, NamedTuple, Optional, Sequence, Tuple
 
 from rdbg import kinds, record, replies
 from rdbg.digits import number
+from rdbg.operands import MOST_NUMBER as MOST_NUMBER, is_bytes as is_bytes, is_name as is_name
 from rdbg.wording import with_article
 
-MOST_NUMBER = 4_294_967_295
 MOST_COUNT = 1_000_000
 MOST_WATCHES = 16
 MOST_BYTES = 1_024
@@ -23,7 +23,7 @@ CONDITION = "COND"
 TARGET, WHEEL, WATCHES = "target", "wheel", "watches"
 ALL: FrozenSet[str] = frozenset((TARGET, WHEEL, WATCHES))
 # What is answered to a line that changes each.
-ANSWERS: Dict[str, Type[object]] = {
+ANSWERS: Dict[str, type] = {
     TARGET: replies.Moved,
     WHEEL: replies.WheelDone,
     WATCHES: replies.WatchDone,
@@ -40,25 +40,13 @@ def is_count(word: str) -> bool:
     return number(word, MOST_COUNT, 1) is not None
 
 
-def is_name(word: str) -> bool:
-    """Whether a word has the form of a name."""
-    return re.fullmatch(r"[a-z][a-z0-9_]{0,15}", word) is not None
-
-
-def is_bytes(word: str) -> bool:
-    """Whether a word is 1 to 256 bytes, or none."""
-    return word == "-" or re.fullmatch(r"([0-9A-Fa-f]{2}){1,256}", word) is not None
-
-
 def is_watch(word: str) -> bool:
     """Whether a word stands for a watch."""
     return word[:1] == "w" and is_number(word[1:], MOST_WATCHES - 1)
 
 
-@dataclasses.dataclass(frozen=True)
-class Symbol:
-    """What can stand at a place of a form: how it is called, which words those are, and whether a
-    word is one of them."""
+class Symbol(NamedTuple):
+    """What can stand at a place of a form."""
 
     text: str
     noun: str
@@ -90,23 +78,21 @@ def fits(symbol: str, word: str) -> bool:
     return known.fits(word) if known else word == symbol
 
 
-@dataclasses.dataclass(frozen=True)
-class Form:
+class Form(NamedTuple):
     """A form of lines, or of conditions: how it is written, what it does, and (of lines) which
     replies there are beside refusals, whether it makes moves or takes them back, and on what its
     answer hangs, refusals among them. A line of a form that `changes` nothing is a look."""
 
     text: str
     does: str
-    answers: Optional[Type[object]] = None
+    answers: Optional[type] = None
     moves: bool = False
     changes: FrozenSet[str] = frozenset()
     hangs_on: FrozenSet[str] = ALL
 
     @property
     def is_look(self) -> bool:
-        """Whether its lines change nothing, so that one is answered as before as long as what its
-        answer hangs on hasn't changed."""
+        """Whether its lines change nothing, so that an answer stays as long as what it hangs on."""
         return self.answers is not None and not self.changes
 
     @property
@@ -122,7 +108,7 @@ class Form:
 
 def move(text: str, does: str) -> Form:
     """A form of lines that make moves, or take them back."""
-    return dataclasses.replace(change(TARGET, text, does), moves=True)
+    return change(TARGET, text, does)._replace(moves=True)
 
 
 def change(what: str, text: str, does: str) -> Form:
@@ -130,7 +116,7 @@ def change(what: str, text: str, does: str) -> Form:
     return Form(text, does, ANSWERS[what], False, frozenset((what,)))
 
 
-def look(text: str, does: str, answers: Type[object], *hangs_on: str) -> Form:
+def look(text: str, does: str, answers: type, *hangs_on: str) -> Form:
     """A form of lines that change nothing; their answer hangs on the target, or on what is said."""
     return Form(text, does, answers, False, frozenset(), frozenset(hangs_on or (TARGET,)))
 
@@ -185,8 +171,7 @@ FORMS: Tuple[Form, ...] = (
 WORDS: FrozenSet[str] = frozenset(form.word for form in FORMS)
 
 
-@dataclasses.dataclass(frozen=True)
-class Shape:
+class Shape(NamedTuple):
     """A form with one of the conditions in its place: what stands word for word."""
 
     form: Form
@@ -195,12 +180,8 @@ class Shape:
 
     def fitting(self, words: Sequence[str]) -> int:
         """How many of the words fit, from the first on."""
-        count = 0
-        for symbol, word in zip(self.symbols, words):
-            if not fits(symbol, word):
-                break
-            count += 1
-        return count
+        fit = (fits(symbol, word) for symbol, word in zip(self.symbols, words))
+        return sum(1 for _ in itertools.takewhile(bool, fit))
 
 
 def shapes_of(form: Form) -> Iterator[Shape]:
@@ -259,8 +240,5 @@ def read(line: str) -> Optional[Command]:
 
 def following(words: Sequence[str]) -> List[str]:
     """The words and symbols that can come next, each once; an empty one where the line can end."""
-    found: Dict[str, None] = {}
-    for shape in SHAPES:
-        if shape.fitting(words) == len(words) <= len(shape.symbols):
-            found[shape.symbols[len(words)] if len(words) < len(shape.symbols) else ""] = None
-    return list(found)
+    fitting = (it.symbols for it in SHAPES if it.fitting(words) == len(words))
+    return list(dict.fromkeys((*symbols, "")[len(words)] for symbols in fitting))

@@ -1,6 +1,6 @@
 """What a move did, as a value, found from the looks before and after it."""
 import dataclasses
-from typing import Callable, Dict, Iterator, List, Optional, Sequence, Tuple
+from typing import Callable, Dict, Iterator, List, NamedTuple, Optional, Sequence, Tuple
 
 from rdbg import replies
 from rdbg.by_hand import INTERRUPT, ByHand, edit_of, interrupt_of
@@ -12,10 +12,8 @@ LOCAL = ("set", "add", "move", "data", "pack", "unpack", "jump", "jumpz", "end")
 NOTIFICATIONS = ("notify", "query", "take", "nwait", "nclear", "vclear")
 
 
-@dataclasses.dataclass(frozen=True)
-class Effect:
-    """Something that a move did: its kind (a key of `TEXTS`), to which task or object, on which
-    core where one is meant, and how, in words."""
+class Effect(NamedTuple):
+    """Something that a move did, by a key of `TEXTS`, and on which core where one is meant."""
 
     kind: str
     name: str
@@ -197,14 +195,10 @@ def move_between(before: Look, after: Look, script: Script, known: Optional[ByHa
     core = after.cores.turn - 1
     task = before.cores.running[core] if 0 <= core < len(before.cores.running) else None
     if task is None or not could_step(before, after, task, script):
-        return done_by_hand(before, after, found_by_hand(before, after))
+        edit, interrupt = edit_of(before, after), interrupt_of(before, after)
+        found = ByHand(interrupt, 1) if edit is None and interrupt else ByHand(edit or "")
+        return done_by_hand(before, after, found)
     return stepped(before, after, core, task, script)
-
-
-def found_by_hand(before: Look, after: Look) -> ByHand:
-    """An edit or an interrupt of which nothing is known but the looks."""
-    edit, interrupt = edit_of(before, after), interrupt_of(before, after)
-    return ByHand(interrupt, 1) if edit is None and interrupt else ByHand(edit or "")
 
 
 def done_by_hand(before: Look, after: Look, known: ByHand) -> Move:
@@ -215,15 +209,8 @@ def done_by_hand(before: Look, after: Look, known: ByHand) -> Move:
     awake = list(woken(before, after, False))
     effects = [*holdings(before, after), *notes(before, after), *awake]
     effects += seats(before, after, [it.name for it in awake], None)
-    return Move(
-        after.place,
-        "isr",
-        line,
-        tick,
-        instruction=line,
-        answer=known.answer,
-        effects=tuple(effects),
-    )
+    what, answer = tuple(effects), known.answer
+    return Move(after.place, "isr", line, tick, instruction=line, answer=answer, effects=what)
 
 
 def could_step(before: Look, after: Look, task: str, script: Script) -> bool:
@@ -247,26 +234,13 @@ def stepped(before: Look, after: Look, core: int, task: str, script: Script) -> 
     was, now = before.tasks.get(task), after.tasks.get(task)
     text = script(task, was.pc) if was else None
     word = text.split()[0] if text else ""
-    answer: Optional[int] = None
-    effects: List[Effect] = []
-    if was and now:
-        if word and word not in LOCAL and now.phase.word == "run":
-            answer = now.registers[0]
-        effects += own(was, now, word or "set")
+    is_answered = word and word not in LOCAL and was and now and now.phase.word == "run"
+    answer = now.registers[0] if now and is_answered else None
+    effects = [*own(was, now, word or "set")] if was and now else []
     effects += holdings(before, after)
     if word in NOTIFICATIONS:
         effects += notes(before, after)
     awake = list(woken(before, after, False))
     effects += [*awake, *seats(before, after, [it.name for it in awake], None)]
-    return Move(
-        after.place,
-        "step",
-        f"step {core}",
-        after.cores.tick,
-        core=core,
-        task=task,
-        pc=was.pc if was else None,
-        instruction=text,
-        answer=answer,
-        effects=tuple(effects),
-    )
+    pc, tick, line = was.pc if was else None, after.cores.tick, f"step {core}"
+    return Move(after.place, "step", line, tick, core, task, pc, text, answer, tuple(effects))

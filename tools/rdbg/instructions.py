@@ -2,15 +2,14 @@
 
 A form is written as in docs/CALLS.md: its word, then the symbols of its operands. What an operand
 can be stands in `rdbg.operands`."""
-import dataclasses
-from typing import Dict, Optional, Tuple
+import itertools
+from typing import Dict, NamedTuple, Optional, Tuple
 
 from rdbg.operands import KIND_OF
 from rdbg.wording import rows
 
 
-@dataclasses.dataclass(frozen=True)
-class InstructionForm:
+class InstructionForm(NamedTuple):
     """A form of instructions: how it is written, the FreeRTOS names that it stands for, what it
     does, what its answer in r0 is, and what each operand is called where its kind says too little
     (`nouns`, one for each operand)."""
@@ -33,10 +32,8 @@ class InstructionForm:
 
     def texts(self) -> Tuple[str, ...]:
         """The form as the documents write it: `take I clear T` and `take I dec T`."""
-        found = [""]
-        for part in self.text.split(" "):
-            found = [f"{text} {choice}" for text in found for choice in part.split("|")]
-        return tuple(text[1:] for text in found)
+        choices = (part.split("|") for part in self.text.split(" "))
+        return tuple(map(" ".join, itertools.product(*choices)))
 
 
 def form(text: str, freertos: str, does: str, answer: str, nouns: str = "") -> InstructionForm:

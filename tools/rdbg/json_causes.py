@@ -1,4 +1,5 @@
 """The usual causes of a text that is no JSON: what stands there, and what would be right."""
+import contextlib
 import re
 from typing import Optional, Tuple
 
@@ -56,9 +57,8 @@ def no_value(text: str, at: int) -> str:
     if found:
         word = wording.shown(found.group())
         meant = VALUES.get(word.lower())
-        return f"{word} is no value of JSON" + (
-            f": {meant}?" if meant else f'; a text stands between quotes: "{word}"'
-        )
+        hint = f": {meant}?" if meant else f'; a text stands between quotes: "{word}"'
+        return f"{word} is no value of JSON{hint}"
     return f"{shown(sign)} begins no value"
 
 
@@ -71,24 +71,16 @@ def number(text: str, at: int) -> str:
     if word.startswith("+"):
         return f"{word}: a number has no plus sign"
     if re.match(r"-?0[xXbBoO]", word):
-        value = as_decimal(word)
-        return f"{word}: a number is decimal" + (f", {value}" if value else "")
+        with contextlib.suppress(ValueError):
+            return f"{word}: a number is decimal, {int(word, 0)}"
+        return f"{word}: a number is decimal"
     if re.match(r"-?0[0-9]", word):
         plain = word.lstrip("-0") or "0"
-        return f"{word}: a number has no zero in front" + (
-            f": {plain}" if is_digits(plain) and word[0] != "-" else ""
-        )
+        hint = f": {plain}" if is_digits(plain) and word[0] != "-" else ""
+        return f"{word}: a number has no zero in front{hint}"
     if re.match(r"-?\.", word) or re.fullmatch(r"-?[0-9]+\.", word):
         return f"{word}: digits stand before a point and behind it"
     return f"{word} is no number of JSON: it has digits alone"
-
-
-def as_decimal(word: str) -> str:
-    """The decimal number that `0x10` is, or an empty text."""
-    try:
-        return str(int(word, 0))
-    except ValueError:
-        return ""
 
 
 def begins_value(text: str, at: int) -> bool:
@@ -97,8 +89,7 @@ def begins_value(text: str, at: int) -> bool:
 
 
 def no_comma(text: str, behind: int, at: int, bracket: str) -> Tuple[int, str]:
-    """What is wrong behind a value that ended at `behind`, where something else stands than a comma
-    or the bracket; and where."""
+    """What is wrong behind a value, which ended at `behind`, and where, but for a comma."""
     sign = text[at]
     if sign == ":" and bracket == "]":
         return at, "a key stands in an object, { .. }, and this is a list"

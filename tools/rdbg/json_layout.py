@@ -14,13 +14,10 @@ DEFAULTS: Dict[str, int] = {"notes": 1, "tick": 0}
 
 def pairs(thing: Any, shape: Shape) -> List[Tuple[str, Any]]:
     """The keys of an object or a task with their values, in the documents' order."""
-    found: List[Tuple[str, Any]] = []
-    for key in shape.keys:
-        value = getattr(thing, key.name)
-        if key.holds == "code":
-            value = [instruction.text for instruction in value]
-        found.append((key.name, value))
-    return found
+    found = {key.name: getattr(thing, key.name) for key in shape.keys}
+    if "code" in found:
+        found["code"] = [instruction.text for instruction in found["code"]]
+    return list(found.items())
 
 
 def settings(app: Application) -> List[Tuple[str, int]]:
@@ -49,8 +46,7 @@ def list_text(name: str, things: Sequence[str], is_short: bool) -> str:
 
 
 def json_of(app: Application) -> str:
-    """The JSON of an application, with an end of line. Where it would be too long for rdbg if it
-    was laid out, it is on one line."""
+    """The JSON of an application; on one line where rdbg would refuse it laid out, as too long."""
     parts = [f'  "{name}": {value}' for name, value in settings(app)]
     plain: Dict[str, Any] = dict(settings(app))
     for key in FILE.keys:

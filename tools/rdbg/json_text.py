@@ -2,13 +2,12 @@
 
 What is taken is what the program takes: no comments, no commas too many, no byte order mark, at
 most 127 brackets within each other, numbers that a float holds, whole characters alone."""
-import bisect
 import re
-from typing import Callable, List, NoReturn, Optional, Sequence, Tuple, TypeVar
+from typing import Callable, List, Optional, Sequence, Tuple, TypeVar
 
 from rdbg import json_causes as causes
 from rdbg.failure import Failure
-from rdbg.tree import Fault, Member, Node, Number, Object, Place, Places, Value
+from rdbg.tree import Fault, Lines, Member, Node, Number, Object, Value
 
 NOT_JSON = "L1 NotJson"
 MOST_BYTES = 1_048_576
@@ -34,17 +33,15 @@ class NotJson(Exception):
 
 
 def read(content: bytes) -> Tuple[Optional[Node], List[Fault]]:
-    """The tree of a file's content, or none and why it is no JSON. Raises `Failure` where the file
-    is longer than rdbg reads."""
+    """The tree of a content, or why there is none. Raises `Failure` where it is too long."""
     if len(content) > MOST_BYTES:
-        raise Failure(
-            f"the file has {len(content):,} bytes, and rdbg reads {MOST_BYTES:,} at the most", 2
-        )
+        most = f"rdbg reads {MOST_BYTES:,} at the most"
+        raise Failure(f"the file has {len(content):,} bytes, and {most}", 2)
     try:
         text = content.decode("utf-8")
     except UnicodeDecodeError as error:
         good = content[: error.start].decode("utf-8")
-        return None, [Fault(Reader(good).place(len(good)), NOT_JSON, causes.encoding(error))]
+        return None, [Fault(Lines(good).place(len(good)), NOT_JSON, causes.encoding(error))]
     reader = Reader(text)
     try:
         return reader.file(), []
@@ -53,37 +50,26 @@ def read(content: bytes) -> Tuple[Optional[Node], List[Fault]]:
 
 
 class Reader:
-    """Reads a text from its beginning to its end. Each method takes where it begins, and answers
-    what stands there and where that ends."""
+    """Reads a text. Each method takes where it begins, and answers what is there and its end."""
 
     def __init__(self, text: str) -> None:
-        self.text = text
-        self.starts = [0, *(found.end() for found in re.finditer("\n", text))]
+        self.text, self.place = text, Lines(text).place
         self.open: List[int] = []
-
-    def place(self, at: int) -> Place:
-        """The line and the column of a character."""
-        line = bisect.bisect_right(self.starts, at)
-        return Place(line, at - self.starts[line - 1] + 1)
 
     def after_space(self, at: int) -> int:
         """Where the white space ends that begins here, or doesn't."""
         found = SPACE.match(self.text, at)
         return found.end() if found else at
 
-    def refuse(self, at: int, message: str) -> NoReturn:
-        """Says what is wrong."""
-        raise NotJson(at, message)
-
     def file(self) -> Node:
         """The one value of the text."""
         at = self.after_space(0)
         if at == len(self.text):
-            self.refuse(0, "the file is empty; an application is one JSON object, { .. }")
+            raise NotJson(0, "the file is empty; an application is one JSON object, { .. }")
         node, end = self.value(at)
         at = self.after_space(end)
         if at != len(self.text):
-            self.refuse(at, causes.behind_end(self.text, at))
+            raise NotJson(at, causes.behind_end(self.text, at))
         return node
 
     def value(self, at: int) -> Tuple[Node, int]:
@@ -94,7 +80,7 @@ class Reader:
             return self.string(at)
         if sign == "{" or sign == "[":
             if len(self.open) == MOST_DEPTH:
-                self.refuse(at, f"more than {MOST_DEPTH} brackets stand within each other")
+                raise NotJson(at, f"more than {MOST_DEPTH} brackets stand within each other")
             self.open.append(at)
             if sign == "{":
                 members, end = self.parts(at, "}", self.member)
@@ -109,17 +95,16 @@ class Reader:
         else:
             word = LITERAL.match(self.text, at)
             if not word:
-                self.refuse(at, self.cause(at) or causes.no_value(self.text, at))
+                raise NotJson(at, self.cause(at) or causes.no_value(self.text, at))
             value, end = LITERALS[word.group()], word.end()
         return Node(value, self.place(at)), end
 
     def number(self, digits: str, at: int) -> Number:
         """A number, which a float holds."""
-        end = at + len(digits)
-        if NUMBER_GOES_ON.match(self.text, end):
-            self.refuse(at, causes.number(self.text, at))
+        if NUMBER_GOES_ON.match(self.text, at + len(digits)):
+            raise NotJson(at, causes.number(self.text, at))
         if (len(digits) > 300 or "e" in digits or "E" in digits) and "inf" in str(float(digits)):
-            self.refuse(at, "the number is too large")
+            raise NotJson(at, "the number is too large")
         return Number(digits)
 
     def parts(
@@ -129,41 +114,35 @@ class Reader:
         found: List[Part] = []
         end = self.after_space(at + 1)
         comma: Optional[int] = None
-        while comma is not None or not self.closes(end, bracket):
-            if comma is not None and self.text[end : end + 1] in (bracket, ","):
-                self.refuse(comma if self.text[end] == bracket else end, causes.COMMA)
+        while comma is not None or not self.text.startswith(bracket, end):
+            if comma is not None and self.text.startswith((bracket, ","), end):
+                raise NotJson(comma if self.text[end] == bracket else end, causes.COMMA)
             part, end = read(end)
             found.append(part)
             end, comma = self.comma(end, bracket)
         return tuple(found), end + 1
 
-    def closes(self, at: int, bracket: str) -> bool:
-        """Whether this bracket stands here."""
-        return self.text[at : at + 1] == bracket
-
     def comma(self, at: int, bracket: str) -> Tuple[int, Optional[int]]:
-        """Where it goes on behind a value, and the comma that stands before that. Where the list or
-        the object ends there is none."""
+        """Where it goes on behind a value, and the comma before that; none at the end."""
         end = self.after_space(at)
-        if self.text[end : end + 1] == ",":
+        if self.text.startswith(",", end):
             return self.after_space(end + 1), end
-        if not self.closes(end, bracket):
+        if not self.text.startswith(bracket, end):
             cause = self.cause(end)
-            if cause is not None:
-                self.refuse(end, cause)
-            behind, message = causes.no_comma(self.text, at, end, bracket)
-            self.refuse(behind, message)
+            if cause is None:
+                raise NotJson(*causes.no_comma(self.text, at, end, bracket))
+            raise NotJson(end, cause)
         return end, None
 
     def member(self, at: int) -> Tuple[Member, int]:
         """A key with its value."""
         if self.text[at : at + 1] != '"':
-            self.refuse(at, self.cause(at) or causes.no_key(self.text, at))
+            raise NotJson(at, self.cause(at) or causes.no_key(self.text, at))
         node, end = self.string(at)
         key = str(node.value)
         colon = self.after_space(end)
         if self.text[colon : colon + 1] != ":":
-            self.refuse(colon, self.cause(colon) or causes.no_colon(self.text, colon))
+            raise NotJson(colon, self.cause(colon) or causes.no_colon(self.text, colon))
         value, end = self.value(self.after_space(colon + 1))
         return Member(key, node.place, value), end
 
@@ -194,14 +173,14 @@ class Reader:
             columns: Sequence[int] = range(first, first + len(value))
         else:
             value, columns, end = self.escaped(at, place.column)
-        return Node(value, place, Places(place.line, columns)), end
+        return Node(value, place, columns), end
 
     def escaped(self, start: int, column: int) -> Tuple[str, List[int], int]:
         """A text with escapes: its characters, the column of each, and its end."""
         parts: List[str] = []
         columns: List[int] = []
         at = start + 1
-        while not self.closes(at, '"'):
+        while not self.text.startswith('"', at):
             run = CHARACTERS.match(self.text, at)
             if run:
                 part, end = run.group(), run.end()
@@ -216,18 +195,18 @@ class Reader:
     def escape(self, start: int, at: int) -> Tuple[str, int]:
         """One character that is written by an escape."""
         if self.text[at : at + 1] != "\\":
-            self.refuse(*causes.in_text(self.text, start, at))
+            raise NotJson(*causes.in_text(self.text, start, at))
         sign = self.text[at + 1 : at + 2]
         if sign in ESCAPES:
             return ESCAPES[sign], at + 2
         found = HEX.match(self.text, at)
         if not found:
-            self.refuse(at, causes.escape(self.text, at))
+            raise NotJson(at, causes.escape(self.text, at))
         code = int(found.group(1), 16)
         if not 0xD800 <= code < 0xE000:
             return chr(code), at + 6
         low = HEX.match(self.text, at + 6)
         if code >= 0xDC00 or not low or not 0xDC00 <= int(low.group(1), 16) < 0xE000:
-            self.refuse(at, f"{found.group()} is half of a pair, and has no other half")
+            raise NotJson(at, f"{found.group()} is half of a pair, and has no other half")
         pair = 0x10000 + ((code - 0xD800) << 10) + int(low.group(1), 16) - 0xDC00
         return chr(pair), at + 12

@@ -1,14 +1,11 @@
 """The kinds of things that have a name, a table: each as `show` names it, as a form has it, as a
 file and a sentence call it, with the condition that says how much is in it, and how phases name the
 places where tasks wait at it."""
-import dataclasses
-from typing import Dict, Tuple
+from typing import Dict, NamedTuple, Tuple
 
 
-@dataclasses.dataclass(frozen=True)
-class Kind:
-    """A kind. `word` is what `show` has for it, `symbol` what stands in forms; `amount` is the word
-    of a condition, and `places` are those of phases."""
+class Kind(NamedTuple):
+    """A kind: the word of `show`, the symbol of forms, and the words of conditions and phases."""
 
     word: str
     symbol: str

@@ -1,6 +1,6 @@
 """A look at the target as a value: who runs, and each task and object as it is."""
 import dataclasses
-from typing import Dict, Iterable, List, Mapping, Optional, Sequence, Tuple, Union
+from typing import Dict, Iterable, List, Mapping, NamedTuple, Optional, Sequence, Tuple, Union
 
 from rdbg import kinds, replies
 from rdbg.application import Application
@@ -20,8 +20,7 @@ def key_of(it: Object) -> Key:
     return KINDS[type(it)], it.name
 
 
-@dataclasses.dataclass(frozen=True)
-class Names:
+class Names(NamedTuple):
     """What is looked at: tasks by name, objects by the kind that `show` has for them and name."""
 
     tasks: Tuple[str, ...] = ()

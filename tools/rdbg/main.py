@@ -5,18 +5,22 @@ import io
 import os
 import sys
 from types import ModuleType
-from typing import TYPE_CHECKING, List, Sequence
+from typing import List, NamedTuple, Sequence
 
 from rdbg import ending
 from rdbg.ending import ENDING
 from rdbg.failure import Failure
 
-if TYPE_CHECKING:
-    from rdbg.manual import Entry
-
 FOLDER = os.path.join(os.path.dirname(os.path.abspath(__file__)), "companions")
 # How the line begins on which a companion says what it is for.
 SUMMARY = 'SUMMARY = "'
+
+
+class Entry(NamedTuple):
+    """Words that may be written, and what they do."""
+
+    words: str
+    text: str
 
 
 def names() -> List[str]:
@@ -37,10 +41,8 @@ def summary(name: str) -> str:
     return line[len(SUMMARY) :].rstrip().rstrip('"')
 
 
-def entries() -> "List[Entry]":
+def entries() -> List[Entry]:
     """Each companion, with a line on what it is for."""
-    from rdbg.manual import Entry
-
     return [Entry(name, summary(name)) for name in names()]
 
 
@@ -48,7 +50,7 @@ def hint(words: Sequence[str]) -> int:
     """Says what is wrong with words that the program has refused, or that are none."""
     from rdbg import command_line
 
-    if words[:1] and words[0] in command_line.OF_COMMAND:
+    if words[0] in command_line.OF_COMMAND:
         found = command_line.why(words)
     else:
         found = command_line.unknown(words[0], [*command_line.OF_COMMAND, *names(), "install"])

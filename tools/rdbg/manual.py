@@ -1,23 +1,14 @@
 """What `rdbg --help` says and the page rdbg(1), both made from one source."""
-import dataclasses
 import textwrap
-from typing import Sequence, Tuple
+from typing import NamedTuple, Sequence, Tuple
 
+from rdbg.main import Entry
 from rdbg.wording import rows
 
 WIDTH = 79
 
 
-@dataclasses.dataclass(frozen=True)
-class Entry:
-    """Words that may be written, and what they do."""
-
-    words: str
-    text: str
-
-
-@dataclasses.dataclass(frozen=True)
-class Section:
+class Section(NamedTuple):
     """A part of the manual: a text, then entries. The help leaves out what isn't `brief`."""
 
     title: str

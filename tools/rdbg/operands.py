@@ -1,7 +1,6 @@
 """The operands of instructions: what each kind is, and whether a word has its form."""
-import dataclasses
 import re
-from typing import Dict, Mapping, Optional, Sequence, Tuple
+from typing import Dict, Mapping, NamedTuple, Optional, Sequence, Tuple
 
 from rdbg import kinds
 from rdbg.digits import is_digits
@@ -10,12 +9,11 @@ MOST_NUMBER = 4_294_967_295
 NAME = r"[a-z][a-z0-9_]{0,15}"
 DIGITS = r"[0-9]{1,10}"
 REGISTER = r"r[0-7]"
+BYTES = r"-|([0-9A-Fa-f]{2}){1,256}"
 
 
-@dataclasses.dataclass(frozen=True)
-class OperandKind:
-    """What an operand is: its symbol in a form, what it is called, what can stand there in words,
-    and a pattern that each such word has."""
+class OperandKind(NamedTuple):
+    """What an operand is, and the pattern of each word that can stand there."""
 
     symbol: str
     noun: str
@@ -36,12 +34,7 @@ KINDS: Tuple[OperandKind, ...] = (
     OperandKind("L", "target", "the number of an instruction", DIGITS),
     OperandKind("I", "index of a notification entry", "a number below notes", DIGITS),
     OperandKind("ROOM", "room", "1 to 256, the bytes that are read at the most", DIGITS),
-    OperandKind(
-        "HEX",
-        "bytes",
-        "1 to 256, as pairs of hexadecimal digits, or -",
-        "-|([0-9A-Fa-f]{2}){1,256}",
-    ),
+    OperandKind("HEX", "bytes", "1 to 256, as pairs of hexadecimal digits, or -", BYTES),
     OperandKind("ACTION", "action", "none, bits, inc, set or setif", "none|bits|inc|set|setif"),
     OperandKind("WISH", "wish", "any or all", "any|all"),
     OperandKind("CLR", "word for clearing", "keep or clear", "keep|clear"),
@@ -52,13 +45,13 @@ KIND_OF: Dict[str, OperandKind] = {kind.symbol: kind for kind in KINDS}
 # The kinds that are names, in the order of a file's keys.
 NAMED = tuple(it.symbol for it in kinds.ALL)
 PATTERN_OF = {kind.symbol: re.compile(kind.pattern) for kind in KINDS}
+# What C calls the actions of a notification.
+OF_C = "eNoAction eSetBits eIncrement eSetValueWithOverwrite eSetValueWithoutOverwrite"
+ACTIONS: Dict[str, str] = dict(zip(OF_C.split(), KIND_OF["ACTION"].words()))
 
 
-@dataclasses.dataclass(frozen=True)
-class Scope:
-    """What an instruction can name: the names of each kind under its symbol (`Q`, `K`, ..), the
-    notification entries that each task has, how many instructions its script has, and whether it
-    is written in lines."""
+class Scope(NamedTuple):
+    """What an instruction can name: the names by symbols, and how many entries and instructions."""
 
     names: Mapping[str, Sequence[str]]
     entries: int = 1
@@ -66,8 +59,7 @@ class Scope:
     in_lines: bool = False
 
     def limits(self, symbol: str) -> Optional[Tuple[int, int]]:
-        """The least and the largest number that can stand at an operand of this kind. The largest
-        is below the least where there is none; none where the kind isn't one of numbers."""
+        """The least and the largest number of such an operand; none where it isn't one."""
         if symbol in ("N", "V", "T"):
             return 0, MOST_NUMBER
         if symbol == "ROOM":
@@ -109,3 +101,8 @@ def are(entries: int) -> str:
 def is_name(text: str) -> bool:
     """Whether a text is a name."""
     return re.fullmatch(NAME, text) is not None
+
+
+def is_bytes(text: str) -> bool:
+    """Whether a text is 1 to 256 bytes, or none."""
+    return re.fullmatch(BYTES, text) is not None

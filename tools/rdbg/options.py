@@ -1,12 +1,25 @@
-"""What stands in words of command lines: numbers and ports."""
+"""Command lines: their words, and the numbers and ports in them."""
 import argparse
-from typing import Callable, Tuple
+from typing import Any, Callable, Tuple
 
 from rdbg.wording import shown
 from rdbg.digits import number
 
 MOST_COUNT = 1_000_000
 MOST_PORT = 65_535
+APPLICATION = "the application, JSON or in lines (.fw)"
+
+
+class Parser(argparse.ArgumentParser):
+    """Reads the words of a command line."""
+
+    def word(self, name: str, value: str, text: str, **more: Any) -> None:
+        """Takes an option, or what stands by itself: what its value is called, and what it is."""
+        self.add_argument(name, metavar=value, help=text, **more)
+
+    def flag(self, name: str, text: str, **more: Any) -> None:
+        """Takes an option without a value."""
+        self.add_argument(name, action="store_true", help=text, **more)
 
 
 def bounded(least: int, most: int = MOST_COUNT) -> Callable[[str], int]:

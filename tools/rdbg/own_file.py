@@ -41,8 +41,7 @@ def check(path: str, number: int) -> None:
 
 
 def opened(path: str, more: int) -> int:
-    """Opens a file to be written, which is made where `more` says so. Raises `Failure` for one that
-    isn't one's own, `OSError` where there is none to open."""
+    """Opens one's own file to be written. Raises `Failure` for one of others, or `OSError`."""
     found = links.behind(path)
     number = links.no_link(found, more, MODE)
     if links.is_open_already(found):

@@ -52,10 +52,8 @@ def asked(connection: socket.socket) -> Optional[int]:
 def listed(connection: socket.socket) -> Optional[int]:
     """Looks for the socket at the other end in the system's tables."""
     ends = [written(it) for it in (connection.getpeername(), connection.getsockname())]
-    for before, fields in rows():
-        if fields[1:3] == [before + it for it in ends]:
-            return user_of(fields)
-    return None
+    found = (it for before, it in rows() if it[1:3] == [before + end for end in ends])
+    return next(map(user_of, found), None)
 
 
 def callers(port: int) -> Dict[int, Optional[int]]:
@@ -96,8 +94,7 @@ def told(way: Owner, connection: socket.socket) -> Optional[int]:
 
 
 def way_to_tell() -> Optional[Owner]:
-    """The way by which this system says whose a connection is, tried on one of this process's own;
-    none where there is none."""
+    """How this system says whose a connection is, tried on one of this process's own; or none."""
     if sys.platform != "linux":
         return None
     with socket.socket() as listening, socket.socket() as ours:

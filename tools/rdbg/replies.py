@@ -4,7 +4,7 @@ A form is written as in docs/FORMATS.md: words in small letters stand as they ar
 are fields. A refusal is no value, but an exception with its name."""
 import dataclasses
 import re
-from typing import Any, Callable, Dict, List, Optional, Tuple, Union
+from typing import Any, Callable, Dict, List, NamedTuple, Optional, Tuple, Union
 
 from rdbg.digits import MOST_DIGITS, is_digits
 from rdbg.failure import Failure
@@ -209,11 +209,11 @@ def number(text: str) -> int:
     return int(text)
 
 
-def bit(text: str) -> int:
-    """0 or 1."""
-    if text not in ("0", "1"):
+def chosen(text: str, *words: str) -> str:
+    """One of these words."""
+    if text not in words:
         raise ValueError(text)
-    return int(text)
+    return text
 
 
 def name(text: str) -> str:
@@ -267,45 +267,35 @@ def phase(text: str) -> Phase:
 def note(text: str) -> Note:
     """An entry, as `5:received`."""
     value, state = text.split(":")
-    if state not in ("idle", "waiting", "received"):
-        raise ValueError(text)
-    return Note(number(value), state)
+    return Note(number(value), chosen(state, "idle", "waiting", "received"))
 
 
 def wish(text: str) -> Wish:
     """A waiter of a group, as `t0:3:all:clear`."""
     task, bits, which, after = text.split(":")
-    if which not in ("any", "all") or after not in ("keep", "clear"):
-        raise ValueError(text)
-    return Wish(name(task), number(bits), which == "all", after == "clear")
+    is_all, clears = chosen(which, "any", "all") == "all", chosen(after, "keep", "clear") == "clear"
+    return Wish(name(task), number(bits), is_all, clears)
 
 
 def holds(text: str) -> Tuple[int, bool]:
     """A watch, as `0:holds`."""
     which, state = text.split(":")
-    if state not in ("holds", "fails"):
-        raise ValueError(text)
-    return number(which), state == "holds"
+    return number(which), chosen(state, "holds", "fails") == "holds"
 
 
-@dataclasses.dataclass(frozen=True)
-class Form:
+class Form(NamedTuple):
     """A form of replies: how it is written, what it makes, and how each of its fields is read."""
 
     text: str
     make: Callable[..., Reply]
     fields: Tuple[Callable[[str], Any], ...] = ()
 
-    def pattern(self) -> "re.Pattern[str]":
-        """What a line of this form looks like."""
-        return re.compile(re.sub(r"[A-Z]+", r"([^ /]+)", self.text))
-
 
 NAMES = listed(name)
 SOMEBODY = or_nobody(name)
 FORMS: Tuple[Form, ...] = (
     Form("ok at N", Moved, (number,)),
-    Form("ok at N isr A", lambda at, answer: Moved(at, "", answer), (number, bit)),
+    Form("ok at N isr A", lambda at, it: Moved(at, "", int(chosen(it, "0", "1"))), (number, str)),
     Form("ok at N met", lambda at: Moved(at, "met"), (number,)),
     Form("ok at N limit", lambda at: Moved(at, "limit"), (number,)),
     Form("ok at N start", lambda at: Moved(at, "start"), (number,)),
@@ -355,7 +345,8 @@ REFUSALS: Dict[str, bool] = {
 # The forms by their first word, each with what its lines look like.
 BY_WORD: Dict[str, List[Tuple[Form, "re.Pattern[str]"]]] = {}
 for _form in FORMS:
-    BY_WORD.setdefault(_form.text.split(" ")[0], []).append((_form, _form.pattern()))
+    _pattern = re.compile(re.sub(r"[A-Z]+", r"([^ /]+)", _form.text))
+    BY_WORD.setdefault(_form.text.split(" ")[0], []).append((_form, _pattern))
 
 
 def refusal(line: str) -> Refused:

@@ -1,6 +1,5 @@
 """The shape of an application file: one table of the keys of each of its objects."""
-import dataclasses
-from typing import Optional, Tuple
+from typing import NamedTuple, Optional, Tuple
 
 from rdbg import kinds
 from rdbg.wording import by_word
@@ -9,8 +8,7 @@ MOST_TICK = 4_294_967_295
 MOST_INSTRUCTIONS = 256
 
 
-@dataclasses.dataclass(frozen=True)
-class Key:
+class Key(NamedTuple):
     """A key: what is said of it, and what its value is. `holds` is `number`, `name`, `code`,
     `members`, or `objects` of the shape `of`; `least` and `most` bound the number or the length of
     the list. `most_key` names a key whose number is the bound in place of `most`. `most_by_profile`
@@ -32,8 +30,7 @@ class Key:
         return dict(enumerate(self.most_by_profile, 1)).get(profile or 0, self.most)
 
 
-@dataclasses.dataclass(frozen=True)
-class Shape:
+class Shape(NamedTuple):
     """An object: what it is called, the symbol of its names, and its keys, in order."""
 
     noun: str

@@ -1,6 +1,7 @@
 """The beginning and the end of a companion: before its modules are there, and where they end."""
 import contextlib
 import os
+import re
 import signal
 import sys
 from typing import Iterator, List, Sequence
@@ -11,6 +12,7 @@ from rdbg.ending import ENDING, Terminated
 HERE = os.path.dirname(os.path.abspath(__file__))
 # Where these are missing it does without.
 NOT_NEEDED = ("readline",)
+IMPORT = re.compile(r"\s*(?:import (\S+)\s*$|from (\S+) import )")
 
 
 def used() -> Iterator[str]:
@@ -19,15 +21,7 @@ def used() -> Iterator[str]:
         for file in files:
             if file.endswith(".py"):
                 with open(os.path.join(folder, file), encoding="utf-8") as lines:
-                    yield from filter(None, map(imported, lines))
-
-
-def imported(line: str) -> str:
-    """The module that a line imports; empty where it is another line."""
-    words = line.split()
-    is_import = len(words) == 2 and words[0] == "import"
-    is_from = len(words) > 3 and words[0] == "from" and words[2] == "import"
-    return words[1] if is_import or is_from else ""
+                    yield from (it[1] or it[2] for it in map(IMPORT.match, lines) if it)
 
 
 def lacking() -> List[str]:

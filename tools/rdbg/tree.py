@@ -3,14 +3,15 @@
 The tree is that of the JSON which rdbg reads. A text in lines (`.fw`) is read into the same tree,
 with the places of its own lines, so that whoever looks for faults needs to know of one form alone.
 """
+import bisect
 import dataclasses
-from typing import Any, Iterator, List, Optional, Sequence, Tuple, Union
+import re
+from typing import Iterator, List, NamedTuple, Optional, Sequence, Tuple, Union
 
 from rdbg.digits import natural
 
 
-@dataclasses.dataclass(frozen=True, order=True)
-class Place:
+class Place(NamedTuple):
     """A line and a column of a text, both counted from 1, the column in characters."""
 
     line: int
@@ -20,26 +21,16 @@ class Place:
         return f"{self.line}:{self.column}"
 
 
-class Places(Sequence[Place]):
-    """The places of the characters of a text that stands on one line."""
+class Lines:
+    """The lines of a text, and the places of its characters in them."""
 
-    def __init__(self, line: int, columns: Sequence[int]) -> None:
-        self._line, self._columns = line, columns
+    def __init__(self, text: str) -> None:
+        self._begins = [0, *(it.end() for it in re.finditer("\n", text))]
 
-    def __len__(self) -> int:
-        return len(self._columns)
-
-    def __getitem__(self, index: Any) -> Any:
-        found = self._columns[index]
-        if isinstance(found, int):
-            return Place(self._line, found)
-        return Places(self._line, found)
-
-    def __eq__(self, other: object) -> bool:
-        return isinstance(other, (Places, tuple)) and tuple(self) == tuple(other)
-
-    def __hash__(self) -> int:
-        return hash(tuple(self))
+    def place(self, at: int) -> Place:
+        """The place of a character."""
+        line = bisect.bisect_right(self._begins, at)
+        return Place(line, at - self._begins[line - 1] + 1)
 
 
 @dataclasses.dataclass(frozen=True)
@@ -53,8 +44,7 @@ class Number:
         return natural(self.text, (1 << 64) - 1)
 
 
-@dataclasses.dataclass(frozen=True)
-class Member:
+class Member(NamedTuple):
     """A key of an object, with its value."""
 
     key: str
@@ -70,8 +60,7 @@ class Object:
 
     def get(self, key: str) -> Optional["Node"]:
         """The value of a key, the last one where it stands twice."""
-        found = [member.node for member in self.members if member.key == key]
-        return found[-1] if found else None
+        return next((it.node for it in reversed(self.members) if it.key == key), None)
 
 
 Value = Union[None, bool, Number, str, Tuple["Node", ...], Object]
@@ -91,20 +80,21 @@ class Part:
 
 @dataclasses.dataclass(frozen=True)
 class Node:
-    """A value and its place. Of a text, `places` are those of its characters, where they are known.
-    `written` is what stands there where it differs, as an instruction with a label, and `spelled`
-    each of its words; `part` is given where the line isn't the instruction itself."""
+    """A value and its place. Of a text, `columns` are those of its characters in its line, if they
+    are known. `written` is what stands there where it differs, as an instruction with a label, and
+    `spelled` each of its words; `part` is given where the line isn't the instruction itself."""
 
     value: Value
     place: Place
-    places: Sequence[Place] = ()
+    columns: Sequence[int] = ()
     written: Optional[str] = None
     spelled: Tuple[str, ...] = ()
     part: Optional[Part] = None
 
     def place_of(self, index: int) -> Place:
         """The place of a character of a text, or of the text where that isn't known."""
-        return self.places[index] if index < len(self.places) else self.place
+        known = self.columns[index : index + 1]
+        return Place(self.place.line, known[0]) if known else self.place
 
     def words(self) -> Iterator[Tuple[str, Place]]:
         """The words of a text, separated by spaces, each with its place."""
@@ -134,8 +124,7 @@ def objects(node: Optional[Node]) -> List[Object]:
     return [each.value for each in values if isinstance(each.value, Object)]
 
 
-@dataclasses.dataclass(frozen=True)
-class Fault:
+class Fault(NamedTuple):
     """A fault: where it is, its kind as rdbg says it (`L3 Limit`), and what would be right."""
 
     place: Place

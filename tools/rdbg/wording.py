@@ -39,7 +39,6 @@ def nearest(word: str, others: Iterable[str]) -> Optional[str]:
 
 
 def rows(table: str) -> List[List[str]]:
-    """The rows of a table, a line each, with `|` between their cells. A line that begins with
-    spaces goes on with the row above it."""
+    """The rows of a table, a line each of cells between `|`; one that is indented goes on."""
     lines = re.sub(r"\n +", " ", table.strip()).split("\n")
     return [[cell.strip() for cell in re.split(r" \|(?= |$)", line)] for line in lines]

@@ -41,8 +41,7 @@ def serve(
 
 
 def side_by_side(begin: Begin[Job, Answer], jobs: Sequence[Job], count: int) -> Iterator[Answer]:
-    """The answers to jobs, by so many processes, each of which begins by itself. What one of them
-    raises is raised here."""
+    """The answers to jobs, by so many processes. What one of them raises is raised here."""
     context = multiprocessing.get_context("fork")
     processes: List[multiprocessing.process.BaseProcess] = []
     pipes: List[Pipe] = []

@@ -254,7 +254,7 @@ class Places(unittest.TestCase):
 
     def test_each_character_has_one(self) -> None:
         for node in self.code():
-            self.assertEqual(len(str(node.value)), len(node.places))
+            self.assertEqual(len(str(node.value)), len(node.columns))
 
 
 if __name__ == "__main__":

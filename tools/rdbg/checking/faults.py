@@ -10,10 +10,10 @@ from typing import Dict, Iterator, List, Optional, Set, Tuple
 from rdbg.checking.reading import NAME_RULE, read
 from rdbg.checking.slips import as_bytes, is_binary
 from rdbg.digits import is_digits
-from rdbg.instructions import form_of, is_final
+from rdbg.instructions import FORM_OF, is_final
 from rdbg.operands import NAMED, PATTERN_OF, Scope, is_name, to_text
 from rdbg.shapes import FILE, NOT_THERE, OTHER_NAMES, Key, Shape
-from rdbg.tree import Fault, Node, Number, Object, Place, Value, kind_of, objects
+from rdbg.tree import Fault, Node, Number, Object, Place, kind_of, objects
 from rdbg.wording import nearest, quoted, shown
 
 SHAPE, LIMIT, NAME, INSTR = "L2 Shape", "L3 Limit", "L4 Name", "L5 Instr"
@@ -33,16 +33,6 @@ def faults_of(root: Node) -> List[Fault]:
     with contextlib.suppress(Enough):
         finder.file(root)
     return finder.faults
-
-
-def called(value: Value) -> str:
-    """What a value is called: `a list`, `the number 1.5`."""
-    return shown(kind_of(value))
-
-
-def bounds(key: Key) -> str:
-    """What a key's value can be: `how many bytes an item has, 1 to 64`."""
-    return f"{key.text}, {to_text(key.least, key.most)}" if key.holds == "number" else key.text
 
 
 def bound_by(key: Key, value: int, most: int) -> str:
@@ -75,29 +65,30 @@ class Finder:
         if len(self.faults) == MOST_FAULTS:
             raise Enough
 
+    def other(self, node: Node, subject: str, what: str) -> None:
+        """Keeps the fault of a value that is something else than it is to be."""
+        is_what = f"{subject} is {shown(kind_of(node.value))}, and is to be {what}"
+        self.fault(SHAPE, node.place, is_what)
+
     def file(self, root: Node) -> None:
         """The file: its keys in their order, then its scripts."""
         found = self.values(FILE, root, "the application")
         numbers: Dict[str, Optional[int]] = {"notes": 1}
-        for key in FILE.keys:
-            node = found.get(key.name)
+        for key in (it for it in FILE.keys if it.name in found):
             if key.of is not None:
-                self.list_of(key, key.of, node)
-            elif node is not None:
+                self.list_of(key, key.of, found[key.name])
+            else:
                 most = key.most_in(numbers.get("profile"))
-                numbers[key.name] = self.number(key, node, "", most)
+                numbers[key.name] = self.number(key, found[key.name], "", most)
         names = {symbol: list(names) for symbol, names in self.names.items()}
         for label, code in self.scripts:
             self.script(label, code, Scope(names, numbers["notes"] or MOST_ENTRIES, len(code)))
 
-    def list_of(self, key: Key, shape: Shape, node: Optional[Node]) -> None:
+    def list_of(self, key: Key, shape: Shape, node: Node) -> None:
         """A list of objects of one kind."""
-        if node is None:
-            return
         if not isinstance(node.value, tuple):
             self.unsure.add(shape.symbol)
-            message = f"{key.name} is {called(node.value)}, and is to be a list of {shape.plural}"
-            self.fault(SHAPE, node.place, message)
+            self.other(node, key.name, f"a list of {shape.plural}")
             return
         if len(node.value) < key.least:
             message = f"{key.name} is empty; an application has a {shape.noun} at least"
@@ -110,19 +101,16 @@ class Finder:
 
     def object(self, shape: Shape, node: Node, index: int) -> None:
         """An object of a list: its keys in their order."""
+        name = node.value.get("name") if isinstance(node.value, Object) else None
         label = f"{shape.noun} number {index}"
-        if isinstance(node.value, Object):
-            name = node.value.get("name")
-            if name is not None and isinstance(name.value, str):
-                label = f"{shape.noun} {name.value if is_name(name.value) else quoted(name.value)}"
+        if name is not None and isinstance(name.value, str):
+            label = f"{shape.noun} {name.value if is_name(name.value) else quoted(name.value)}"
         found = self.values(shape, node, label)
         if "name" not in found:
             self.unsure.add(shape.symbol)
         numbers: Dict[str, Optional[int]] = {}
-        for key in shape.keys:
-            value = found.get(key.name)
-            if value is None:
-                continue
+        for key in (it for it in shape.keys if it.name in found):
+            value = found[key.name]
             if key.holds == "name":
                 self.name(shape, value, label)
             elif key.holds == "number":
@@ -138,25 +126,22 @@ class Finder:
     def values(self, shape: Shape, node: Node, label: str) -> Dict[str, Node]:
         """The values of an object's keys; that of a key with a slip in it counts as the key's."""
         if not isinstance(node.value, Object):
-            keys = ", ".join(shape.names())
-            message = f"{label} is {called(node.value)}, and is to be an object ({keys})"
-            self.fault(SHAPE, node.place, message)
+            self.other(node, label, f"an object ({', '.join(shape.names())})")
             return {}
         given = {member.key: member for member in node.value.members}
         found = {key: given[key].node for key in shape.names() if key in given}
-        for member in given.values():
-            if member.key not in shape.names():
-                meant, said = self.meant(shape, member.key)
-                message = f"{label}: {quoted(member.key)} is none of its keys"
-                self.fault(SHAPE, member.place, message + said)
-                if meant and meant not in found:
-                    found[meant] = member.node
-                elif shape is FILE:
-                    self.refuse_names(member.node)
-        for key in shape.keys:
-            if key.is_needed and key.name not in found:
-                message = f"{label} lacks its key {key.name} ({bounds(key)})"
-                self.fault(SHAPE, node.place, message)
+        for member in (it for it in given.values() if it.key not in shape.names()):
+            meant, said = self.meant(shape, member.key)
+            said = f"{label}: {quoted(member.key)} is none of its keys{said}"
+            self.fault(SHAPE, member.place, said)
+            if meant and meant not in found:
+                found[meant] = member.node
+            elif shape is FILE:
+                self.refuse_names(member.node)
+        for key in (it for it in shape.keys if it.is_needed and it.name not in found):
+            limits = f", {to_text(key.least, key.most)}" if key.holds == "number" else ""
+            message = f"{label} lacks its key {key.name} ({key.text}{limits})"
+            self.fault(SHAPE, node.place, message)
         return found
 
     def refuse_names(self, node: Node) -> None:
@@ -169,23 +154,20 @@ class Finder:
 
     def meant(self, shape: Shape, key: str) -> Tuple[str, str]:
         """The key that another is meant to be, if there is one, and what to say of it."""
-        small = key.lower()
+        small, names = key.lower(), shape.names()
         calls = {each.freertos.lower(): each.name for each in shape.keys if each.freertos}
         other = calls.get(small, OTHER_NAMES.get(small, ""))
-        near = other if other in shape.names() else nearest(key, shape.names())
-        if near:
-            return near, f": {near}?"
-        if small in NOT_THERE:
-            return "", f"; {NOT_THERE[small]}"
-        return "", f" ({', '.join(shape.names())})"
+        near = other if other in names else nearest(key, names)
+        why = f"; {NOT_THERE[small]}" if small in NOT_THERE else f" ({', '.join(names)})"
+        return near or "", f": {near}?" if near else why
 
     def number(self, key: Key, node: Node, label: str, most: int) -> Optional[int]:
         """A number within its limits, or none after a fault."""
         subject, limits = f"{label}{key.name}", to_text(key.least, most)
         if not isinstance(node.value, Number):
-            message = f"{subject} is {called(node.value)}, and is to be a number, {limits}"
-            digits = isinstance(node.value, str) and is_digits(node.value)
-            self.fault(SHAPE, node.place, message + ("; a number has no quotes" if digits else ""))
+            is_quoted = isinstance(node.value, str) and is_digits(node.value)
+            hint = "; a number has no quotes" if is_quoted else ""
+            self.other(node, subject, f"a number, {limits}{hint}")
             return None
         value = node.value.natural()
         if value is None:
@@ -201,8 +183,7 @@ class Finder:
         """A name, which is the first of its kind."""
         if not isinstance(node.value, str):
             self.unsure.add(shape.symbol)
-            message = f"{label}: name is {called(node.value)}, and is to be a text"
-            self.fault(SHAPE, node.place, message)
+            self.other(node, f"{label}: name", "a text")
             return
         first = self.names[shape.symbol].get(node.value)
         if not is_name(node.value):
@@ -219,14 +200,12 @@ class Finder:
     def members_of(self, node: Node, label: str) -> None:
         """The members of a queue set: queues that are in no set yet."""
         if not isinstance(node.value, tuple):
-            message = f"{label}: members is {called(node.value)}, and is to be a list of names"
-            self.fault(SHAPE, node.place, message)
+            self.other(node, f"{label}: members", "a list of names")
             return
         for member in node.value:
             name = member.value
             if not isinstance(name, str):
-                message = f"{label}: a member is {called(name)}, and is to be a queue's name"
-                self.fault(SHAPE, member.place, message)
+                self.other(member, f"{label}: a member", "a queue's name")
             elif name in self.members:
                 message = f"{label}: queue {name} is a member of {self.members[name]} already"
                 self.fault(NAME, member.place, message)
@@ -240,8 +219,7 @@ class Finder:
     def code(self, key: Key, node: Node, label: str) -> None:
         """A script, whose instructions are read once all names are known."""
         if not isinstance(node.value, tuple):
-            message = f"{label}: code is {called(node.value)}, and is to be a list of instructions"
-            self.fault(SHAPE, node.place, message)
+            self.other(node, f"{label}: code", "a list of instructions")
             return
         count = len(node.value)
         if not count:
@@ -252,8 +230,7 @@ class Finder:
             self.fault(LIMIT, node.value[key.most].place, message)
         for index, each in enumerate(node.value):
             if not isinstance(each.value, str):
-                what = f"{label}, instruction {index} is {called(each.value)}"
-                self.fault(SHAPE, each.place, f"{what}, and is to be a text")
+                self.other(each, f"{label}, instruction {index}", "a text")
         self.scripts.append((label, node.value))
 
     def script(self, label: str, code: Tuple[Node, ...], scope: Scope) -> None:
@@ -261,8 +238,8 @@ class Finder:
         for index, node in enumerate(code):
             if isinstance(node.value, str):
                 self.instruction(f"{label}, instruction {index}: {written(node)}", node, scope)
-        words = [word for word, _ in code[-1].words()] if code else []
-        if words and form_of(words[0]) is not None and not is_final(words[0]):
+        word = next((word for word, _ in code[-1].words()), "") if code else ""
+        if word in FORM_OF and not is_final(word):
             what = f"{label}, instruction {len(code) - 1}: {written(code[-1])}"
             message = f"{what}: the script goes on behind it; its last instruction is end or jump"
             self.fault(INSTR, code[-1].place, message)
@@ -300,8 +277,7 @@ def binary(node: Node) -> Iterator[Fault]:
 
 
 def remarks_of(root: Node) -> List[Fault]:
-    """What is no fault to rdbg, and most likely one all the same: a key that stands twice, and
-    bytes that look like a number."""
+    """What is no fault to rdbg, but likely one: a key that stands twice, bytes like a number."""
     found: List[Fault] = []
     values = [root]
     while values:

@@ -121,7 +121,6 @@ def sentence(word: str, in_lines: bool = False) -> Optional[str]:
     words = {**WORDS, **(IN_LINES if in_lines else {})}
     if name.lower() in words:
         return f"{name} is written {words[name.lower()]}"
-    for pattern, why in MISSING.items():
-        if re.fullmatch(pattern, plain, re.IGNORECASE):
-            return f"nothing stands for {name}: {why}"
-    return None
+    missing = (it for pattern, it in MISSING.items() if re.fullmatch(f"(?i){pattern}", plain))
+    why = next(missing, None)
+    return f"nothing stands for {name}: {why}" if why else None

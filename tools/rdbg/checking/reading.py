@@ -1,81 +1,17 @@
 """Reads an instruction: its form and operands, or what is wrong with it and what would be right."""
-import dataclasses
 import itertools
 import re
-from typing import Dict, Iterator, List, Optional, Sequence, Tuple
+from typing import Dict, Iterator, List, NamedTuple, Optional, Sequence, Tuple
 
 from rdbg.checking.freertos import sentence
 from rdbg.checking.slips import CONSTANTS, slip, statement
-from rdbg.instructions import FORM_OF, InstructionForm, form_of
+from rdbg.instructions import FORM_OF, InstructionForm
 from rdbg.operands import KIND_OF, NAMED, PATTERN_OF, Scope
 from rdbg.tree import Node, Place
 from rdbg.wording import nearest, shown, with_article
 
 # So many words at the most are too many for a look at which of them they are.
 FEW = 3
-
-
-class Layout:
-    """Lays words against the kinds of operands, given by their symbols; both by their indices."""
-
-    def __init__(self, symbols: Sequence[str], words: Sequence[str], scope: Scope) -> None:
-        self.symbols, self.words, self.scope = symbols, words, scope
-
-    def fits(self, operand: int, word: int) -> bool:
-        """Whether a word has the form of an operand."""
-        return self.scope.fits(self.symbols[operand], self.words[word])
-
-    def weight(self, operand: int, word: int) -> int:
-        """How well a word fits an operand; a name that nothing has fits less than others."""
-        symbol, text = self.symbols[operand], self.words[word]
-        is_there = symbol not in NAMED or text in self.scope.names.get(symbol, ())
-        if self.fits(operand, word):
-            return 2 + 2 * is_there
-        # (`pdTRUE` is meant to be `clear`; a variable is no operand)
-        return -1 if text.startswith("&") else int(text.lower() in CONSTANTS.get(symbol, ()))
-
-    def unfit(self) -> List[Tuple[int, int]]:
-        """The operands, each with its word, that haven't the form of the operand."""
-        return [pair for pair in self.choice().items() if not self.fits(*pair)]
-
-    def in_order(self) -> Optional[Dict[int, int]]:
-        """Which word is which operand, where all are right in another order than they stand in."""
-        operands, words = len(self.symbols), len(self.words)
-        unfit = self.unfit() if words <= operands else []
-        if not unfit or any(self.is_of_kind(*pair) for pair in unfit):
-            return None
-        fits = [[self.fits(operand, word) for word in range(words)] for operand in range(operands)]
-        orders = itertools.permutations(range(operands), words)
-        fitting = [it for it in orders if all(fits[at][word] for word, at in enumerate(it))]
-        # (the order that moves the fewest words, of which names those that are there are more)
-        best = min(fitting, default=None, key=self.moved)
-        return None if best is None else {at: word for word, at in enumerate(best)}
-
-    def moved(self, order: Sequence[int]) -> Tuple[int, int]:
-        """How far an order is from the one that the words stand in."""
-        weight = sum(self.weight(at, word) for word, at in enumerate(order))
-        if len(order) == len(self.symbols):
-            return -sum(at == word for word, at in enumerate(order)), -weight
-        return sum(one > other for one, other in itertools.combinations(order, 2)), -weight
-
-    def is_of_kind(self, operand: int, word: int) -> bool:
-        """Whether a word has the form of an operand, but for a limit."""
-        return PATTERN_OF[self.symbols[operand]].fullmatch(self.words[word]) is not None
-
-    def choice(self) -> Dict[int, int]:
-        """Which word is which operand, in their order, so that as many as can be fit."""
-        operands, words = len(self.symbols), len(self.words)
-        few = min(operands, words)
-        if words > operands + FEW:
-            return {at: at for at in range(few)}
-        best = max(
-            itertools.product(
-                itertools.combinations(range(operands), few),
-                itertools.combinations(range(words), few),
-            ),
-            key=lambda pair: sum(self.weight(*each) for each in zip(*pair)),
-        )
-        return dict(zip(*best))
 
 
 Word = Tuple[str, Place]
@@ -94,10 +30,8 @@ INSTEAD = (
 )
 
 
-@dataclasses.dataclass(frozen=True)
-class Operand:
-    """An operand: its kind's symbol, its name, its word, where that stands, and how it is
-    written."""
+class Operand(NamedTuple):
+    """An operand: its kind's symbol, its name, its word and place, and how it is written."""
 
     symbol: str
     noun: str
@@ -106,10 +40,8 @@ class Operand:
     spelled: str
 
 
-@dataclasses.dataclass(frozen=True)
-class InstructionFault:
-    """What is wrong with an instruction; the kind as rdbg says it, and the symbol and the word of
-    the operand that is to blame, where one is."""
+class InstructionFault(NamedTuple):
+    """What is wrong with an instruction, and the operand that is to blame, where one is."""
 
     kind: str
     message: str
@@ -118,10 +50,8 @@ class InstructionFault:
     word: str = ""
 
 
-@dataclasses.dataclass(frozen=True)
-class Reading:
-    """An instruction: its form, none for an unknown word; its operands as far as they could be told
-    apart; its faults, those of rdbg's first kind first."""
+class Reading(NamedTuple):
+    """An instruction: its operands as far as they were told apart, rdbg's first faults first."""
 
     form: Optional[InstructionForm]
     operands: Tuple[Operand, ...] = ()
@@ -134,19 +64,18 @@ def read(node: Node, scope: Scope) -> Reading:
     words = list(node.words())
     if not words:
         return refused(None, "it is empty", node.place)
-    form = form_of(words[0][0])
+    form = FORM_OF.get(words[0][0])
     if form is None:
         return refused(None, unknown([word for word, _ in words], scope), words[0][1])
     in_text = text_in_quotes(" ".join(word for word, _ in words[1:]))
     if form.word == "data" and in_text:
         return refused(form, in_text, words[1][1])
-    known = dataclasses.replace(scope, in_lines=node.written is not None)
+    known = scope._replace(in_lines=node.written is not None)
     return Reader(form, words, known, node).read()
 
 
 def text_in_quotes(text: str) -> str:
-    """What to write in place of bytes that are a text in quotes, as `'A'`; empty where they are
-    no such text."""
+    """What to write in place of bytes that are a text in quotes, as `'A'`; empty for others."""
     found = re.fullmatch(r"(['\"])(.+?)\1?", text)
     if not found:
         return ""
@@ -195,16 +124,64 @@ class Reader:
     ) -> None:
         self.form, self.scope, self.place = form, scope, node.place
         self.words, self.symbols = words[1:], form.symbols
-        self.layout = Layout(self.symbols, [word for word, _ in self.words], scope)
         is_spelled = len(node.spelled) == len(words)
         self.spelled = node.spelled[1:] if is_spelled else [word for word, _ in self.words]
         self.faults: List[InstructionFault] = []
 
+    def fits(self, operand: int, word: int) -> bool:
+        """Whether a word has the form of an operand."""
+        return self.scope.fits(self.symbols[operand], self.words[word][0])
+
+    def weight(self, operand: int, word: int) -> int:
+        """How well a word fits an operand; a name that nothing has fits less than others."""
+        symbol, text = self.symbols[operand], self.words[word][0]
+        is_there = symbol not in NAMED or text in self.scope.names.get(symbol, ())
+        if self.fits(operand, word):
+            return 2 + 2 * is_there
+        # (`pdTRUE` is meant to be `clear`; a variable is no operand)
+        return -1 if text.startswith("&") else int(text.lower() in CONSTANTS.get(symbol, ()))
+
+    def unfit(self) -> List[Tuple[int, int]]:
+        """The operands, each with its word, that haven't the form of the operand."""
+        return [pair for pair in self.choice().items() if not self.fits(*pair)]
+
+    def in_order(self) -> Optional[Dict[int, int]]:
+        """Which word is which operand, where all are right in another order than they stand in."""
+        operands, words = len(self.symbols), len(self.words)
+        unfit = self.unfit() if words <= operands else []
+        # (one that has the form of its operand, but for a limit, stands where it is meant to)
+        kinds = [PATTERN_OF[self.symbols[at]].fullmatch(self.words[word][0]) for at, word in unfit]
+        if not unfit or any(kinds):
+            return None
+        fits = [[self.fits(operand, word) for word in range(words)] for operand in range(operands)]
+        orders = itertools.permutations(range(operands), words)
+        fitting = [it for it in orders if all(fits[at][word] for word, at in enumerate(it))]
+        # (the order that moves the fewest words, of which names those that are there are more)
+        best = min(fitting, default=None, key=self.moved)
+        return None if best is None else {at: word for word, at in enumerate(best)}
+
+    def moved(self, order: Sequence[int]) -> Tuple[int, int]:
+        """How far an order is from the one that the words stand in."""
+        weight = sum(self.weight(at, word) for word, at in enumerate(order))
+        if len(order) == len(self.symbols):
+            return -sum(at == word for word, at in enumerate(order)), -weight
+        return sum(one > other for one, other in itertools.combinations(order, 2)), -weight
+
+    def choice(self) -> Dict[int, int]:
+        """Which word is which operand, in their order, so that as many as can be fit."""
+        operands, words = len(self.symbols), len(self.words)
+        few = min(operands, words)
+        if words > operands + FEW:
+            return {at: at for at in range(few)}
+        choices = (itertools.combinations(range(count), few) for count in (operands, words))
+        pairs = (list(zip(*pair)) for pair in itertools.product(*choices))
+        return dict(max(pairs, key=lambda it: sum(self.weight(*each) for each in it)))
+
     def read(self) -> Reading:
         """The operands and the faults."""
-        order = self.layout.in_order()
+        order = self.in_order()
         if order is not None:
-            first = min(word for _, word in self.layout.unfit())
+            first = min(word for _, word in self.unfit())
             return refused(self.form, self.another_order(order), self.words[first][1])
         operands: List[Operand] = []
         for operand in self.aligned():
@@ -228,10 +205,9 @@ class Reader:
         return f"{lacks}, and its words stand in another order; write {line}"
 
     def aligned(self) -> Iterator[Operand]:
-        """Each operand that has a word, after a fault where operands lack a word, or words are
-        left over."""
+        """Each operand that has a word, after faults for what is lacking and left over."""
         operands, words = len(self.symbols), len(self.words)
-        chosen = self.layout.choice()
+        chosen = self.choice()
         missing = [at for at in range(operands) if at not in chosen]
         if missing:
             parts = [self.described(at) for at in missing]
@@ -272,9 +248,7 @@ class Reader:
             message = f"{self.form.text}: {said} can't be its {operand.noun} ({rule})"
             self.fault(message + (f"; {meant}" if meant else ""), operand.place, operand)
         elif symbol in NAMED and word not in self.scope.names.get(symbol, ()):
-            self.faults.append(
-                InstructionFault(NAME, self.nobody(symbol, word), operand.place, symbol, word)
-            )
+            self.fault(self.nobody(symbol, word), operand.place, operand, NAME)
 
     def said(self, operand: Operand) -> str:
         """A word as it is written, with its number where it is written by a name."""
@@ -306,7 +280,9 @@ class Reader:
         few = ", ".join(names[:FEW]) + (", .." if len(names) > FEW else "")
         return f"{said}; there is {few}" if len(names) == 1 else f"{said}; there are {few}"
 
-    def fault(self, message: str, place: Place, operand: Optional[Operand] = None) -> None:
-        """Keeps a fault of form."""
+    def fault(
+        self, message: str, place: Place, operand: Optional[Operand] = None, kind: str = INSTR
+    ) -> None:
+        """Keeps a fault."""
         symbol, word = (operand.symbol, operand.word) if operand else ("", "")
-        self.faults.append(InstructionFault(INSTR, message, place, symbol, word))
+        self.faults.append(InstructionFault(kind, message, place, symbol, word))

@@ -1,23 +1,17 @@
 """What a word was meant to be that can't stand where it does: `portMAX_DELAY` for `max`. And what
 a line is for which a line of C was written."""
 import re
-from typing import Callable, Dict, Match, Optional, Sequence, Tuple
+from typing import Dict, Iterator, Match, Optional, Sequence, Tuple
 
 from rdbg.digits import is_digits
-from rdbg.operands import KIND_OF, MOST_NUMBER, Scope, are
+from rdbg.operands import ACTIONS, KIND_OF, MOST_NUMBER, Scope, are
 from rdbg.wording import by_word, nearest
 
 YES, NO = "pdtrue true 1", "pdfalse false 0"
 # What C calls the words of operands, by the symbols of these.
 CONSTANTS: Dict[str, Dict[str, str]] = {
     "T": by_word({"max": "portmax_delay forever infinite -1"}),
-    "ACTION": {
-        "enoaction": "none",
-        "esetbits": "bits",
-        "eincrement": "inc",
-        "esetvaluewithoverwrite": "set",
-        "esetvaluewithoutoverwrite": "setif",
-    },
+    "ACTION": {name.lower(): word for name, word in ACTIONS.items()},
     "WISH": by_word({"all": YES, "any": NO}),
     "CLR": by_word({"clear": YES, "keep": NO}),
     "clear|dec": by_word({"clear": YES, "dec": NO}),
@@ -67,16 +61,6 @@ def number_slip(symbol: str, word: str, scope: Scope) -> Optional[str]:
     return None
 
 
-def register_slip(symbol: str, word: str, scope: Scope) -> Optional[str]:
-    """The register that a word is: `R1`."""
-    small = word.lower()
-    if symbol in ("R", "V", "T") and small != word and scope.fits(symbol, small):
-        return f"write {small}"
-    if symbol == "R" and re.fullmatch(r"[0-7]", word):
-        return f"r{word}?"
-    return None
-
-
 def is_binary(word: str) -> bool:
     """Whether a word is a binary number as C has it, whatever else it may be."""
     return BINARY.fullmatch(word) is not None
@@ -88,10 +72,8 @@ def as_bytes(word: str) -> str:
     return f"{int(bits, 2):0{2 * ((len(bits) + 7) // 8)}x}"
 
 
-def bytes_slip(symbol: str, word: str, scope: Scope) -> Optional[str]:
+def bytes_slip(word: str) -> Optional[str]:
     """What is wrong with bytes."""
-    if symbol != "HEX":
-        return None
     if is_binary(word):
         return f"write {as_bytes(word)}"
     if re.fullmatch(r"0[xX]([0-9A-Fa-f]{2})+", word):
@@ -104,43 +86,30 @@ def bytes_slip(symbol: str, word: str, scope: Scope) -> Optional[str]:
     return None
 
 
-def constant_slip(symbol: str, word: str, scope: Scope) -> Optional[str]:
-    """What stands for a constant of C."""
-    meant = CONSTANTS.get(symbol, {}).get(word.lower())
+def slips(symbol: str, word: str, scope: Scope) -> Iterator[Optional[str]]:
+    """What may be meant by a word that is no such operand, the likeliest first."""
+    small, bare = word.lower(), word.strip("(){},;&\"'\t ")
+    meant = CONSTANTS.get(symbol, {}).get(small)
     if meant is None and symbol in ("V", "T"):
-        meant = CONSTANTS["N"].get(word.lower())
-    return f"write {meant}" if meant else None
-
-
-def stray_slip(symbol: str, word: str, scope: Scope) -> Optional[str]:
-    """A word that would do without the characters of C round it, or in small letters."""
-    bare = word.strip("(){},;&\"'\t ")
-    for meant in (bare, bare.lower()):
-        if meant != word and scope.fits(symbol, meant):
-            return f"write {meant}"
+        meant = CONSTANTS["N"].get(small)
+    yield f"write {meant}" if meant else None
+    if symbol in ("R", "V", "T") and small != word and scope.fits(symbol, small):
+        yield f"write {small}"
+    if symbol == "R" and re.fullmatch(r"[0-7]", word):
+        yield f"r{word}?"
+    yield bytes_slip(word) if symbol == "HEX" else number_slip(symbol, word, scope)
+    for it in (bare, bare.lower()):
+        if it != word and scope.fits(symbol, it):
+            yield f"write {it}"
     if "\t" in word:
-        return "words are separated by spaces alone, and here is a tab"
-    return None
-
-
-def near_slip(symbol: str, word: str, scope: Scope) -> Optional[str]:
-    """The nearest of the words, or of the names, that can stand there."""
+        yield "words are separated by spaces alone, and here is a tab"
     near = nearest(word, scope.names.get(symbol, KIND_OF[symbol].words()))
-    return f"{near}?" if near else None
-
-
-READERS: Tuple[Callable[[str, str, Scope], Optional[str]], ...] = (
-    constant_slip, register_slip, bytes_slip, number_slip, stray_slip, near_slip,
-)  # fmt: skip
+    yield f"{near}?" if near else None
 
 
 def slip(symbol: str, word: str, scope: Scope) -> str:
     """What to write in place of a word that is no such operand; empty where nothing is near."""
-    for read in READERS:
-        found = read(symbol, word, scope)
-        if found is not None:
-            return found
-    return ""
+    return next(filter(None, slips(symbol, word, scope)), "")
 
 
 A, B = "(?P<a>[rR][0-7])", "(?P<b>[rR][0-7])"
@@ -197,8 +166,7 @@ def written_as(found: Match[str], instruction: str, in_lines: bool) -> Optional[
 
 
 def statement(words: Sequence[str], in_lines: bool) -> Optional[str]:
-    """What a statement on registers is written as: `r1++` is `add r1 1`. None where it is no such
-    one, or where no instruction does it."""
+    """What a statement on registers is written as, if it is one: `r1++` is `add r1 1`."""
     text = NOISE.sub(" ", " ".join(words)[:100]).strip()
     for pattern, instruction in STATEMENTS:
         found = re.fullmatch(pattern, text)

@@ -11,6 +11,7 @@ from rdbg.digits import number
 from rdbg.failure import Failure
 from rdbg.files.definitions import take_definitions
 from rdbg.files.source import Source, load, source, standard_input
+from rdbg.options import Parser
 from rdbg.tree import Fault
 from rdbg.wording import counted, shown
 
@@ -37,28 +38,15 @@ def natural(word: str) -> int:
     return found
 
 
-def parser() -> argparse.ArgumentParser:
+def parser() -> Parser:
     """The words of the command line."""
-    made = argparse.ArgumentParser(prog="rdbg check", description=SUMMARY, epilog=EPILOG)
-    word = made.add_argument
-    word(
-        "files",
-        nargs="+",
-        metavar="FILE",
-        help="JSON, a text in lines (.fw), or C with such lines (.c); - is standard input",
-    )
-    word(
-        "--first", action="store_true", help="prints the first fault of each file, and nothing else"
-    )
-    word("--json", action="store_true", help="prints it as JSON (docs/check.schema.json)")
-    word(
-        "--most",
-        type=natural,
-        default=MOST,
-        metavar="N",
-        help=f"so many faults a file, else {MOST}",
-    )
-    word("--name", metavar="FILE", help="what standard input is called, and so how it is read")
+    made = Parser("rdbg check", description=SUMMARY, epilog=EPILOG)
+    files = "JSON, a text in lines (.fw), or C with such lines (.c); - is standard input"
+    made.word("files", "FILE", files, nargs="+")
+    made.flag("--first", "prints the first fault of each file, and nothing else")
+    made.flag("--json", "prints it as JSON (docs/check.schema.json)")
+    made.word("--most", "N", f"so many faults a file, else {MOST}", type=natural, default=MOST)
+    made.word("--name", "FILE", "what standard input is called, and so how it is read")
     take_definitions(made)
     return made
 

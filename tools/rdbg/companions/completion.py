@@ -1,9 +1,9 @@
 """Prints the script by which a shell completes rdbg's words."""
-import argparse
 import sys
 from typing import Sequence
 
 from rdbg.completing.table import SHELLS
+from rdbg.options import Parser
 
 SUMMARY = "prints the script by which bash or zsh completes the words of rdbg"
 EPILOG = (
@@ -12,10 +12,10 @@ EPILOG = (
 )
 
 
-def parser() -> argparse.ArgumentParser:
+def parser() -> Parser:
     """The words of the command line."""
-    made = argparse.ArgumentParser(prog="rdbg completion", description=SUMMARY, epilog=EPILOG)
-    made.add_argument("shell", choices=SHELLS, metavar="SHELL", help="bash or zsh")
+    made = Parser("rdbg completion", description=SUMMARY, epilog=EPILOG)
+    made.word("shell", "SHELL", "bash or zsh", choices=SHELLS)
     return made
 
 

@@ -1,12 +1,11 @@
 """A debugger for editors: the Debug Adapter Protocol over standard input, or at a port."""
-import argparse
 import os
 import sys
 from typing import Optional, Sequence
 
 from rdbg.adapter.listening import listen
 from rdbg.adapter.server import Server
-from rdbg.options import port
+from rdbg.options import Parser, port
 from rdbg.door import Door
 
 SUMMARY = "the debugger of an editor, with its buttons: breakpoints, steps, and both ways"
@@ -17,15 +16,12 @@ EPILOG = (
 )
 
 
-def parser() -> argparse.ArgumentParser:
+def parser() -> Parser:
     """The words of the command line."""
-    made = argparse.ArgumentParser(prog="rdbg dap", description=SUMMARY, epilog=EPILOG)
-    made.add_argument("--port", type=port, metavar="P", help="listens at this port of 127.0.0.1")
-    made.add_argument(
-        "--anyone",
-        action="store_true",
-        help="lets in every user of this machine at that port, and not yourself alone",
-    )
+    made = Parser("rdbg dap", description=SUMMARY, epilog=EPILOG)
+    made.word("--port", "P", "listens at this port of 127.0.0.1", type=port)
+    anyone = "lets in every user of this machine at that port, and not yourself alone"
+    made.flag("--anyone", anyone)
     return made
 
 

@@ -18,7 +18,7 @@ from rdbg.hunting.goals import Goal
 from rdbg.hunting.interrupts import handlers
 from rdbg.hunting.search import Search
 from rdbg.hunting.stage import Find, Stage
-from rdbg.options import bounded
+from rdbg.options import APPLICATION, Parser, bounded
 from rdbg.reaching import beside
 from rdbg.reaching.asking import CTRL_C, LOST, QUESTIONS, REACH, Asker, NoQuestion
 from rdbg.reaching.handlers import OPTION
@@ -32,6 +32,11 @@ EPILOG = (
     " said of them to standard error; with -o to OUT, and to standard output. The status is 0 where"
     " none is found (never, or not within what was asked for), 1 where one is, 2 where it can't be"
     " told, 130 after Ctrl-C; with --expect found 0 where one is found, 1 where not."
+)
+ISR = (
+    "an interrupt that may come once, at any place: send Q HEX, notify K I N ACTION, or several"
+    " calls with ; between them; said twice, it may come twice; or one that the text names, which"
+    " comes as that says. Without it all come that the text names; none: none of them"
 )
 NONE_FOUND, FOUND, CANT, STOPPED = 0, 1, 2, 130
 STANDARD = "-"
@@ -70,43 +75,26 @@ class OneGoal(argparse.HelpFormatter):
         return super()._format_args(action, default_metavar)
 
 
-def parser() -> argparse.ArgumentParser:
+def parser() -> Parser:
     """The words of the command line."""
-    made = argparse.ArgumentParser(
-        prog="rdbg hunt", description=SUMMARY, epilog=EPILOG, formatter_class=OneGoal
-    )
-    word = made.add_argument
-    word("file", metavar="FILE", help="the application, JSON or in lines (.fw)")
-    word("goal", metavar="GOAL", nargs="+", help="one goal; its words may be apart")
-    word("-o", dest="output", metavar="OUT", help="where the lines of a find go")
-    word("--page", metavar="OUT.html", help="writes the first find as one page of HTML")
-    word(
-        "--report",
-        metavar="FILE",
-        help="writes what came of it as SARIF, or where FILE ends in .xml as JUnit's XML",
-    )
-    count = bounded(1)
-    word(
-        "--surprises", type=bounded(0), metavar="N", help="orders of so many surprises at the most"
-    )
-    word("--moves", type=count, metavar="N", help="orders of at most so many moves")
-    word(
-        "--isr",
-        action="append",
-        default=[],
-        metavar="CALLS",
-        help="an interrupt that may come once, at any place: send Q HEX, notify K I N ACTION, or"
-        " several calls with ; between them; said twice, it may come twice; or one that the text"
-        " names, which comes as that says. Without it all come that the text names; none: none of"
-        " them",
-    )
-    word("--exhaustive", action="store_true", help="surprises aren't counted: the fewest moves")
-    word("--smallest", action="store_true", help="shows that none has fewer surprises, or moves")
-    word("--all", type=count, metavar="N", help="the first N finds that end otherwise")
-    word("--expect", choices=["none", "found"], help="what the status is 0 for")
-    word("--within", type=seconds, metavar="SECONDS", help="a limit of time")
+    made = Parser("rdbg hunt", description=SUMMARY, epilog=EPILOG, formatter_class=OneGoal)
+    word, count = made.word, bounded(1)
+    word("file", "FILE", APPLICATION)
+    word("goal", "GOAL", "one goal; its words may be apart", nargs="+")
+    word("-o", "OUT", "where the lines of a find go", dest="output")
+    word("--page", "OUT.html", "writes the first find as one page of HTML")
+    report = "writes what came of it as SARIF, or where FILE ends in .xml as JUnit's XML"
+    word("--report", "FILE", report)
+    word("--surprises", "N", "orders of so many surprises at the most", type=bounded(0))
+    word("--moves", "N", "orders of at most so many moves", type=count)
+    word("--isr", "CALLS", ISR, action="append", default=[])
+    made.flag("--exhaustive", "surprises aren't counted: the fewest moves")
+    made.flag("--smallest", "shows that none has fewer surprises, or moves")
+    word("--all", "N", "the first N finds that end otherwise", type=count)
+    made.add_argument("--expect", choices=["none", "found"], help="what the status is 0 for")
+    word("--within", "SECONDS", "a limit of time", type=seconds)
     for name, (value, what) in PASSED.items():
-        word(name, type=part if name == "--part" else str, metavar=value, help=what)
+        word(name, value, what, type=part if name == "--part" else str)
     take_definitions(made)
     return made
 
@@ -120,17 +108,14 @@ def passed(given: argparse.Namespace) -> List[Tuple[str, str]]:
 def check_words(given: argparse.Namespace, goal: Goal) -> None:
     """Raises `Failure` where words can't stand together."""
     options_given = (("--surprises", given.surprises is not None), ("--smallest", given.smallest))
-    for name, is_given in options_given:
-        if given.exhaustive and is_given:
-            raise Failure(f"--exhaustive goes through every order; it takes no {name}", CANT)
+    for name in (name for name, is_given in options_given if is_given and given.exhaustive):
+        raise Failure(f"--exhaustive goes through every order; it takes no {name}", CANT)
     if given.smallest and given.all is not None:
         raise Failure("--smallest is of one find; it takes no --all", CANT)
-    if goal.compares:
-        if given.smallest:
-            raise Failure("--smallest is of goals that are met, and none of differs", CANT)
-        for name, _ in passed(given):
-            if name in OF_ONE_GOAL:
-                raise Failure(f"{name} is of goals that are met, and none of differs", CANT)
+    smallest = ["--smallest"] if given.smallest else []
+    names = [*smallest, *(name for name, _ in passed(given) if name in OF_ONE_GOAL)]
+    if goal.compares and names:
+        raise Failure(f"{names[0]} is of goals that are met, and none of differs", CANT)
 
 
 def empty(path: Optional[str], source: str) -> None:
@@ -177,48 +162,36 @@ class Hunt:
         if self.goal.compares:
             self.differs = Differs(search)
             self.differences = self.differs.find(given.all or 1)
+            self.finds = [it.find for it in self.differences]
         elif given.all is not None:
             self.finds = search.all(given.all)
         elif given.smallest:
             self.finds = search.smallest()
         elif given.exhaustive:
-            found = search.shortest(self.goal.asked)
-            self.finds = [] if found is None else [found]
+            self.finds = [*filter(None, [search.shortest(self.goal.asked)])]
         else:
             self.finds = search.first()
 
-    @property
-    def is_found(self) -> bool:
-        """Whether something is."""
-        return bool(self.finds or self.differences)
-
-    def say(self) -> None:
-        """Prints what was found, or that nothing was, and reports it."""
-        self._print(self._said())
-        self._report()
-
-    def _report(self) -> None:
+    def report(self) -> None:
         """Writes what came of it, where that was asked."""
         if self.given.report is None:
             return
         from rdbg.hunting import reports, sarif  # (which take their time)
 
-        finds = self.finds or [it.find for it in self.differences]
         goal, path, left = self.goal.text, self.given.report, self.search.left()
-        found = [*sarif.results(self.source, goal, self.stage, finds, left)]
+        found = [*sarif.results(self.source, goal, self.stage, self.finds, left)]
         with whole_file.written(path) as file:
             file.write(reports.text_of(path, self.source.path, goal, found, self.given.expect))
 
-    def _print(self, said: Sequence[str]) -> None:
+    def say(self) -> None:
         """Prints what is said, and the lines of what was found."""
-        path = self.given.output
-        if not self.is_found:
+        path, said = self.given.output, self._said()
+        if not self.finds:
             is_mixed = path in (None, STANDARD)
             print(*said, sep="\n", file=sys.stderr if is_mixed else sys.stdout, flush=True)
             return
         own = [] if self.differs is None else [self.differs.own.find]
-        orders = [*own, *self.finds, *(it.find for it in self.differences)]
-        lines = report.lines_of(self.goal, self.stage, orders)
+        lines = report.lines_of(self.goal, self.stage, [*own, *self.finds])
         with outputs(path) as (file, out):
             print(*lines, sep="\n", file=file, flush=True)
             print(*said, sep="\n", file=out, flush=True)
@@ -226,7 +199,7 @@ class Hunt:
 
     def _said(self) -> List[str]:
         """What is said."""
-        if not self.is_found:
+        if not self.finds:
             left = self.search.left()
             said = [*report.none(self.goal, left, self.stage.application)]
             return [*said, *self._remarks(left)]
@@ -255,7 +228,7 @@ class Hunt:
         from rdbg.tracing.command import page_of  # (which takes its time)
         from rdbg.tracing.page.asked import Asked
 
-        order = (self.finds or [it.find for it in self.differences])[0].order
+        order = self.finds[0].order
         how = "" if self.given.exhaustive else f", {report.with_surprises(len(order.told))}"
         said = f"Found: the order of this page leads there, at {order.place}{how}."
         told = () if self.given.exhaustive else order.told
@@ -265,7 +238,7 @@ class Hunt:
     def status(self) -> int:
         """The exit status."""
         expected, left = self.given.expect, self.search.left()
-        if self.is_found:
+        if self.finds:
             return NONE_FOUND if expected == "found" else FOUND
         if left.why == CTRL_C:
             return STOPPED
@@ -306,6 +279,7 @@ def hunt(given: argparse.Namespace, source: Source, path: str) -> int:
         except KeyboardInterrupt:
             search.none.append(Answer(Kind.UNTOLD, why=CTRL_C))
         it.say()
+        it.report()
         return it.status()
 
 

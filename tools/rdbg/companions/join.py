@@ -1,5 +1,4 @@
 """Joins the answers of the parts of one search."""
-import argparse
 import contextlib
 import dataclasses
 import pathlib
@@ -12,6 +11,7 @@ from rdbg.files.definitions import take_definitions
 from rdbg.files.source import accepted
 from rdbg.hunting.interrupts import handlers
 from rdbg.hunting.stage import Stage
+from rdbg.options import APPLICATION, Parser
 from rdbg.reaching import said
 from rdbg.reaching.said import Answer, Bound, Kind
 
@@ -28,13 +28,12 @@ EPILOG = (
 LACKING = "a part of the search is lacking"
 
 
-def parser() -> argparse.ArgumentParser:
+def parser() -> Parser:
     """The words of the command line."""
-    made = argparse.ArgumentParser(prog="rdbg join", description=SUMMARY, epilog=EPILOG)
-    word = made.add_argument
-    word("file", metavar="FILE", help="the application, JSON or in lines (.fw)")
-    word("answers", metavar="ANSWER", nargs="+", help="what a part has answered")
-    word("--isr", action="append", default=[], metavar="CALLS", help="as the parts were given it")
+    made = Parser("rdbg join", description=SUMMARY, epilog=EPILOG)
+    made.word("file", "FILE", APPLICATION)
+    made.word("answers", "ANSWER", "what a part has answered", nargs="+")
+    made.word("--isr", "CALLS", "as the parts were given it", action="append", default=[])
     take_definitions(made)
     return made
 

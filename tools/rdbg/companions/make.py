@@ -1,6 +1,6 @@
 """Makes the JSON of an application from its text in lines, which may stand in comments of C, or the
 text from the JSON."""
-import argparse
+import contextlib
 import os
 import sys
 from typing import Iterable, Iterator, Optional, Sequence, Set, Tuple
@@ -13,6 +13,7 @@ from rdbg.firmware.writer import jumps_of, text_of
 from rdbg.from_c.lines import in_lines
 from rdbg.json_layout import MOST_BYTES, json_of
 from rdbg.operands import to_text
+from rdbg.options import Parser
 from rdbg.tree import Place
 from rdbg.whole_file import STANDARD_OUTPUT, written
 from rdbg.wording import counted
@@ -28,23 +29,15 @@ TEXT, JSON, C = ".fw", ".json", ".c"
 MOST_FAULTS = 100
 
 
-def parser() -> argparse.ArgumentParser:
+def parser() -> Parser:
     """The words of the command line."""
-    made = argparse.ArgumentParser(prog="rdbg make", description=SUMMARY, epilog=EPILOG)
-    word = made.add_argument
-    word(
-        "file",
-        metavar="FILE",
-        help="the text in lines, FILE.fw; with --back, FILE.json; with --from-c, FILE.c",
-    )
-    word("--back", action="store_true", help="makes the text from the JSON, on standard output")
-    word("-o", dest="output", metavar="OUT", help="writes to OUT; - is standard output")
-    word(
-        "--from-c",
-        dest="is_c",
-        action="store_true",
-        help="takes the lines from comments of C, FILE.c: // rdbg: LINE; OUT may be FILE.fw, too",
-    )
+    made = Parser("rdbg make", description=SUMMARY, epilog=EPILOG)
+    file = "the text in lines, FILE.fw; with --back, FILE.json; with --from-c, FILE.c"
+    made.word("file", "FILE", file)
+    made.flag("--back", "makes the text from the JSON, on standard output")
+    made.word("-o", "OUT", "writes to OUT; - is standard output", dest="output")
+    lines = "takes the lines from comments of C, FILE.c: // rdbg: LINE; OUT may be FILE.fw, too"
+    made.flag("--from-c", lines, dest="is_c")
     take_definitions(made)
     return made
 
@@ -89,9 +82,8 @@ def main(words: Sequence[str]) -> int:
 def check_form(path: str, is_c: bool) -> None:
     """Raises `Failure` where a file is, by its name, not what lines are taken from."""
     if path.endswith(JSON):
-        raise Failure(
-            f"{path} is JSON already; its text in lines is made by: rdbg make --back {path}", 2
-        )
+        back = f"its text in lines is made by: rdbg make --back {path}"
+        raise Failure(f"{path} is JSON already; {back}", 2)
     if path.endswith(C) and not is_c:
         raise Failure(f"{path} is C: its lines are taken by: rdbg make --from-c {path}", 2)
     ending, what = (C, "C") if is_c else (TEXT, "a text in lines")
@@ -115,8 +107,9 @@ def make(path: str, output: Optional[str], consts: Given) -> int:
     chosen = os.path.splitext(path)[0] + JSON if output is None else output
     if chosen != STANDARD_OUTPUT and not chosen.endswith(JSON):
         raise Failure(f"{chosen} doesn't end in {JSON}; it isn't written", 2)
-    if same_file(path, chosen):
-        raise Failure(f"{chosen} is {path} itself; it isn't written", 2)
+    with contextlib.suppress(OSError):
+        if os.path.samefile(path, chosen):
+            raise Failure(f"{chosen} is {path} itself; it isn't written", 2)
     found, application = accepted(path, MOST_FAULTS, consts)
     text = json_of(application)
     if len(text) > MOST_BYTES:
@@ -153,14 +146,6 @@ def back(path: str, output: Optional[str]) -> int:
         said = "jumps with labels, where the text may have had loop, while or an if of lines"
         print(f"rdbg make: {said}: {'; '.join(jumps)}", file=sys.stderr)
     return 0
-
-
-def same_file(path: str, other: str) -> bool:
-    """Whether both are one file."""
-    try:
-        return os.path.samefile(path, other)
-    except OSError:
-        return False
 
 
 def accepted(path: str, most: int, consts: Optional[Given] = None) -> Tuple[Source, Application]:

@@ -19,18 +19,8 @@ from rdbg.reaching import beside, running, said
 from rdbg.reaching.asking import DOOMED, LOST as LOST_AT, PROGRAM, REACH, STOPPED, Question
 from rdbg.reaching.handlers import handlers, told as told_of
 from rdbg.reaching.said import UNTOLD, Answer
-from rdbg.reaching.words import (
-    DEFINE,
-    LOST,
-    OUTPUT,
-    PACE,
-    PAGE,
-    PROGRESS,
-    REPORT,
-    WITHIN,
-    Words,
-    read,
-)
+from rdbg.reaching.words import DEFINE, LOST, OUTPUT, PACE, PAGE, PROGRESS, REPORT, WITHIN
+from rdbg.reaching.words import Words, read
 from rdbg.replies import Refused
 
 SUMMARY = "answers whether some order of moves comes to a goal; that none does is a theorem"
@@ -130,12 +120,10 @@ def write_report(asked: Words, answer: Answer) -> None:
         written.write(text)
 
 
+@turned(of_words, argparse.ArgumentTypeError, of=DEFINE)
 def source_of(asked: Words, file: str) -> Source:
-    """The application's file, of which the consts that are asked for are these numbers. Raises
-    `Failure` where it can't be read, or has no such const."""
-    with turned(of_words, argparse.ArgumentTypeError, of=DEFINE):
-        source = load(file, dict(map(definition, asked.consts)))
-    return source
+    """The application's file, with the consts that are asked for. Raises `Failure` without."""
+    return load(file, dict(map(definition, asked.consts)))
 
 
 def is_in_lines(file: str) -> bool:

@@ -8,7 +8,7 @@ from typing import Optional, Sequence, Tuple
 
 from rdbg.files.definitions import take_definitions
 from rdbg.files.source import Source, accepted
-from rdbg.options import bounded, port
+from rdbg.options import APPLICATION, Parser, bounded, port
 from rdbg.door import TOKEN, Door
 from rdbg.ending import Terminated
 from rdbg.failure import Failure
@@ -47,50 +47,28 @@ def web_port(text: str) -> int:
     return 0 if text == "0" else port(text)
 
 
-def parser() -> argparse.ArgumentParser:
+def parser() -> Parser:
     """The words of the command line."""
-    made = argparse.ArgumentParser(prog="rdbg room", description=SUMMARY, epilog=EPILOG)
-    made.add_argument("file", metavar="FILE", help="the application, JSON or in lines (.fw)")
-    made.add_argument(
-        "--port", type=port, required=True, metavar="P", help="where it is, on 127.0.0.1"
-    )
-    made.add_argument(
-        "--web",
-        type=web_port,
-        metavar="Q",
-        help="serves a page for browsers at Q on 127.0.0.1, at a free port where Q is 0",
-    )
-    made.add_argument(
-        "--anyone",
-        action="store_true",
-        help="lets in every user of this machine, at both ports, and not yourself alone",
-    )
-    made.add_argument("--talk", metavar="FILE", help="keeps who said what, and the replies, there")
-    made.add_argument(
-        "--sessions",
-        type=sessions,
-        default=MOST_SESSIONS,
-        metavar="N",
-        help=f"for how many at a time, 1 to {MOST_SESSIONS}",
-    )
-    made.add_argument(
-        "--idle",
-        type=bounded(1),
-        default=IDLE,
-        metavar="S",
-        help=f"seconds without a line after which the wheel can be freed, else {IDLE}",
-    )
-    made.add_argument("--moves", type=bounded(1), metavar="N", help="how many moves may be done")
-    made.add_argument(
-        "--history", type=bounded(2), metavar="N", help=f"entries of a history, else {HISTORY}"
-    )
+    made = Parser("rdbg room", description=SUMMARY, epilog=EPILOG)
+    word, most = made.word, MOST_SESSIONS
+    word("file", "FILE", APPLICATION)
+    word("--port", "P", "where it is, on 127.0.0.1", type=port, required=True)
+    page = "serves a page for browsers at Q on 127.0.0.1, at a free port where Q is 0"
+    word("--web", "Q", page, type=web_port)
+    anyone = "lets in every user of this machine, at both ports, and not yourself alone"
+    made.flag("--anyone", anyone)
+    word("--talk", "FILE", "keeps who said what, and the replies, there")
+    word("--sessions", "N", f"for how many at a time, 1 to {most}", type=sessions, default=most)
+    idle = f"seconds without a line after which the wheel can be freed, else {IDLE}"
+    word("--idle", "S", idle, type=bounded(1), default=IDLE)
+    word("--moves", "N", "how many moves may be done", type=bounded(1))
+    word("--history", "N", f"entries of a history, else {HISTORY}", type=bounded(2))
     take_definitions(made)
     return made
 
 
 class Signals:
-    """Ctrl-C and SIGTERM end a port once it is there; before, and where they come again and again,
-    the process."""
+    """Ctrl-C and SIGTERM end a port once it is there; before, and again and again, the process."""
 
     def __init__(self) -> None:
         self.port: Optional[Port] = None
@@ -110,8 +88,7 @@ class Signals:
 
 
 def open_room(source: Source, limits: Limits, sessions: int, talk: Optional[Talk]) -> Room:
-    """A room, once it has its program. As long as others come to that first it is tried again,
-    which is said."""
+    """A room, once it has its program. Where others are first it says so, and tries again."""
     while True:
         try:
             return Room.open(source, limits, sessions, talk)
@@ -122,8 +99,7 @@ def open_room(source: Source, limits: Limits, sessions: int, talk: Optional[Talk
 def with_pages(
     room: Room, number: int, door: Door, ends: contextlib.ExitStack
 ) -> Tuple[Served, str]:
-    """The room's pages, at a port, and what is said of where they are. Where that can't be had the
-    room ends, by a `Failure`."""
+    """The room's pages, and what is said of where they are. Without them the room ends."""
     try:
         pages = web.serve(room, number, door)
         is_terminal = sys.stdout.isatty()

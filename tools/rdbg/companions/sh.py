@@ -1,5 +1,4 @@
 """A prompt for rdbg: its own lines, and words that are made of them."""
-import argparse
 import os
 import sys
 from typing import Sequence
@@ -7,7 +6,7 @@ from typing import Sequence
 from rdbg.failure import Failure
 from rdbg.files.definitions import take_definitions
 from rdbg.files.source import accepted
-from rdbg.options import bounded, port
+from rdbg.options import APPLICATION, Parser, bounded, port
 from rdbg.shell import prompt
 from rdbg.shell.sourcing import START
 from rdbg.driving.interrupt import HardInterrupt, Interrupt
@@ -23,17 +22,16 @@ EPILOG = (
 )
 
 
-def parser() -> argparse.ArgumentParser:
+def parser() -> Parser:
     """The words of the command line."""
-    made = argparse.ArgumentParser(prog="rdbg sh", description=SUMMARY, epilog=EPILOG)
-    word = made.add_argument
-    word("file", nargs="?", metavar="FILE", help="the application, JSON or in lines (.fw)")
-    word("--app", metavar="FILE", help="the same")
-    word("--port", type=port, metavar="P", help="attaches to `rdbg serve` or `rdbg room` there")
-    word("--name", metavar="NAME", help="who one is at `rdbg room`")
-    word("--moves", type=bounded(1), metavar="N", help="how many moves may be done")
-    word("--history", type=bounded(2), metavar="N", help="entries of the history")
-    word("--nx", action="store_true", help=f"leaves out the files {START} (see `help source`)")
+    made = Parser("rdbg sh", description=SUMMARY, epilog=EPILOG)
+    made.word("file", "FILE", APPLICATION, nargs="?")
+    made.word("--app", "FILE", "the same")
+    made.word("--port", "P", "attaches to `rdbg serve` or `rdbg room` there", type=port)
+    made.word("--name", "NAME", "who one is at `rdbg room`")
+    made.word("--moves", "N", "how many moves may be done", type=bounded(1))
+    made.word("--history", "N", "entries of the history", type=bounded(2))
+    made.flag("--nx", f"leaves out the files {START} (see `help source`)")
     take_definitions(made)
     return made
 

@@ -7,7 +7,7 @@ from xml.etree import ElementTree
 
 from rdbg import client, junit, whole_file
 from rdbg.failure import Failure, of_words, turned
-from rdbg.options import bounded, part
+from rdbg.options import Parser, bounded, part
 from rdbg.reaching import asking
 from rdbg.shown import shown
 from rdbg.testing import cases
@@ -27,28 +27,16 @@ EPILOG = (
 AS_EXPECTED, OTHERWISE, NONE = 0, 1, 2
 
 
-def parser() -> argparse.ArgumentParser:
+def parser() -> Parser:
     """The words of the command line."""
-    made = argparse.ArgumentParser(prog="rdbg test", description=SUMMARY, epilog=EPILOG)
-    word = made.add_argument
-    word(
-        "path", metavar="PATH", nargs="?", default=".", help="the folder or the file, else this one"
-    )
-    word(
-        "--jobs",
-        type=bounded(1),
-        default=len(os.sched_getaffinity(0)),
-        metavar="N",
-        help="so many cases side by side, else as many as there are processors",
-    )
-    word(
-        "--part",
-        type=part,
-        default=(1, 1),
-        metavar="K/N",
-        help="the Kth of N parts of the cases alone, so that N machines try all",
-    )
-    word("--report", metavar="FILE", help="writes what became of them as JUnit's XML")
+    made = Parser("rdbg test", description=SUMMARY, epilog=EPILOG)
+    made.word("path", "PATH", "the folder or the file, else this one", nargs="?", default=".")
+    jobs, count = len(os.sched_getaffinity(0)), bounded(1)
+    side_by_side = "so many cases side by side, else as many as there are processors"
+    made.word("--jobs", "N", side_by_side, type=count, default=jobs)
+    parts = "the Kth of N parts of the cases alone, so that N machines try all"
+    made.word("--part", "K/N", parts, type=part, default=(1, 1))
+    made.word("--report", "FILE", "writes what became of them as JUnit's XML")
     return made
 
 
@@ -61,15 +49,14 @@ def checked(path: str) -> Tuple[str, List[Case]]:
         folder = os.path.dirname(file)
         pairs = ((it, wrong_with(it, folder)) for it in found)
         said = [f"{file}:{it.place}: {wrong}" for it, wrong in pairs if wrong]
-    if not said:
-        return file, found
-    print(*said, sep="\n", file=sys.stderr)
-    raise Failure(f"{file} has {counted(len(said), 'fault')}; nothing is tried", NONE)
+    if said:
+        print(*said, sep="\n", file=sys.stderr)
+        raise Failure(f"{file} has {counted(len(said), 'fault')}; nothing is tried", NONE)
+    return file, found
 
 
 class Shown:
-    """Shows which case is waited for at a terminal, in a line that is gone when its answer is
-    there. Elsewhere nothing is shown."""
+    """Shows at a terminal which case is waited for, in a line that goes with its answer."""
 
     def __init__(self, stream: IO[str], count: int) -> None:
         self._stream, self._count = stream, count
@@ -119,33 +106,19 @@ def said_of(case: Case, result: Result) -> Iterator[str]:
         yield from (f"       {line}" for line in result.told)
 
 
-def summary(results: Sequence[Result]) -> str:
-    """How many are as expected, and how many not."""
-    counts = {it: sum(result.verdict is it for result in results) for it in Verdict}
-    each = ", ".join(f"{count} {it.value}" for it, count in counts.items() if count)
-    return f"{counted(len(results), 'case')}: {each or 'none in this part'}"
-
-
 # What a case that isn't as expected has in a report.
 ELEMENTS = {Verdict.WRONG: junit.FAILURE, Verdict.REFUSED: junit.ERROR}
-
-
-def instead(case: Case, result: Result) -> str:
-    """What came of a case in place of what is expected."""
-    if result.verdict is Verdict.REFUSED:
-        return f"refused: {result.came}"
-    return f"{case.expect} was expected, and {result.came} came"
 
 
 def element(case: Case, result: Result) -> ElementTree.Element:
     """A case."""
     name = f"{case.question} {case.goal}: {case.expect}"
-    made = ElementTree.Element(
-        "testcase",
-        {"classname": shown(case.file), "name": shown(name), "time": f"{result.seconds:.3f}"},
-    )
+    about = {"classname": shown(case.file), "name": shown(name), "time": f"{result.seconds:.3f}"}
+    made = ElementTree.Element("testcase", about)
     if result.verdict in ELEMENTS:
-        message = shown(instead(case, result))
+        instead = f"{case.expect} was expected, and {result.came} came"
+        is_refused = result.verdict is Verdict.REFUSED
+        message = shown(f"refused: {result.came}" if is_refused else instead)
         ElementTree.SubElement(made, ELEMENTS[result.verdict], {"message": message})
     if result.told:
         told = junit.text_of([result.came, *result.told])
@@ -153,12 +126,7 @@ def element(case: Case, result: Result) -> ElementTree.Element:
     return made
 
 
-def report(name: str, tried: Sequence[Tuple[Case, Result]]) -> str:
-    """The report on the cases of a file."""
-    took = sum(it.seconds for _, it in tried)
-    return junit.document(name, [element(*it) for it in tried], time=f"{took:.3f}")
-
-
+@turned(of_words, Failure)
 def test(given: argparse.Namespace) -> int:
     """Tries the cases, and says what became of them."""
     file, listed = checked(given.path)
@@ -173,19 +141,18 @@ def test(given: argparse.Namespace) -> int:
     for case, result in results_of(os.path.dirname(file), found, given.jobs):
         tried.append((case, result))
         print(*said_of(case, result), sep="\n", flush=True)
-    print(summary([result for _, result in tried]), flush=True)
+    counts = {it: sum(result.verdict is it for _, result in tried) for it in Verdict}
+    each = ", ".join(f"{count} {it.value}" for it, count in counts.items() if count)
+    print(f"{counted(len(tried), 'case')}: {each or 'none in this part'}", flush=True)
     if given.report is not None:
+        took = sum(it.seconds for _, it in tried)
         with whole_file.written(given.report) as out:
-            out.write(report(file, tried))
-    verdicts = {result.verdict for _, result in tried}
-    if Verdict.REFUSED in verdicts:
+            out.write(junit.document(file, [element(*it) for it in tried], time=f"{took:.3f}"))
+    if counts[Verdict.REFUSED]:
         return NONE
-    return OTHERWISE if Verdict.WRONG in verdicts else AS_EXPECTED
+    return OTHERWISE if counts[Verdict.WRONG] else AS_EXPECTED
 
 
 def main(words: Sequence[str]) -> int:
     """Runs the cases of a folder."""
-    given = parser().parse_args(words)
-    with turned(of_words, Failure):
-        status = test(given)
-    return status
+    return test(parser().parse_args(words))

@@ -4,7 +4,7 @@ from typing import Sequence
 
 from rdbg.failure import Failure
 from rdbg.files.definitions import take_definitions
-from rdbg.options import bounded, port
+from rdbg.options import Parser, bounded, port
 
 SUMMARY = "says who did what in a run: a row a move, events for a viewer of traces, or a page"
 EPILOG = (
@@ -15,62 +15,35 @@ EPILOG = (
 )
 
 
-def parser() -> argparse.ArgumentParser:
+def parser() -> Parser:
     """The words of the command line."""
-    made = argparse.ArgumentParser(prog="rdbg trace", description=SUMMARY, epilog=EPILOG)
-    word = made.add_argument
-    word("file", nargs="?", metavar="FILE", help="the application, JSON or .fw")
-    word("commands", nargs="?", metavar="COMMANDS", help="the lines of the run")
-    word("--port", type=port, metavar="P", help="the moves that are done at `rdbg serve` there")
-    word(
-        "--only",
-        metavar="NAMES",
-        help="rows of these tasks, objects and cores: jobs,worker,0; of rows alone",
-    )
-    word(
-        "--when",
-        metavar="GOAL",
-        help="rows of moves behind which it holds: 'count jobs > 0 and not runs worker'; as above",
-    )
-    word("--from", dest="first", type=bounded(0), metavar="N", help="from place N on")
-    word("--to", dest="last", type=bounded(0), metavar="N", help="up to place N")
-    word("--events", metavar="OUT", help="writes Chrome trace events to OUT; - is standard output")
-    word("--page", metavar="OUT.html", help="writes the run as one page of HTML; - as above")
-    word(
-        "--against",
-        metavar="COMMANDS2",
-        help="of a page: another run of the same application below it, and where they first differ",
-    )
-    take_report(made)
-    word("--moves", type=bounded(1), metavar="N", help="how many moves may be done")
+    made = Parser("rdbg trace", description=SUMMARY, epilog=EPILOG)
+    word = made.word
+    word("file", "FILE", "the application, JSON or .fw", nargs="?")
+    word("commands", "COMMANDS", "the lines of the run", nargs="?")
+    word("--port", "P", "the moves that are done at `rdbg serve` there", type=port)
+    only = "rows of these tasks, objects and cores: jobs,worker,0; of rows alone"
+    word("--only", "NAMES", only)
+    when = "rows of moves behind which it holds: 'count jobs > 0 and not runs worker'; as above"
+    word("--when", "GOAL", when)
+    word("--from", "N", "from place N on", dest="first", type=bounded(0))
+    word("--to", "N", "up to place N", dest="last", type=bounded(0))
+    word("--events", "OUT", "writes Chrome trace events to OUT; - is standard output")
+    word("--page", "OUT.html", "writes the run as one page of HTML; - as above")
+    other = "another run of the same application below it, and where they first differ"
+    word("--against", "COMMANDS2", f"of a page: {other}")
+    word("--title", "TEXT", "of a page: its title")
+    word("--note", "FILE", "of a page: what is said of it, in Markdown; - as above")
+    word("--at", "PLACE", "of a page: where it opens, a number, or a goal that holds there")
+    question = made.add_mutually_exclusive_group()
+    ask = "the question that it answers, 'lost GOAL', 'reach GOAL' or 'doomed GOAL'"
+    question.add_argument("--ask", metavar="QUESTION", help=f"of a page: {ask}")
+    lost = "--ask 'lost GOAL', also of rows: at which move that was lost for good"
+    as_ask = "lost {}".format
+    question.add_argument("--lost", dest="ask", type=as_ask, metavar="GOAL", help=lost)
+    word("--moves", "N", "how many moves may be done", type=bounded(1))
     take_definitions(made)
     return made
-
-
-def take_report(made: argparse.ArgumentParser) -> None:
-    """Has a command line take what a page says beside its run."""
-    made.add_argument("--title", metavar="TEXT", help="of a page: its title")
-    made.add_argument(
-        "--note", metavar="FILE", help="of a page: what is said of it, in Markdown; - as above"
-    )
-    made.add_argument(
-        "--at",
-        metavar="PLACE",
-        help="of a page: where it opens, a number, or a goal that holds there",
-    )
-    question = made.add_mutually_exclusive_group()
-    question.add_argument(
-        "--ask",
-        metavar="QUESTION",
-        help="of a page: the question that it answers, 'lost GOAL', 'reach GOAL' or 'doomed GOAL'",
-    )
-    question.add_argument(
-        "--lost",
-        dest="ask",
-        type="lost {}".format,
-        metavar="GOAL",
-        help="--ask 'lost GOAL', also of rows: at which move that was lost for good",
-    )
 
 
 # What is said of a page alone.
@@ -95,9 +68,8 @@ def check_words(given: argparse.Namespace) -> None:
     if given.ask is not None:
         check_question(given)
     if given.note == "-" and given.port is None and given.commands in (None, "-"):
-        raise Failure(
-            "--note -: standard input is COMMANDS already; name a file for one of them", 2
-        )
+        why = "standard input is COMMANDS already; name a file for one of them"
+        raise Failure(f"--note -: {why}", 2)
     if given.events and given.page:
         raise Failure("--events or --page, one at a time", 2)
     if given.first is not None and given.last is not None and given.first > given.last:

@@ -2,7 +2,7 @@
 import shlex
 from typing import Callable, Dict, List, Sequence
 
-from rdbg.completing.table import Option, Word, own
+from rdbg.completing.table import FILES, Option, Word, own
 
 NONE = "-"
 FILE = "FILE"
@@ -105,7 +105,7 @@ def bash(words: Sequence[Word]) -> str:
         for it in word.options:
             if it.value:
                 which = " | ".join(shlex.quote(f"{word.name} {name}") for name in it.names)
-                said = shlex.quote(behind(it.is_file, it.choices))
+                said = shlex.quote(behind(it.value in FILES, it.choices))
                 values.append(f"        {which}) echo {said} ;;")
     first = [it.name for it in words] + [name for it in own() for name in it.names]
     lists = {"options": options, "values": values, "placed": placed}
@@ -127,7 +127,7 @@ def action(is_file: bool, choices: Sequence[str]) -> str:
 
 def specifications(option: Option) -> List[str]:
     """An option as zsh's `_arguments` has it, by each name."""
-    value = f":{told(option.value)}:{action(option.is_file, option.choices)}"
+    value = f":{told(option.value)}:{action(option.value in FILES, option.choices)}"
     text = f"[{told(option.text)}]{value if option.value else ''}"
     return [f"{'*' * option.is_repeated}{name}{text}" for name in option.names]
 

@@ -1,8 +1,7 @@
 """The words that stand behind `rdbg`, with their options, gathered from where each is read."""
 import argparse
-import dataclasses
 import re
-from typing import Iterator, List, Optional, Tuple
+from typing import Iterator, List, NamedTuple, Optional, Tuple
 
 from rdbg import main, program_help
 
@@ -14,10 +13,8 @@ PLACED = re.compile(r"[<\[]?\b([A-Z]+)\b[>\]]?")
 SHELLS = ("bash", "zsh")
 
 
-@dataclasses.dataclass(frozen=True)
-class Option:
-    """An option by its names; what its value is called, empty where none stands behind it; what
-    that can be; and whether the option may stand more than once."""
+class Option(NamedTuple):
+    """An option; what its value is called is empty where it takes none."""
 
     names: Tuple[str, ...]
     value: str
@@ -25,14 +22,8 @@ class Option:
     choices: Tuple[str, ...] = ()
     is_repeated: bool = False
 
-    @property
-    def is_file(self) -> bool:
-        """Whether a file stands behind it."""
-        return self.value in FILES
 
-
-@dataclasses.dataclass(frozen=True)
-class Word:
+class Word(NamedTuple):
     """A word behind `rdbg`: what it is for, its options, and what may stand behind it."""
 
     name: str
@@ -64,33 +55,25 @@ def of_parser(name: str, parser: argparse.ArgumentParser) -> Word:
 
 def of_help(name: str, text: str) -> Word:
     """A word of a program, by its help."""
-    options = []
-    for short, long, value, said in TOLD.findall(text):
-        if not long.startswith("-"):
-            continue
-        names = tuple(name for name in (short, long) if name)
-        options.append(Option(names, value, said, is_repeated=True))
+    options = tuple(
+        Option(tuple(filter(None, names)), value, said, is_repeated=True)
+        for *names, value, said in TOLD.findall(text)
+    )
     usage = next(line for line in text.split("\n") if line.startswith("Usage:"))
     usage = re.sub(r"--?[\w-]+ <?\w+>?", "", usage)
     has_files = any(it in FILES for it in PLACED.findall(usage))
-    return Word(name, text.split("\n")[0], tuple(options), has_files)
-
-
-def companion(name: str) -> Optional[Word]:
-    """A companion, if it reads its words here."""
-    make = getattr(main.companion(name), "parser", None)
-    return None if make is None else of_parser(name, make())
+    return Word(name, text.split("\n")[0], options, has_files)
 
 
 def words() -> List[Word]:
     """All words, but options of the wrapper's own."""
     found = [of_help(name, text) for name, text in program_help.OF.items()]
     known = {it.name for it in found}
-    found += filter(None, (companion(name) for name in main.names() if name not in known))
+    others = ((name, main.companion(name)) for name in main.names() if name not in known)
+    found += [of_parser(name, it.parser()) for name, it in others if hasattr(it, "parser")]
     names = tuple(sorted(it.name for it in found))
-    return sorted(
-        [*found, Word("help", "says more of a word", choices=names)], key=lambda it: it.name
-    )
+    found.append(Word("help", "says more of a word", choices=names))
+    return sorted(found, key=lambda it: it.name)
 
 
 def own() -> Iterator[Option]:

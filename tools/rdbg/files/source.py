@@ -1,12 +1,11 @@
 """An application's text, as JSON or in lines, with all its faults and what it says."""
 import contextlib
-import dataclasses
 import pathlib
 import sys
-from typing import TYPE_CHECKING, Iterator, Mapping, Optional, Sequence, Tuple
+from typing import Iterator, Mapping, NamedTuple, Optional, Tuple
 
 from rdbg import own_file
-from rdbg.application import Application, Instruction, Interrupt, Task, application
+from rdbg.application import Application, Beside, Instruction, Task, Text, application
 from rdbg.checking.faults import faults_of
 from rdbg.failure import Failure, trying
 from rdbg.from_c.lines import ENDING, code_below, in_lines
@@ -14,18 +13,13 @@ from rdbg.json_layout import MOST_BYTES, json_of
 from rdbg.tree import Fault, Node, Object
 from rdbg.wording import counted
 
-if TYPE_CHECKING:
-    from rdbg.firmware.reader import Named
-
-
 # A text in lines, or a C source in whose comments the lines stand.
 LINES = (".fw", ENDING)
 # Consts by their names, which were given beside a text.
 Given = Mapping[str, int]
 
 
-@dataclasses.dataclass(frozen=True)
-class Source:
+class Source(NamedTuple):
     """A file: its text, its faults in the order in which rdbg looks for them, the application where
     there is none; of a text in lines what there is to remark, what lines of objects become, and
     which consts were given."""
@@ -37,7 +31,7 @@ class Source:
     application: Optional[Application]
     remarks: Tuple[Fault, ...] = ()
     made: Tuple[Tuple[int, str], ...] = ()
-    given: Given = dataclasses.field(default_factory=dict)
+    given: Given = {}
 
     @property
     def is_c(self) -> bool:
@@ -51,7 +45,7 @@ class Source:
         named = f" as {kind}" if kind[1:2].isdigit() else ""
         return f"is refused{named}: {count}, as `./rdbg check {self.path}` says"
 
-    def named(self) -> Optional["Named"]:
+    def named(self) -> Optional[Beside]:
         """What an accepted text in lines names besides tasks and objects; none of a JSON."""
         if not self.path.endswith(LINES):
             return None
@@ -73,8 +67,7 @@ class Source:
 
 
 def load(path: str, given: Optional[Given] = None) -> Source:
-    """Reads a file, by its ending as JSON or in lines, of which consts of these names are these
-    numbers. Raises `Failure` where it can't be read."""
+    """Reads a file by its ending, with such consts. Raises `Failure` where it can't be read."""
     with trying(f"read {path}"):
         content = pathlib.Path(path).read_bytes()
     return source(path, content, given)
@@ -89,8 +82,7 @@ def standard_input() -> bytes:
 
 
 def accepted(path: Optional[str], given: Optional[Given] = None) -> Optional[Source]:
-    """The application's file, if one is named; its faults end it with a line each. Raises `Failure`
-    where consts are given and no file."""
+    """The application's file, if one is named. Raises `Failure` for faults, or consts alone."""
     if path is None:
         if given:
             raise Failure("-D goes with a file: a text in lines (.fw)", 2)
@@ -105,74 +97,42 @@ def accepted(path: Optional[str], given: Optional[Given] = None) -> Optional[Sou
 
 def source(path: str, content: bytes, given: Optional[Given] = None) -> Source:
     """What a file of this content is, where consts of these names are these numbers."""
-    remarks: Sequence[Fault] = ()
-    made: Sequence[Tuple[int, str]] = ()
-    comments: Mapping[int, str] = {}
-    interrupts: Tuple[Interrupt, ...] = ()
+    consts, shown = dict(given or {}), content.decode("utf-8", "replace")
     if path.endswith(LINES):
         from rdbg.firmware.reader import read as read_lines
 
-        text = read_lines(lines_in(path, content), given or {})
-        remarks, made, comments = text.remarks, text.made, text.comments
-        interrupts = text.interrupts
-        root, faults = text.root, list(text.faults)
+        # (a C source that is too long is left as it is, and is refused for it)
+        if path.endswith(ENDING) and len(content) <= MOST_BYTES:
+            content = in_lines(shown).encode()
+        text = read_lines(content, consts)
     else:
         from rdbg.json_text import read
 
-        check_none(given)
+        for name in consts:
+            raise Failure(f"-D {name}: a JSON has no consts; a text in lines (.fw) has", 2)
         root, found = read(content)
-        faults = [*found, *(faults_of(root) if root is not None and not found else [])]
-    value = None if root is None or faults else root.value
+        text = Text(root, found if root is None else faults_of(root))
+    value = None if text.root is None or text.faults else text.root.value
     said = application(value) if isinstance(value, Object) else None
-    shown = content.decode("utf-8", "replace")
-    if said is not None and (comments or interrupts):
+    if said is not None and (text.comments or text.interrupts):
         below = code_below(shown) if path.endswith(ENDING) else {}
-        said = dataclasses.replace(with_comments(said, comments, below), interrupts=interrupts)
-    return Source(
-        path=path,
-        text=shown,
-        root=root,
-        faults=tuple(faults),
-        application=said,
-        remarks=tuple(remarks),
-        made=tuple(made),
-        given=dict(given or {}),
-    )
-
-
-def lines_in(path: str, content: bytes) -> bytes:
-    """The lines of a file: those of a C source, which stand there where they stand in it. One that
-    is too long is left as it is, and is refused for it."""
-    if not path.endswith(ENDING) or len(content) > MOST_BYTES:
-        return content
-    return in_lines(content.decode("utf-8", "replace")).encode()
-
-
-def check_none(given: Optional[Given]) -> None:
-    """Raises `Failure` where consts are given for a JSON, which has none."""
-    for name in given or {}:
-        raise Failure(f"-D {name}: a JSON has no consts; a text in lines (.fw) has", 2)
-
-
-def with_comments(
-    application: Application, comments: Mapping[int, str], below: Mapping[int, str]
-) -> Application:
-    """The application with the comments of each line at its first instruction, or else what is
-    `below` it, and there those of the lines above it, up to the one before it or to the task's own
-    line, which is among them."""
-    pairs = ((it, tuple(put(it, comments, below))) for it in application.tasks)
-    tasks = tuple(dataclasses.replace(task, code=code) for task, code in pairs)
-    return dataclasses.replace(application, tasks=tasks)
+        scripts = ((it, tuple(put(it, text.comments, below))) for it in said.tasks)
+        tasks = tuple(task._replace(code=code) for task, code in scripts)
+        said = said._replace(tasks=tasks, interrupts=text.interrupts)
+    faults, remarks, made = tuple(text.faults), tuple(text.remarks), tuple(text.made)
+    return Source(path, shown, text.root, faults, said, remarks, made, consts)
 
 
 def put(task: Task, comments: Mapping[int, str], below: Mapping[int, str]) -> Iterator[Instruction]:
-    """The instructions of a task with their comments."""
+    """The instructions of a task with the comments of each line at its first one, or else what is
+    `below` it, and there those of the lines above it, up to the one before it or to the task's own
+    line, which is among them."""
     last = task.place.line - 1
     for it in task.code:
         line = it.place.line
         if it.begins:
             above = tuple(comments[at] for at in range(last + 1, line) if at in comments)
             said = comments.get(line, below.get(line, ""))
-            it = dataclasses.replace(it, above=above, beside=said)
+            it = it._replace(above=above, beside=said)
         yield it
         last = max(last, line)

@@ -5,7 +5,7 @@ A block begins with `loop`, `while TEST` or `if TEST`, and ends with `end`. Wher
 import dataclasses
 from typing import TYPE_CHECKING, Callable, Dict, List, Optional, Sequence, Tuple
 
-from rdbg.firmware.branches import Test, Tests
+from rdbg.firmware.branches import Test, Tests, split
 from rdbg.firmware.tokens import Refusal, Token, shown
 
 if TYPE_CHECKING:
@@ -14,7 +14,7 @@ if TYPE_CHECKING:
 LOOP, WHILE, IF, ELSE, END = "loop", "while", "if", "else", "end"
 BREAK, CONTINUE = "break", "continue"
 GOTO = ("goto", "jump")
-TASK_ENDS = ("end", "task")
+TASK_ENDS, JUMP = ("end", "task"), ("jump {target}",)
 WORDS = (LOOP, WHILE, IF, ELSE, BREAK, CONTINUE)
 NO_BRACES = "a block has no braces: it ends with end"
 # How a line is written that is one of these.
@@ -62,11 +62,6 @@ class Block:
             self.behind.is_used |= self.otherwise.is_used
 
 
-def is_end_of_task(tokens: Sequence[Token]) -> bool:
-    """Whether a line is `end task`."""
-    return tuple(token.text for token in tokens) == TASK_ENDS
-
-
 class Blocks:
     """The blocks of a script that are open."""
 
@@ -78,12 +73,13 @@ class Blocks:
     def reads(self, tokens: Sequence[Token]) -> bool:
         """Whether a line is of a block; then it is read. Raises `Refusal` where it is wrong."""
         word, known = tokens[0].text, self._script.length
-        if is_end_of_task(tokens) or word not in READERS or (word == END and not self._open):
+        is_end_of_task = tuple(token.text for token in tokens) == TASK_ENDS
+        if is_end_of_task or word not in READERS or (word == END and not self._open):
             if self._open:
                 self._open[-1].has_lines = True
-            if is_end_of_task(tokens):
-                self._script.made(tokens, "end")
-            return is_end_of_task(tokens)
+            if is_end_of_task:
+                self._script.add(tokens, ("end",))
+            return is_end_of_task
         try:
             READERS[word](self, tokens)
         except Refusal:
@@ -95,8 +91,7 @@ class Blocks:
         return True
 
     def close_all(self) -> None:
-        """Refuses blocks that are open at the end of a script, and those behind which it goes on
-        where there is no instruction."""
+        """Refuses blocks that are open at the end, and those behind which nothing stands."""
         for block in self._open:
             if not block.is_refused:
                 message = f"this {block.word.text} isn't closed: end is missing"
@@ -158,9 +153,8 @@ class Blocks:
         """The test behind the first word of a line, and what stands behind it."""
         if len(tokens) < 2:
             raise Refusal(tokens[0].place, f"{FORMS[tokens[0].text]}: there is no test")
-        tests = Tests(tokens[1:], self._script.kept)
-        found = tests.test()
-        return found, tests.numbers.tokens[tests.numbers.at :]
+        tests = Tests(split(tokens[1:]), self._script.kept)
+        return tests.test(), tests.tokens[tests.at :]
 
     def _of_loop(self, word: Token) -> Mark:
         """Where `break` or `continue` goes on."""
@@ -173,7 +167,7 @@ class Blocks:
         self._alone(tokens)
         target = self._of_loop(tokens[0])
         self._open[-1].has_lines = True
-        self._script.plain_jump(tokens, target)
+        self._script.add(tokens, JUMP, target=target)
 
     def _else(self, tokens: Sequence[Token]) -> None:
         if tokens[1:] and tokens[1].text == IF:
@@ -184,7 +178,7 @@ class Blocks:
         if block is None or block.otherwise is None:
             raise Refusal(tokens[0].place, "this else belongs to no if")
         self._check_lines(block, tokens[0])
-        self._script.plain_jump(tokens, block.behind)
+        self._script.add(tokens, JUMP, target=block.behind)
         block.otherwise.at, block.otherwise = self._script.length, None
         block.has_lines = False
 
@@ -196,7 +190,7 @@ class Blocks:
         self._alone(tokens[1:] if len(tokens) > 1 else tokens)
         self._open.pop()
         if block.is_loop:
-            self._script.plain_jump(tokens, Mark(block.head), block.word.text)
+            self._script.add(tokens, JUMP, target=Mark(block.head), note=block.word.text)
         block.put(self._script.length)
         self._closed.append(block)
         self._check_lines(block, tokens[0])

@@ -2,19 +2,7 @@
 the registers that a task leaves free."""
 import dataclasses
 import re
-from typing import (
-    Container,
-    Dict,
-    Iterable,
-    Iterator,
-    List,
-    Mapping,
-    Optional,
-    Sequence,
-    Set,
-    Tuple,
-    Union,
-)
+from typing import Dict, Iterator, List, Mapping, NamedTuple, Optional, Sequence, Set, Tuple, Union
 
 from rdbg.digits import is_digits
 from rdbg.firmware import waits
@@ -26,7 +14,7 @@ from rdbg.firmware.semaphores import Semaphore, why_not
 from rdbg.firmware.tokens import Refusal, Stop, Token, shown, written
 from rdbg.instructions import FORM_OF, WRITES_R1
 from rdbg.operands import PATTERN_OF
-from rdbg.tree import Fault, Member, Node, Object, Part, Place, Places
+from rdbg.tree import Fault, Member, Node, Object, Part, Place
 from rdbg.wording import quoted
 
 # The registers that a line can have, the first one first.
@@ -36,10 +24,8 @@ OWN, OF_ANY = ("take", "nwait"), ("notify", "query", "nclear", "vclear")
 BY_ENTRY_0 = ("sread", "swrite", "mread", "mwrite")
 
 
-@dataclasses.dataclass(frozen=True)
-class Spare:
-    """A register and two notification entries that a task doesn't use, one to look at bits, and one
-    at which it waits (`ending`); none where all are used."""
+class Spare(NamedTuple):
+    """What a task doesn't use, to look at bits, and to wait at (`ending`); none for all used."""
 
     register: Optional[str]
     entry: Optional[int]
@@ -77,10 +63,9 @@ class Uses:
 
 
 def spare(
-    names: Sequence[str], own: Uses, all_uses: Iterable[Uses], entries: int, has_waits: bool
+    names: Sequence[str], own: Uses, all_uses: Sequence[Uses], entries: int, has_waits: bool
 ) -> Spare:
-    """What tasks of these names, which have one script, don't use, of so many entries each, where
-    some lines wait at one or none does."""
+    """What tasks of one script don't use, of so many entries each; one is to wait at."""
     told = {entry for uses in all_uses for name, entry in uses.told if name in names}
     free = (it for it in reversed(range(entries)) if it not in own.entries | told)
     register = next((it for it in REGISTERS if it not in own.registers), None)
@@ -108,7 +93,7 @@ def without_parentheses(tokens: Sequence[Token]) -> Sequence[Token]:
 
 @dataclasses.dataclass(frozen=True)
 class Draft:
-    """An instruction whose labels aren't numbers yet: its word and operands, and its tokens."""
+    """An instruction. Labels among its operands are numbers once its script is closed."""
 
     parts: Tuple[Operand, ...]
     tokens: Tuple[Token, ...]
@@ -118,22 +103,19 @@ class Draft:
         """Takes note of what it uses."""
         uses.add([part.text for part in self.parts])
 
-    def needs_label(self, labels: Container[str]) -> bool:
-        """Whether the instruction jumps, and where its label should be there is none: then another
-        of its words is the label, out of its place."""
+    def needs_label(self, labels: Mapping[str, object]) -> bool:
+        """Whether it jumps, and no label stands in its place: then another word is one."""
         if "L" not in FORM_OF[self.tokens[0].text].symbols:
             return False
         names = [part.label.text for part in self.parts if part.label is not None]
         return not any(name in labels or not LIKE_REGISTER.fullmatch(name) for name in names)
 
-    def node(self, parts: Sequence[Operand]) -> Node:
-        """The instruction, of parts as rdbg reads them. A space has the place before it."""
-        columns: List[int] = []
-        for part in parts:
-            columns += [*part.columns, part.columns[-1]]
-        place, text = self.tokens[0].place, " ".join(part.text for part in parts)
+    def node(self) -> Node:
+        """The instruction. A space has the place before it."""
+        columns = [at for part in self.parts for at in (*part.columns, part.columns[-1])]
+        place, text = self.tokens[0].place, " ".join(part.text for part in self.parts)
         spelled = tuple(part.spelled or part.text for part in self.parts)
-        return Node(text, place, Places(place.line, columns[:-1]), written(self.tokens), spelled)
+        return Node(text, place, columns[:-1], written(self.tokens), spelled)
 
 
 def label_out_of_place(part: Operand, line: int) -> Optional[Token]:
@@ -145,13 +127,14 @@ def label_out_of_place(part: Operand, line: int) -> Optional[Token]:
 @dataclasses.dataclass(frozen=True)
 class Several:
     """A line that becomes instructions, which are written as in `rdbg.firmware.branches`. They jump
-    to `target`, if anywhere; `note` is said behind the line, and `cost` of it."""
+    to `target`, if anywhere, a number once its script is closed; `note` is said behind the line,
+    and `cost` of it."""
 
     tokens: Tuple[Token, ...]
     texts: Tuple[str, ...]
-    target: Union[None, Token, Mark] = None
-    note: str = ""
-    cost: str = ""
+    target: Union[None, Token, Mark, int]
+    note: str
+    cost: str
 
     @property
     def length(self) -> int:
@@ -163,47 +146,30 @@ class Several:
         for text in self.texts:
             uses.add(text.split(" "))
 
-    @property
-    def needs_entry(self) -> bool:
-        """Whether it needs a notification entry."""
-        return any("{entry}" in text for text in self.texts)
-
-    @property
-    def needs_ending(self) -> bool:
-        """Whether it needs one at which an interrupt ends a wait."""
-        return any("{ending}" in text for text in self.texts)
+    def needs(self, what: str) -> bool:
+        """Whether it needs a register (`{spare}`), a notification entry (`{entry}`), or one at
+        which an interrupt ends a wait (`{ending}`)."""
+        return any(what in text for text in self.texts)
 
     def lacks(self, spare: Spare) -> str:
         """What there is none of that it needs; empty where there is all."""
-        texts = " ".join(self.texts)
-        if "{spare}" in texts and spare.register is None:
+        if self.needs("{spare}") and spare.register is None:
             return "a register that its task doesn't use, and all of r1 to r7 are used"
-        if (self.needs_entry and spare.entry is None) or (
-            self.needs_ending and spare.ending is None
-        ):
-            return (
-                "a notification entry that its task doesn't use: notes N gives each task N of them"
-            )
+        lacks_entry = self.needs("{entry}") and spare.entry is None
+        if lacks_entry or (self.needs("{ending}") and spare.ending is None):
+            entry = "a notification entry that its task doesn't use"
+            return f"{entry}: notes N gives each task N of them"
         return ""
 
-    def nodes(self, own: str, spare: Spare, at: int, target: int) -> List[Node]:
+    def nodes(self, own: str, spare: Spare, at: int) -> Iterator[Node]:
         """The instructions, the first of which has this number, of a task of this name."""
-        here = range(at, at + self.length + 1)
-        found: List[Node] = []
+        place, here = self.tokens[0].place, range(at, at + self.length + 1)
+        free = {"spare": spare.register, "entry": spare.entry, "ending": spare.ending}
         for index, text in enumerate(self.texts):
-            made = text.format(
-                own=own,
-                spare=spare.register,
-                entry=spare.entry,
-                ending=spare.ending,
-                target=target,
-                here=here,
-            )
-            place = self.tokens[0].place
-            places = Places(place.line, [place.column] * len(made))
+            made = text.format(own=own, target=self.target, here=here, **free)
             part = Part(index, self.length, self.note, self.cost)
-            found.append(Node(made, place, places, written(self.tokens), (), part))
-        return found
+            columns = [place.column] * len(made)
+            yield Node(made, place, columns, written(self.tokens), (), part)
 
 
 Line = Union[Draft, Several]
@@ -212,15 +178,11 @@ Line = Union[Draft, Several]
 class Script:
     """The script of a task, read line by line; what it refuses is kept in `refusals`."""
 
-    def __init__(self, task: str, kept: Kept) -> None:
+    def __init__(self, task: str, kept: Kept, semaphores: Mapping[str, Semaphore]) -> None:
         self.task, self.kept, self.refusals = task, kept, kept.refusals
-        self.length = 0
-        self.blocks = Blocks(self)
-        self.semaphores: Mapping[str, Semaphore] = {}
+        self.length, self.blocks, self.semaphores = 0, Blocks(self), semaphores
         # (each line with the number of its first instruction)
         self._lines: List[Tuple[int, Line]] = []
-        self._numbered: List[List[Operand]] = []
-        self._targets: List[int] = []
         self._labels: Dict[str, Tuple[Token, int]] = {}
 
     def label(self, token: Token) -> None:
@@ -228,11 +190,10 @@ class Script:
         if not NAME.fullmatch(token.text):
             message = f"{shown(token.text)} can't be a label: letters, digits and _ can"
             raise Refusal(token.place, message)
-        if token.text in self._labels:
-            line = self._labels[token.text][0].place.line
-            message = f"{self.task}: label {shown(token.text)} stands in line {line} already"
-            raise Refusal(token.place, message)
-        self._labels[token.text] = token, self.length
+        first, _ = self._labels.setdefault(token.text, (token, self.length))
+        if first is not token:
+            message = f"label {shown(token.text)} stands in line {first.place.line} already"
+            raise Refusal(token.place, f"{self.task}: {message}")
 
     def refuse(self, token: Token, message: str) -> None:
         """Keeps what is refused of a line."""
@@ -248,22 +209,25 @@ class Script:
 
     def jump(self, tokens: Sequence[Token], test: Test, target: Union[Token, Mark]) -> None:
         """A line that jumps where a test is met."""
-        made = test.jump()
-        self._jump(Several(tuple(tokens), made.texts, target, "", made.cost()))
+        self.add(tokens, *test.jump(), target)
 
-    def made(self, tokens: Sequence[Token], text: str) -> None:
-        """A line that is one instruction, which is written otherwise."""
-        self._add(Several(tuple(tokens), (text,), cost="1 move"))
-
-    def wait(self, tokens: Sequence[Token]) -> None:
-        """A line that waits. Raises `Refusal` where it is wrong."""
-        texts, cost = waits.texts_of(tokens, self.kept)
-        self._add(Several(tuple(tokens), texts, cost=cost))
+    def add(
+        self,
+        tokens: Sequence[Token],
+        texts: Tuple[str, ...],
+        cost: str = "1 move",
+        target: Union[None, Token, Mark] = None,
+        note: str = "",
+    ) -> None:
+        """A line that becomes instructions."""
+        if isinstance(target, Mark):
+            target.is_used = True
+        self._add(Several(tuple(tokens), texts, target, note, cost))
 
     @property
     def has_waits(self) -> bool:
         """Whether some line waits at an entry that an interrupt may end."""
-        return any(isinstance(it, Several) and it.needs_ending for _, it in self._lines)
+        return any(isinstance(it, Several) and it.needs("{ending}") for _, it in self._lines)
 
     def fillers(self, queue: str) -> Iterator[Token]:
         """The lines that put something into a queue."""
@@ -271,30 +235,17 @@ class Script:
             if isinstance(line, Draft) and [it.text for it in line.parts[1:2]] == [queue]:
                 yield from [line.tokens[0]] if line.tokens[0].text in waits.FILLS else []
 
-    def plain_jump(self, tokens: Sequence[Token], target: Mark, note: str = "") -> None:
-        """A line that jumps."""
-        self._jump(Several(tuple(tokens), ("jump {target}",), target, note, "1 move"))
-
-    def _jump(self, line: Several) -> None:
-        if isinstance(line.target, Mark):
-            line.target.is_used = True
-        self._add(line)
-
     def instruction(self, tokens: Sequence[Token]) -> None:
-        """Reads an instruction. Of one that is refused its word is kept, so that it counts. Raises
-        `Stop` where there are far too many."""
-        parts = [as_written(tokens[0])]
-        found: List[Refusal] = []
-        try:
-            parts += self._operands(tokens, found)
-        except Refusal as refusal:
-            found.append(refusal)
-        index = self.length
+        """Reads an instruction; where it is refused its word counts. Raises `Stop` at the most."""
+        parts, index = [as_written(tokens[0])], self.length
+        kept = Kept(self.kept.constants, [])
+        with kept.keeping():
+            parts += self._operands(tokens, kept)
         why = why_not(tokens[0].text, parts[1].text, self.semaphores) if parts[1:] else ""
         if why:
-            found.append(Refusal(tokens[0].place, why))
+            kept.refuse(tokens[0].place, why)
         self._add(Draft(tuple(parts), tuple(tokens)))
-        self.refusals += [self._told(refusal, index, tokens) for refusal in found]
+        self.refusals += [self._told(refusal, index, tokens) for refusal in kept.refusals]
 
     def placeholder(self, tokens: Sequence[Token]) -> None:
         """Keeps the place of an instruction that is refused."""
@@ -306,16 +257,16 @@ class Script:
         message = f"{self.task}, instruction {index}: {text}: {refusal.message}"
         return Refusal(refusal.place, message, refusal.kind)
 
-    def _operands(self, tokens: Sequence[Token], found: List[Refusal]) -> List[Operand]:
+    def _operands(self, tokens: Sequence[Token], kept: Kept) -> List[Operand]:
         """The operands of an instruction; what is too much as it is written."""
         symbols = FORM_OF[tokens[0].text].symbols
-        reader = Operands(without_parentheses(tokens[1:]), Kept(self.kept.constants, found))
+        reader = Operands(without_parentheses(tokens[1:]), kept)
         operands: List[Operand] = []
         while reader.next() is not None:
             at, count = reader.at, len(operands)
             read = reader.operand(symbols[count]) if count < len(symbols) else reader.whatever()
             spelled = written(reader.tokens[at : reader.at])
-            operands.append(dataclasses.replace(read, spelled=spelled))
+            operands.append(read._replace(spelled=spelled))
         return operands
 
     def lines(self) -> List[int]:
@@ -338,17 +289,8 @@ class Script:
         self.blocks.close_all()
         for token, at in self._labels.values():
             if at == self.length:
-                message = f"{self.task}: no instruction stands behind label {shown(token.text)}"
-                self.refusals.append(Refusal(token.place, message))
-        # (each instruction with numbers for labels)
-        self._numbered = [
-            self._with_numbers(line, at) if isinstance(line, Draft) else []
-            for at, line in self._lines
-        ]
-        self._targets = [
-            self._target_of(line, at) if isinstance(line, Several) else 0
-            for at, line in self._lines
-        ]
+                self.refuse(token, f"no instruction stands behind label {shown(token.text)}")
+        self._lines = [(at, self._with_numbers(line, at)) for at, line in self._lines]
 
     def check_spare(self, spare: Spare) -> None:
         """Refuses lines that need what their task has none of."""
@@ -359,48 +301,42 @@ class Script:
                 self.refusals.append(self._told(refusal, at, line.tokens))
 
     def remarks(self, spare: Spare, names: Sequence[str]) -> Iterator[Fault]:
-        """What there is to say of lines that look at bits, and of waits whose end is chosen, of
-        tasks of these names. Nothing is said of one that is refused."""
+        """What there is to say of lines that look at bits or wait, and aren't refused."""
         for _, line in self._lines:
             if not isinstance(line, Several) or line.lacks(spare):
                 continue
-            if line.needs_ending:
+            if line.needs("{ending}"):
                 ends = [f"{name}{waits.NAME_END}" for name in names]
                 yield Fault(line.tokens[0].place, "", waits.remark(line.cost, ends))
-            if line.needs_entry:
+            if line.needs("{entry}"):
                 by = f"entry {spare.entry} and {spare.register}"
                 text = f"note: {line.cost}, by {by}; r0 is another in between, and then as before"
                 yield Fault(line.tokens[0].place, "", text)
 
-    def nodes(self, own: str, spare: Spare) -> Tuple[Node, ...]:
+    def nodes(self, own: str, spare: Spare) -> Iterator[Node]:
         """The instructions of a task of this name, when the script is closed."""
-        found: List[Node] = []
-        for (at, line), parts, target in zip(self._lines, self._numbered, self._targets):
-            if isinstance(line, Draft):
-                found.append(line.node(parts))
-            else:
-                found += line.nodes(own, spare, at, target)
-        return tuple(found)
+        for at, line in self._lines:
+            yield from [line.node()] if isinstance(line, Draft) else line.nodes(own, spare, at)
 
-    def _target_of(self, line: Several, index: int) -> int:
-        """The number of the instruction that a line jumps to."""
-        if line.target is None:
-            return 0
-        if isinstance(line.target, Mark):
-            # (what is refused of its block is told there)
-            return min(line.target.at or 0, self.length - 1)
-        part = self._target(as_written(line.target), line.target, index, line.tokens)
-        return int(part.text) if part.text.isdigit() else 0
-
-    def _with_numbers(self, draft: Draft, index: int) -> List[Operand]:
-        """The parts of an instruction, with the number of an instruction in place of a label."""
-        first, *operands = draft.parts
+    def _with_numbers(self, line: Line, index: int) -> Line:
+        """A line with the number of an instruction in place of each label."""
+        if isinstance(line, Several):
+            number = 0
+            if isinstance(line.target, Mark):
+                # (what is refused of its block is told there)
+                number = min(line.target.at or 0, self.length - 1)
+            elif isinstance(line.target, Token):
+                part = self._target(as_written(line.target), line.target, index, line.tokens)
+                number = int(part.text) if part.text.isdigit() else 0
+            return dataclasses.replace(line, target=number)
+        first, *operands = line.parts
         labels = [part.label for part in operands]
-        if draft.tokens[0].text in FORM_OF and draft.needs_label(self._labels):
-            line = draft.tokens[0].place.line
-            labels = [label_out_of_place(part, line) for part in operands]
+        if line.tokens[0].text in FORM_OF and line.needs_label(self._labels):
+            row = line.tokens[0].place.line
+            labels = [label_out_of_place(part, row) for part in operands]
         pairs = zip(operands, labels)
-        return [first, *(self._target(part, it, index, draft.tokens) for part, it in pairs)]
+        parts = (self._target(part, it, index, line.tokens) for part, it in pairs)
+        return dataclasses.replace(line, parts=(first, *parts))
 
     def _target(
         self, part: Operand, label: Optional[Token], index: int, tokens: Sequence[Token]
@@ -411,7 +347,7 @@ class Script:
         name = label.text
         if name in self._labels:
             number = made(str(self._labels[name][1]), label.place)
-            return dataclasses.replace(number, spelled=name)
+            return number._replace(spelled=name)
         near = near_to(name, self._labels)
         hint = f"; a label has a colon: {name}:" if name in WORDS else near
         message = f"there is no label {shown(name)}{hint}"
@@ -421,8 +357,7 @@ class Script:
 
 @dataclasses.dataclass(frozen=True)
 class Thing:
-    """An object or a task: its first word, its keys with their values, and a task's script, which
-    several have where there is a count."""
+    """An object or a task, by its first word; of a script several have, `count` of them."""
 
     word: Token
     members: Tuple[Member, ...]
@@ -443,17 +378,12 @@ class Thing:
         for name in self.names():
             members = [it if it.key != "name" else renamed(it, name) for it in self.members]
             if self.script is not None:
-                code = Node(self.script.nodes(name, spare), self.word.place)
+                code = Node(tuple(self.script.nodes(name, spare)), self.word.place)
                 members.append(Member("code", self.word.place, code))
             yield Node(Object(tuple(members)), self.word.place)
 
 
 def renamed(member: Member, name: str) -> Member:
     """The name of a thing, or of one of several tasks."""
-    node = member.node
-    if node.value == name:
-        return member
-    columns = [node.place.column] * len(name)
-    return dataclasses.replace(
-        member, node=Node(name, node.place, Places(node.place.line, columns))
-    )
+    is_own, place = member.node.value == name, member.node.place
+    return member if is_own else member._replace(node=Node(name, place, [place.column] * len(name)))

@@ -1,6 +1,5 @@
 """Interrupts that a text names: `interrupt ping: notify dsp 0 1 set`."""
-import dataclasses
-from typing import Callable, Dict, Iterator, List, Mapping, Optional, Sequence, Tuple
+from typing import Callable, Dict, Iterator, List, Mapping, NamedTuple, Optional, Sequence, Tuple
 
 from rdbg.application import ANY, MOST_APART, MOST_TIMES, NO_INTERRUPT, Interrupt
 from rdbg.checking.freertos import FROM_ISR, called
@@ -17,18 +16,27 @@ COLON, SEMICOLON, ANY_TIMES = ":", ";", "any"
 CALLS = "send Q HEX, notify K I N ACTION, or give NAME"
 ROUND = "let a task of the highest priority play it, with wait for its time (docs/FROM_C.md)"
 NOTIFY, SEND = "notify", "send"
+KEYS = AFTER, APART, TIMES = "after", "apart", "times"
+# The operands of each call, and how they are read.
+OPERANDS: Dict[str, Dict[str, Callable[[Operands], Operand]]] = {
+    NOTIFY: {
+        "K": Operands.task,
+        "I": Operands.value,
+        "N": Operands.value,
+        "ACTION": Operands.word,
+    },
+    SEND: {"Q": Operands.word, "HEX": Operands.data},
+}
 
 
-@dataclasses.dataclass(frozen=True)
-class Call:
+class Call(NamedTuple):
     """A call of a handler: its words, and its tokens."""
 
     words: Tuple[str, ...]
     tokens: Tuple[Token, ...]
 
 
-@dataclasses.dataclass(frozen=True)
-class Read:
+class Read(NamedTuple):
     """An interrupt as it was read: its name, what is said of when it comes, and its calls."""
 
     name: Token
@@ -74,43 +82,33 @@ class InterruptLine:
     def _keys(self, tokens: Sequence[Token]) -> None:
         """What is said of when it comes."""
         reader = Operands(tokens, self._kept)
-        for token in iter(reader.next, None):
-            assert token is not None
-            reader.at += 1
+        for token in reader.each():
             if token.text not in KEYS:
                 raise Refusal(token.place, f"{shown(token.text)} is no key: {FORM}")
             if reader.next() is None:
                 raise Refusal(token.place, f"{FORM}: nothing stands behind {token.text}")
-            KEYS[token.text](self, reader)
-
-    def _read_after(self, reader: Operands) -> None:
-        reader.word()
-        self._after = reader.tokens[reader.at - 1]
-
-    def _read_apart(self, reader: Operands) -> None:
-        self._apart = self._bounded(reader, "apart", 0, MOST_APART)
-
-    def _read_times(self, reader: Operands) -> None:
-        token = reader.next()
-        if token is not None and token.text == ANY_TIMES:
-            reader.at += 1
-            self._times = ANY
-        else:
-            self._times = self._bounded(reader, "times", 1, MOST_TIMES)
+            if token.text == AFTER:
+                reader.word()
+                self._after = reader.tokens[reader.at - 1]
+            elif token.text == APART:
+                self._apart = self._bounded(reader, APART, 0, MOST_APART)
+            elif reader.is_next(ANY_TIMES):
+                self._times = ANY
+            else:
+                self._times = self._bounded(reader, TIMES, 1, MOST_TIMES)
 
     def _bounded(self, reader: Operands, key: str, least: int, most: int) -> int:
         token, value = reader.next(), reader.number()
-        if token is not None and not least <= value <= most:
-            any_times = ", or any" if key == "times" else ""
-            message = f"{key} is {value}, and is to be {least} to {most}{any_times}"
-            self._kept.refusals.append(Refusal(token.place, message))
-            return least
-        return value
+        if token is None or least <= value <= most:
+            return value
+        limits = f"{least} to {most}{', or any' if key == TIMES else ''}"
+        self._kept.refuse(token.place, f"{key} is {value}, and is to be {limits}")
+        return least
 
     def _calls(self, tokens: Sequence[Token]) -> Iterator[Call]:
         """The calls behind the colon, with semicolons between them."""
         part: List[Token] = []
-        for token in [*tokens[1:], dataclasses.replace(tokens[0], text=SEMICOLON)]:
+        for token in [*tokens[1:], tokens[0]._replace(text=SEMICOLON)]:
             if token.text != SEMICOLON:
                 part.append(token)
                 continue
@@ -129,20 +127,16 @@ class InterruptLine:
             return self._give(tokens)
         if word not in (NOTIFY, SEND):
             raise Refusal(tokens[0].place, why_no_call(word))
-        kinds: Tuple[Tuple[str, Callable[[Operands], Operand]], ...] = OPERANDS[word]
-        found = [word]
-        for symbol, read in kinds:
+        found, form = [word], f"{word} {' '.join(OPERANDS[word])}"
+        for symbol, read in OPERANDS[word].items():
             if reader.next() is None:
-                message = f"{form_of(word)} lacks its {KIND_OF[symbol].noun}"
-                raise Refusal(tokens[0].place, message)
+                raise Refusal(tokens[0].place, f"{form} lacks its {KIND_OF[symbol].noun}")
             found.append(read(reader).text)
-        reader.end(form_of(word))
+        reader.end(form)
         if word == SEND and found[1] in self._semaphores:
             self._give([tokens[0], tokens[1]])
-            named = self._semaphores[found[1]]
-            raise Refusal(
-                tokens[1].place, f"{named.name} is a {named.word.text}: give {named.name}"
-            )
+            word = self._semaphores[found[1]].word.text
+            raise Refusal(tokens[1].place, f"{found[1]} is a {word}: give {found[1]}")
         return found
 
     def _give(self, tokens: Sequence[Token]) -> List[str]:
@@ -158,27 +152,6 @@ class InterruptLine:
         return [SEND, name, "00"]
 
 
-KEYS: Dict[str, Callable[[InterruptLine, Operands], None]] = {
-    "after": InterruptLine._read_after,
-    "apart": InterruptLine._read_apart,
-    "times": InterruptLine._read_times,
-}
-OPERANDS: Dict[str, Tuple[Tuple[str, Callable[[Operands], Operand]], ...]] = {
-    NOTIFY: (
-        ("K", Operands.task),
-        ("I", Operands.value),
-        ("N", Operands.value),
-        ("ACTION", Operands.word),
-    ),
-    SEND: (("Q", Operands.word), ("HEX", Operands.data)),
-}
-
-
-def form_of(word: str) -> str:
-    """How a call is written."""
-    return " ".join([word, *(symbol for symbol, _ in OPERANDS[word])])
-
-
 def why_no_call(word: str) -> str:
     """What to say of a word that begins no call of an interrupt."""
     name = called(word)
@@ -192,30 +165,28 @@ def why_no_call(word: str) -> str:
     return f"{shown(word)} is no call of an interrupt{near_to(word, (NOTIFY, SEND, GIVE))}: {CALLS}"
 
 
-class Names:
+class Names(NamedTuple):
     """What there is that interrupts can name; of some interrupts the line is refused."""
 
-    def __init__(
-        self, tasks: Sequence[str], queues: Sequence[str], entries: int, refused: Sequence[str]
-    ) -> None:
-        self.tasks, self.queues, self.entries = tasks, queues, entries
-        self.refused = refused
+    tasks: Sequence[str]
+    queues: Sequence[str]
+    entries: int
+    refused: Sequence[str]
 
     def faults(self, it: Read, above: Sequence[Read]) -> Iterator[Refusal]:
         """What is wrong with the names of an interrupt, where these stand above it."""
-        names = [other.name.text for other in above]
-        if it.name.text in names:
-            line = above[names.index(it.name.text)].name.place.line
-            message = f"interrupt {it.name.text} stands in line {line} already"
-            yield Refusal(it.name.place, message)
-        if it.after is not None and it.after.text not in (*names, *self.refused):
-            message = f"no interrupt {shown(it.after.text)} stands above"
-            yield Refusal(it.after.place, message + near_to(it.after.text, names))
-        elif it.after is not None and it.after.text in names:
-            other = above[names.index(it.after.text)]
-            if other.times == ANY and other.after is None:
-                message = f"{it.after.text} comes any number of times: what comes after it needs"
-                yield Refusal(it.after.place, f"{message} times N in the line of {it.after.text}")
+        named = {other.name.text: other for other in reversed(above)}
+        if it.name.text in named:
+            line = named[it.name.text].name.place.line
+            yield Refusal(it.name.place, f"interrupt {it.name.text} stands in line {line} already")
+        after = it.after.text if it.after else ""
+        other = named.get(after)
+        if it.after is not None and other is None and after not in self.refused:
+            message = f"no interrupt {shown(after)} stands above{near_to(after, named)}"
+            yield Refusal(it.after.place, message)
+        if it.after is not None and other and other.times == ANY and other.after is None:
+            message = f"{after} comes any number of times: what comes after it needs times N"
+            yield Refusal(it.after.place, f"{message} in the line of {after}")
         for call in it.calls:
             yield from self._of_call(call)
 

@@ -3,7 +3,7 @@
 Such a line is refused. The names that it gives are kept all the same, so that the lines that use
 them aren't refused as well."""
 import re
-from typing import Container, Iterator, Optional, Sequence, Set, Tuple
+from typing import Iterator, Optional, Sequence, Set, Tuple
 
 from rdbg.checking.freertos import called, sentence
 from rdbg.checking.slips import statement
@@ -15,17 +15,8 @@ from rdbg.firmware.tokens import Token, shown
 from rdbg.instructions import FORM_OF
 from rdbg.wording import by_word, nearest
 
-FIRST_WORDS = (
-    *FORM_OF,
-    *OBJECTS,
-    *SETTINGS,
-    *blocks.WORDS,
-    *FORMS,
-    GIVE,
-    "interrupt",
-    "wait",
-    "const",
-)
+OTHERS = (GIVE, "interrupt", "wait", "const")
+FIRST_WORDS = (*FORM_OF, *OBJECTS, *SETTINGS, *blocks.WORDS, *FORMS, *OTHERS)
 BLOCKS_ARE = "loop, while and if end with end"
 SEMAPHORE = "it is written semaphore NAME length N given, or mutex NAME"
 # How that is written which FreeRTOS calls otherwise.
@@ -98,13 +89,11 @@ def object_of(tokens: Sequence[Token]) -> Tuple[str, Optional[Token]]:
     return (meant or "", name) if name and is_object and not is_set else ("", None)
 
 
-def semaphores_of(
-    lines: Sequence[Sequence[Token]], known: Container[str]
-) -> Iterator[Tuple[str, Semaphore]]:
-    """Those that lines were meant to give, by their names, beside those that are known."""
-    for tokens in lines:
-        word, name = object_of(tokens) if tokens[0].text.lower() in SEMAPHORES else ("", None)
-        if name is not None and word == MUTEX and name.text not in known:
+def semaphores_of(lines: Sequence[Sequence[Token]]) -> Iterator[Tuple[str, Semaphore]]:
+    """Those that lines were meant to give, by their names."""
+    for tokens in (it for it in lines if it[0].text.lower() in SEMAPHORES):
+        word, name = object_of(tokens)
+        if name is not None and word == MUTEX:
             yield name.text, Semaphore(tokens[0], name.text, 1, True)
 
 
@@ -117,8 +106,7 @@ def near_object(word: str, others: Sequence[str]) -> str:
 
 
 def as_const(tokens: Sequence[Token]) -> Optional[Sequence[Token]]:
-    """The name and the number of a const that is written otherwise: `const int RX = 5`, `cosnt RX
-    5`. None where a line is none."""
+    """The name and number of a const that is written otherwise, if one is: `const int RX = 5`."""
     words = [token.text for token in tokens[:MOST_TOKENS]]
     at = 0
     while at < len(words) and (TYPES.fullmatch(words[at]) or words[at].lower() in CONSTANTS):
@@ -147,12 +135,13 @@ def message_of(tokens: Sequence[Token], targets: Set[str]) -> str:
         return said
     if BRACES.fullmatch(word):
         return f"there are no braces: {BLOCKS_ARE}"
-    if len(tokens) > 1 and VARIABLES.fullmatch(word) and word.lower() not in OTHER_WORDS:
-        return f"no line begins with {shown(word)}: {NO_VARIABLES}"
-    if len(tokens) > 1 and NAME.fullmatch(word) and ASSIGNS.fullmatch(tokens[1].text):
-        return f"no line begins with {shown(word)}: {NO_VARIABLES}"
-    if word.lower() in OTHER_WORDS and len(tokens) > 1:
-        return f"{shown(word)} is written {form_of(OTHER_WORDS[word.lower()])}"
+    other, behind = OTHER_WORDS.get(word.lower()), tokens[1:]
+    is_of_c = behind and VARIABLES.fullmatch(word) and not other
+    no_word = f"no line begins with {shown(word)}"
+    if is_of_c or (behind and NAME.fullmatch(word) and ASSIGNS.fullmatch(behind[0].text)):
+        return f"{no_word}: {NO_VARIABLES}"
+    if other and behind:
+        return f"{shown(word)} is written {form_of(other)}"
     if is_label(tokens, targets):
-        return f"no line begins with {shown(word)}; a label has a colon: {shown(word)}:"
-    return f"no line begins with {shown(word)}{near_to(word, FIRST_WORDS)}"
+        return f"{no_word}; a label has a colon: {shown(word)}:"
+    return f"{no_word}{near_to(word, FIRST_WORDS)}"

@@ -1,9 +1,10 @@
 """Numbers of a text in lines: decimal or hexadecimal, by name, shifted by `<<`, joined by `|`."""
+import contextlib
 import re
-from typing import Dict, Iterable, List, Mapping, NamedTuple, Optional, Sequence, Set
+from typing import Dict, Iterable, Iterator, List, Mapping, NamedTuple, Optional, Sequence, Set
 
 from rdbg.checking.slips import slip
-from rdbg.firmware.tokens import Refusal, Token, shown
+from rdbg.firmware.tokens import Refusal, Stop, Token, shown
 from rdbg.operands import Scope
 from rdbg.tree import Place
 from rdbg.wording import nearest
@@ -39,8 +40,7 @@ def too_large(place: Place, text: str) -> Refusal:
 
 
 def value_of(place: Place, text: str) -> Optional[int]:
-    """The value of a text that is a number; none where it isn't. Raises `Refusal` where it is too
-    large, or would be another number in C."""
+    """The value of a text, if it is a number. Raises `Refusal` where C has another."""
     found = NUMBER.fullmatch(text)
     if not found:
         return None
@@ -105,26 +105,45 @@ class Kept(NamedTuple):
     constants: Constants
     refusals: List[Refusal]
 
+    def refuse(self, place: Place, message: str) -> None:
+        """Keeps what is refused, where the reading goes on."""
+        self.refusals.append(Refusal(place, message))
+
+    @contextlib.contextmanager
+    def keeping(self) -> Iterator[None]:
+        """Keeps what a block refuses. A `Stop` is raised all the same."""
+        try:
+            yield
+        except Stop:
+            raise
+        except Refusal as refusal:
+            self.refusals.append(refusal)
+
 
 class Numbers:
     """Reads numbers from the tokens of a line, the next from `at` on. What isn't right is kept in
     `refusals` where it leaves no doubt where the number ends; else it is raised."""
 
-    def __init__(self, tokens: Sequence[Token], kept: Kept) -> None:
-        self.tokens, self.kept, self.at = tokens, kept, 0
+    def __init__(self, tokens: Sequence[Token], kept: Kept, at: int = 0) -> None:
+        self.tokens, self.kept, self.at = tokens, kept, at
         self.constants, self.refusals = kept
 
     def next(self) -> Optional[Token]:
         """The token at `at`, which isn't passed; none at the end of the line."""
         return self.tokens[self.at] if self.at < len(self.tokens) else None
 
-    def is_next(self, sign: str) -> bool:
-        """Whether this sign comes next; then it is passed."""
+    def each(self) -> Iterator[Token]:
+        """The tokens that come, each of which is passed."""
+        while self.at < len(self.tokens):
+            self.at += 1
+            yield self.tokens[self.at - 1]
+
+    def is_next(self, *signs: str) -> bool:
+        """Whether one of these signs comes next; then it is passed."""
         token = self.next()
-        if token is None or token.text != sign:
-            return False
-        self.at += 1
-        return True
+        is_there = token is not None and token.text in signs
+        self.at += is_there
+        return is_there
 
     def end(self, form: str = "") -> None:
         """Refuses what stands behind the end of a line, which is written so."""
@@ -152,6 +171,15 @@ class Numbers:
                 value = 0
         return value
 
+    def below_0(self) -> Optional[int]:
+        """The next number, if it is one with a `-`, as the number that 32 bits make of it."""
+        token = self.next()
+        if token is None or not token.text.startswith("-") or token.text == "-":
+            return None
+        self.at += 1
+        behind = Token(token.text[1:], token.place_of(1))
+        return -Numbers([behind], self.kept).number() & LARGEST
+
     def _single(self, depth: int) -> int:
         token = self.next()
         if token is None:
@@ -169,20 +197,18 @@ class Numbers:
         return self._value(token)
 
     def _value(self, token: Token) -> int:
-        try:
+        value: Optional[int] = 0
+        with self.kept.keeping():
             value = value_of(token.place, token.text)
-        except Refusal as refusal:
-            self.refusals.append(refusal)
-            return 0
-        value = self.constants.value(token) if value is None else value
+            value = self.constants.value(token) if value is None else value
         if value is None:
-            self.refusals.append(self._unknown(token))
+            self._refuse_unknown(token)
         return value or 0
 
-    def _unknown(self, token: Token) -> Refusal:
-        """Why a word is no number. Raises it where the word begins more than one."""
+    def _refuse_unknown(self, token: Token) -> None:
+        """Refuses a word that is no number. Raises it where the word begins more than one."""
         if token.text in CALLED:
             raise Refusal(token.place, f"{token.text} isn't there: {CALLED[token.text]}")
         meant = slip("V", token.text, NOTHING_NAMED) if NAME.fullmatch(token.text) else ""
         hint = self.constants.near(token.text) or (f"; {meant}" if meant else "")
-        return Refusal(token.place, f"{shown(token.text)} is no number and no const{hint}")
+        self.kept.refuse(token.place, f"{shown(token.text)} is no number and no const{hint}")

@@ -1,13 +1,12 @@
 """The lines of a text in lines that aren't instructions: what each says of the application."""
-import dataclasses
 import re
-from typing import Dict, List, Optional, Sequence
+from typing import Dict, Iterator, List, Optional, Sequence, Tuple
 
 from rdbg.digits import is_digits
 from rdbg.firmware.numbers import NAME, Kept, Numbers
 from rdbg.firmware.tokens import Refusal, Token, shown
 from rdbg.shapes import FILE, Key, Shape
-from rdbg.tree import Member, Node, Number, Places
+from rdbg.tree import Member, Node, Number
 
 # By the first word of a line: the keys of a file that are numbers, and those that are lists.
 SETTINGS: Dict[str, Key] = {key.name: key for key in FILE.keys if key.of is None}
@@ -27,15 +26,6 @@ def form_of(word: str) -> str:
     return " ".join([word, *(WRITTEN[key.holds].format(key.name) for key in keys)])
 
 
-def number_of(tokens: Sequence[Token], kept: Kept) -> Node:
-    """The number behind the first token of a line."""
-    reader = Numbers(tokens, kept)
-    reader.at = 1
-    node = next_number(reader)
-    reader.end()
-    return node
-
-
 def next_number(reader: Numbers) -> Node:
     """The next number. Its place is that of its first token."""
     token = reader.next()
@@ -46,7 +36,13 @@ def next_number(reader: Numbers) -> Node:
 
 def name_node(token: Token) -> Node:
     """A name."""
-    return Node(token.text, token.place, Places(token.place.line, token.columns()))
+    return Node(token.text, token.place, token.columns())
+
+
+def queue(name: Node, length: Node, item: Node) -> Tuple[Member, ...]:
+    """The members of a queue for which a line of another thing stands."""
+    values = (("name", name), ("length", length), ("item", item))
+    return tuple(Member(key, node.place, node) for key, node in values)
 
 
 class ObjectLine:
@@ -54,20 +50,18 @@ class ObjectLine:
 
     def __init__(self, tokens: Sequence[Token], kept: Kept) -> None:
         self._word, self._shape = tokens[0], OBJECTS[tokens[0].text]
-        self._reader, self._refusals = Numbers(tokens, kept), kept.refusals
-        self._reader.at = 1
+        self._reader, self._kept = Numbers(tokens, kept, 1), kept
+        self.name = ""
         self.members: List[Member] = []
         # How many tasks have the script, where they are several.
         self.count: Optional[int] = None
 
     def read(self) -> None:
         """Reads all of it, as far as it can be read."""
-        try:
+        with self._kept.keeping():
             self._name()
-            while self._reader.next() is not None:
-                self._key()
-        except Refusal as refusal:
-            self._refusals.append(refusal)
+            for token in self._reader.each():
+                self._key(token)
 
     def _name(self) -> None:
         token = self._reader.next()
@@ -76,11 +70,12 @@ class ObjectLine:
             raise Refusal(token.place if token else self._word.place, lacks)
         behind = self._reader.tokens[2:3]
         if token.text in self._shape.names() and behind and is_digits(behind[0].text[0]):
-            self._refusals.append(Refusal(token.place, lacks))
+            self._kept.refuse(token.place, lacks)
             return
         self._reader.at += 1
         if self._word.text == "task":
             token = self._without_count(token)
+        self.name = token.text
         self.members.append(Member("name", token.place, name_node(token)))
 
     def _without_count(self, token: Token) -> Token:
@@ -89,23 +84,16 @@ class ObjectLine:
         if not found:
             return token
         at = token.place_of(found.start(2))
-        behind = Numbers([Token(found[2], at)], self._reader.kept)
-        known = len(self._refusals)
-        self.count = behind.number()
-        if len(self._refusals) > known:
-            self.count = 1
-        elif not 1 <= self.count <= MOST_TASKS:
-            message = f"{self.count} tasks can't have one script: 1 to {MOST_TASKS} can"
-            self._refusals.append(Refusal(at, message))
-            self.count = 1
-        return dataclasses.replace(token, text=found[1])
+        known = len(self._kept.refusals)
+        count = Numbers([Token(found[2], at)], self._kept).number()
+        if len(self._kept.refusals) == known and not 1 <= count <= MOST_TASKS:
+            self._kept.refuse(at, f"{count} tasks can't have one script: 1 to {MOST_TASKS} can")
+        self.count = count if len(self._kept.refusals) == known else 1
+        return token._replace(text=found[1])
 
-    def _key(self) -> None:
-        token = self._reader.next()
-        assert token is not None
-        self._reader.at += 1
+    def _key(self, token: Token) -> None:
         if any(member.key == token.text for member in self.members):
-            self._refusals.append(Refusal(token.place, f"{shown(token.text)} stands twice"))
+            self._kept.refuse(token.place, f"{shown(token.text)} stands twice")
         if token.text == "members" and "members" in self._shape.names():
             node = Node(tuple(self._members()), token.place)
         elif NAME.fullmatch(token.text) and token.text != "code":
@@ -115,18 +103,9 @@ class ObjectLine:
             raise Refusal(token.place, message)
         self.members.append(Member(token.text, token.place, node))
 
-    def _members(self) -> List[Node]:
+    def _members(self) -> Iterator[Node]:
         """All words that come, as names."""
-        found: List[Node] = []
-        while True:
-            token = self._reader.next()
-            if token is None:
-                return found
+        for token in self._reader.each():
             if not token.is_word():
                 raise Refusal(token.place, f"{shown(token.text)} is no name")
-            found.append(name_node(token))
-            self._reader.at += 1
-
-    def name(self) -> str:
-        """The name; empty where there is none."""
-        return next((str(it.node.value) for it in self.members if it.key == "name"), "")
+            yield name_node(token)

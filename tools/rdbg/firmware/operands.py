@@ -1,9 +1,8 @@
 """The operands of instructions in a text in lines, as rdbg reads them, from what is written."""
-import dataclasses
 import re
-from typing import Callable, Dict, List, Optional, Sequence
+from typing import Callable, Dict, List, NamedTuple, Optional, Sequence
 
-from rdbg.firmware.numbers import FOREVER, LARGEST, NAME, NOTHING_NAMED, NUMBER, Numbers
+from rdbg.firmware.numbers import FOREVER, NAME, NOTHING_NAMED, NUMBER, Numbers
 from rdbg.firmware.tokens import Refusal, Token, shown, written
 from rdbg.operands import NAMED, REGISTER
 from rdbg.checking.slips import CONSTANTS, PAIRS, as_bytes, is_binary, slip
@@ -22,10 +21,8 @@ NUMBERS = ("N", "V", "T", "I", "ROOM")
 JOINING = ("|", "<<")
 
 
-@dataclasses.dataclass(frozen=True)
-class Operand:
-    """An operand as rdbg reads it, with the columns of its characters; or the label that it is. As
-    it is written, it is `spelled`."""
+class Operand(NamedTuple):
+    """An operand as rdbg reads it, its characters' columns, its label, and as it is `spelled`."""
 
     text: str
     columns: Sequence[int]
@@ -63,13 +60,11 @@ def byte_of(token: Token, value: int) -> Operand:
     """The byte that a const is. Raises `Refusal` where it is none, or its name could be bytes."""
     name = shown(token.text)
     if BYTES.fullmatch(token.text):
-        message = (
-            f"{name} is a const, and could be bytes: write 0x{name} for these, or 0x{value:02x}"
-        )
-        raise Refusal(token.place, message)
+        either = f"write 0x{name} for these, or 0x{value:02x}"
+        raise Refusal(token.place, f"{name} is a const, and could be bytes: {either}")
     if value > 0xFF:
         raise Refusal(token.place, f"{name} is {value}, and a byte is 0 to 255")
-    return dataclasses.replace(made(f"{value:02x}", token.place), spelled=name)
+    return made(f"{value:02x}", token.place)._replace(spelled=name)
 
 
 class Operands(Numbers):
@@ -132,12 +127,8 @@ class Operands(Numbers):
 
     def signed(self) -> Operand:
         """The next number; one below 0 as the number that 32 bits make of it."""
-        token = self.tokens[self.at]
-        if not token.text.startswith("-") or token.text == "-":
-            return self.value()
-        self.at += 1
-        behind = Numbers([Token(token.text[1:], token.place_of(1))], self.kept)
-        return made(str(-behind.number() & LARGEST), token.place)
+        place, number = self.tokens[self.at].place, self.below_0()
+        return self.value() if number is None else made(str(number), place)
 
     def register_or_value(self) -> Operand:
         """The next register or number."""
@@ -158,20 +149,16 @@ class Operands(Numbers):
         """The next label, or number of an instruction."""
         operand = self.word()
         label = self.tokens[self.at - 1] if NAME.fullmatch(operand.text) else None
-        return dataclasses.replace(operand, label=label)
+        return operand._replace(label=label)
 
     def data(self) -> Operand:
         """All bytes that come: digits, a text in quotes, or consts of a byte each."""
-        pieces = [self._piece()]
-        while self.next() is not None:
-            pieces.append(self._piece())
+        pieces = [self._piece(token) for token in self.each()]
         text = "".join(piece.text for piece in pieces)
         columns = [column for piece in pieces for column in piece.columns]
         return Operand(text, columns) if text else made("-", self.tokens[0].place)
 
-    def _piece(self) -> Operand:
-        token = self.tokens[self.at]
-        self.at += 1
+    def _piece(self, token: Token) -> Operand:
         if token.is_quoted():
             return bytes_of(token)
         value = self.constants.value(token)

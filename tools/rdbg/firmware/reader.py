@@ -2,17 +2,17 @@
 
 docs/FORMATS.md has the grammar. What it refuses is a fault of its own; what else can be wrong is
 found in the tree, as in that of a JSON (`rdbg.checking.faults`)."""
-import dataclasses
+import itertools
 import re
-from typing import Dict, List, Mapping, NamedTuple, Optional, Sequence, Set, Tuple
+from typing import Dict, List, Mapping, Optional, Sequence, Set, Tuple
 
-from rdbg.application import Interrupt
+from rdbg.application import Beside, Interrupt, Text
 from rdbg.checking.faults import faults_of
 from rdbg.failure import Failure
 from rdbg.firmware import blocks, interrupts, meant, semaphores, waits
 from rdbg.firmware.code import MOST_READ, Script, Spare, Thing, Uses, spare, without_parentheses
 from rdbg.firmware.numbers import Constants, Kept, Numbers, near_to
-from rdbg.firmware.objects import OBJECTS, SETTINGS, ObjectLine, form_of, number_of
+from rdbg.firmware.objects import OBJECTS, SETTINGS, ObjectLine, form_of, next_number, queue
 from rdbg.firmware.tokens import MOST_TOKENS, Refusal, Scanner, Stop, Token, decoded, shown, written
 from rdbg.instructions import FORM_OF
 from rdbg.shapes import FILE
@@ -48,7 +48,7 @@ class Reader:
         self.made: List[Tuple[int, str]] = []
         self.comments: Dict[int, str] = {}
         self.constants = Constants(given)
-        self._kept = Kept(self.constants, self.refusals)
+        self.kept = Kept(self.constants, self.refusals)
         self._semaphores: Dict[str, semaphores.Semaphore] = {}
         self._interrupts: List[interrupts.Read] = []
         self._refused_interrupts: List[str] = []
@@ -71,8 +71,8 @@ class Reader:
             consts = [tokens for tokens in lines if is_const(tokens)]
             for tokens in consts:
                 self._try(tokens)
-            self._semaphores = semaphores.named(lines, self.constants)
-            self._semaphores.update(meant.semaphores_of(lines, self._semaphores))
+            known = semaphores.named(lines, self.constants)
+            self._semaphores = {**known, **dict(meant.semaphores_of(lines)), **known}
             for tokens in lines:
                 if not is_const(tokens):
                     self._try(tokens)
@@ -101,12 +101,8 @@ class Reader:
 
     def _try(self, tokens: List[Token]) -> None:
         """Reads a line, and keeps what is refused of it."""
-        try:
+        with self.kept.keeping():
             self._line(tokens)
-        except Stop:
-            raise
-        except Refusal as refusal:
-            self.refusals.append(refusal)
         if len(self.refusals) >= MOST_REFUSALS:
             message = f"there are {len(self.refusals)} faults up to here; the rest isn't read"
             raise Stop(tokens[0].place, message)
@@ -120,10 +116,8 @@ class Reader:
             at += 2
         self._check(tokens, at)
         for token in tokens[:at:2]:
-            try:
+            with self.kept.keeping():
                 self._script_of(token).label(token)
-            except Refusal as refusal:
-                self.refusals.append(refusal)
         if tokens[at:]:
             self._said(tokens[at:])
 
@@ -142,7 +136,10 @@ class Reader:
     def _said(self, tokens: Sequence[Token]) -> None:
         """Reads a line without labels. Of one that is no instruction the first fault counts."""
         word, known = tokens[0].text, len(self.refusals)
-        if self._is_of_block(tokens) or self._is_of_semaphore(tokens):
+        script = self._script_of(tokens[0]) if word in blocks.WORDS else self._script
+        # (`end task` is of no block)
+        is_of_block = script is not None and script.blocks.reads(tokens)
+        if is_of_block or self._is_of_semaphore(tokens):
             return
         if word == waits.WORD:
             self._wait(tokens)
@@ -150,19 +147,9 @@ class Reader:
         if word in FORM_OF and not (word == "set" and self._is_queue_set(tokens)):
             self._script_of(tokens[0]).instruction(tokens)
             return
-        try:
+        with self.kept.keeping():
             self._structure(tokens)
-        except Refusal as refusal:
-            if isinstance(refusal, Stop):
-                raise
-            self.refusals.append(refusal)
         del self.refusals[known + 1 :]
-
-    def _is_of_block(self, tokens: Sequence[Token]) -> bool:
-        """Whether a line is of a block of a script; then it is read, and `end task` is no such."""
-        if tokens[0].text in blocks.WORDS:
-            return self._script_of(tokens[0]).blocks.reads(tokens)
-        return self._script is not None and self._script.blocks.reads(tokens)
 
     def _is_of_semaphore(self, tokens: Sequence[Token]) -> bool:
         """Whether a line takes, gives or counts a semaphore; then it is read."""
@@ -171,12 +158,12 @@ class Reader:
             return False
         plain = [word, *without_parentheses(tokens[1:])]
         try:
-            text = semaphores.instruction(plain, self._semaphores, self._kept)
+            text = semaphores.instruction(plain, self._semaphores, self.kept)
         except Refusal:
             self._script_of(word).placeholder(tokens)
             raise
         if text is not None:
-            self._script_of(word).made(tokens, text)
+            self._script_of(word).add(tokens, (text,))
         return text is not None
 
     def _wait(self, tokens: Sequence[Token]) -> None:
@@ -185,7 +172,7 @@ class Reader:
         plain = [tokens[0], *without_parentheses(tokens[1:])]
         self._waits = self._waits or tokens[0]
         try:
-            script.wait(plain)
+            script.add(plain, *waits.texts_of(plain, script.kept))
         except Refusal:
             script.placeholder(tokens)
             raise
@@ -194,33 +181,29 @@ class Reader:
         """Makes the queue that waits receive from, if it isn't there, and refuses what fills it."""
         if self._waits is None:
             return
-        named = [it for it in self._things["queue"] if it.name() == waits.NEVER]
-        if not named:
+        if waits.NEVER not in [it.name() for it in self._things["queue"]]:
             place = self._waits.place
             one = Node(Number("1"), place)
-            values = (("name", Node(waits.NEVER, place)), ("length", one), ("item", one))
-            members = [Member(key, place, node) for key, node in values]
-            self._things["queue"].append(Thing(self._waits, tuple(members)))
+            members = queue(Node(waits.NEVER, place), one, one)
+            self._things["queue"].append(Thing(self._waits, members))
             made = f"{self._waits.text}: queue {waits.NEVER} length 1 item 1, which nobody fills"
             self.made.append((place.line, made))
-        tasks = [it.script for it in self._things["task"] if it.script is not None]
-        fillers = [token for script in tasks for token in script.fillers(waits.NEVER)]
+        fillers = [it for _, script in self.scripts() for it in script.fillers(waits.NEVER)]
         calls = [call for it in self._interrupts for call in it.calls]
         fillers += [it.tokens[0] for it in calls if it.words[:2] == ("send", waits.NEVER)]
         for token in fillers:
             message = f"queue {waits.NEVER} is what wait receives from, and nothing may fill it"
-            self.refusals.append(Refusal(token.place, message))
+            self.kept.refuse(token.place, message)
 
     def _semaphore(self, tokens: Sequence[Token]) -> None:
         """A line of a semaphore or a mutex, which is a queue."""
-        line = semaphores.SemaphoreLine(tokens, self._kept)
-        it = line.read()
+        it = semaphores.read(tokens, self.kept)
         place = tokens[0].place
         self.made.append((place.line, f"{written(tokens)}: {it.queue()}"))
         if it.word.text == semaphores.MUTEX:
             text = f"note: mutex {it.name} is a queue: {semaphores.NO_INHERITANCE}"
             self.remarks.append(Fault(place, "", text))
-        self._things["queue"].append(Thing(tokens[0], line.members))
+        self._things["queue"].append(Thing(tokens[0], it.members))
 
     def _structure(self, tokens: Sequence[Token]) -> None:
         """Reads a line that is no instruction."""
@@ -233,7 +216,7 @@ class Reader:
             self._semaphore(tokens)
         elif word == interrupts.WORD:
             try:
-                line = interrupts.InterruptLine(tokens, self._kept, self._semaphores)
+                line = interrupts.InterruptLine(tokens, self.kept, self._semaphores)
                 self._interrupts.append(line.read())
             except Refusal:
                 self._refused_interrupts += [token.text for token in tokens[1:2]]
@@ -247,8 +230,8 @@ class Reader:
         """The script that a line belongs to; where there is none yet, one that nobody has."""
         if self._script is None:
             message = f"{shown(token.text)} stands before any task: {form_of('task')}"
-            self.refusals.append(Refusal(token.place, message))
-            self._script = Script("no task", Kept(self.constants, []))
+            self.kept.refuse(token.place, message)
+            self._script = Script("no task", Kept(self.constants, []), {})
         return self._script
 
     def _is_queue_set(self, tokens: Sequence[Token]) -> bool:
@@ -263,13 +246,11 @@ class Reader:
             raise Refusal(tokens[0].place, f"{tokens[0].text} NAME N: there is no name")
         if meant.TYPES.fullmatch(tokens[1].text) and meant.as_const(tokens):
             self._unknown(tokens)
-        reader = Numbers(tokens, self._kept)
-        reader.at = 2
+        reader = Numbers(tokens, self.kept, 2)
         if reader.is_next("="):
             said = f"{tokens[0].text} {shown(tokens[1].text)} N"
-            self.refusals.append(Refusal(tokens[2].place, f"write {said} without ="))
-        known, value = len(self.refusals), 0
-        is_refused = True
+            self.kept.refuse(tokens[2].place, f"write {said} without =")
+        known, value, is_refused = len(self.refusals), 0, True
         try:
             value = reader.number()
             doubtful = tokens[0].place.line in self.constants.doubtful
@@ -284,12 +265,13 @@ class Reader:
         if word.text in self._numbers:
             line = self._numbers[word.text].place.line
             raise Refusal(word.place, f"{word.text} stands in line {line} already")
-        node = number_of(tokens, self._kept)
-        self._numbers[word.text] = Member(word.text, word.place, node)
+        reader = Numbers(tokens, self.kept, 1)
+        self._numbers[word.text] = Member(word.text, word.place, next_number(reader))
+        reader.end()
 
     def _thing(self, tokens: Sequence[Token]) -> None:
         """A line of an object or of a task."""
-        word, line = tokens[0], ObjectLine(tokens, self._kept)
+        word, line = tokens[0], ObjectLine(tokens, self.kept)
         if len(self._things[word.text]) == MOST_READ:
             what = OBJECTS[word.text].plural
             message = f"there are {MOST_READ} {what} up to here; the rest isn't read"
@@ -297,22 +279,17 @@ class Reader:
         line.read()
         script = None
         if word.text == "task":
-            label = f"task {line.name() or 'number ' + str(len(self._things['task']))}"
-            if line.count is not None:
-                label = f"task {line.name()}[{line.count}]"
-            script = self._script = Script(label, self._kept)
-            script.semaphores = self._semaphores
+            name = line.name if line.count is None else f"{line.name}[{line.count}]"
+            label = f"task {name or 'number ' + str(len(self._things['task']))}"
+            script = self._script = Script(label, self.kept, self._semaphores)
         self._things[word.text].append(Thing(word, tuple(line.members), script, line.count))
 
     def _unknown(self, tokens: Sequence[Token]) -> None:
         """A line that begins with no word that lines begin with. What it names is there all the
         same; where it names nothing it counts as an instruction."""
         known = len(self.refusals)
-        try:
+        with self.kept.keeping():
             self._keep_names(tokens)
-        except Refusal as refusal:
-            if isinstance(refusal, Stop):
-                raise
         del self.refusals[known:]
         raise Refusal(tokens[0].place, meant.message_of(tokens, self._targets))
 
@@ -323,13 +300,10 @@ class Reader:
         if const is not None:
             self._const([tokens[0], *const])
         elif name is not None:
-            first = dataclasses.replace(tokens[0], text=word)
-            line = [first, name, *tokens[tokens.index(name) + 1 :]]
-            if word == semaphores.MUTEX:
-                node = Node(name.text, name.place)
-                first = dataclasses.replace(first, text="queue")
-                self._meant.append(Thing(first, (Member("name", name.place, node),)))
-                return
+            is_mutex = word == semaphores.MUTEX
+            first = tokens[0]._replace(text="queue" if is_mutex else word)
+            keys = [] if is_mutex else tokens[tokens.index(name) + 1 :]
+            line = [first, name, *keys]
             if word == "task":
                 self._thing(line)
                 return
@@ -344,32 +318,25 @@ class Reader:
     def _check_constants(self) -> None:
         """Refuses consts with the name of an object or a task."""
         for word, things in self._things.items():
-            for member in (member for thing in things for member in thing.members):
-                name = member.node.value
-                if member.key == "name" and isinstance(name, str) and name in self.constants.named:
-                    token = self.constants.named[name]
-                    message = f"const {name} has the name of a {word}"
-                    self.refusals.append(Refusal(token.place, message))
+            for name in (thing.name() for thing in things):
+                if name in self.constants.named:
+                    place = self.constants.named[name].place
+                    self.kept.refuse(place, f"const {name} has the name of a {word}")
 
     def _check_sets(self) -> None:
         """Refuses semaphores in queue sets that are given at the start."""
-        nodes = [
-            node
-            for thing in self._things["set"]
-            for member in thing.members
-            if member.key == "members" and isinstance(member.node.value, tuple)
-            for node in member.node.value
-        ]
-        for node in nodes:
+        members = [member.node.value for it in self._things["set"] for member in it.members]
+        lists = (it for it in members if isinstance(it, tuple))
+        for node in itertools.chain.from_iterable(lists):
             it = self._semaphores.get(str(node.value))
             if it is not None and it.is_given:
-                self.refusals.append(Refusal(node.place, semaphores.not_in_sets(it)))
+                self.kept.refuse(node.place, semaphores.not_in_sets(it))
 
     def _check_interrupts(self) -> None:
         """Refuses interrupts that name what isn't there, and a profile that has none."""
-        things = {word: self._things[word] for word in ("task", "queue")}
         tasks, queues = (
-            [name for thing in things[word] for name in thing.names()] for word in things
+            [name for thing in self._things[word] for name in thing.names()]
+            for word in ("task", "queue")
         )
         names = interrupts.Names(tasks, queues, self._entries(), self._refused_interrupts)
         for at, it in enumerate(self._interrupts):
@@ -377,13 +344,15 @@ class Reader:
         profile = self._numbers.get("profile")
         is_needed = self._interrupts or self._has_endings()
         if is_needed and profile is not None and profile.node.value == Number("1"):
-            message = "profile 1 has no interrupts: profile 2 has"
-            self.refusals.append(Refusal(profile.node.place, message))
+            self.kept.refuse(profile.node.place, "profile 1 has no interrupts: profile 2 has")
 
     def _has_endings(self) -> bool:
         """Whether some wait may be ended by an interrupt."""
-        scripts = [it.script for it in self._things["task"]]
-        return any(script is not None and script.has_waits for script in scripts)
+        return any(script.has_waits for _, script in self.scripts())
+
+    def scripts(self) -> List[Tuple[Thing, Script]]:
+        """The tasks, with their scripts."""
+        return [(it, it.script) for it in self._things["task"] if it.script is not None]
 
     def interrupts(self) -> Tuple[Interrupt, ...]:
         """The interrupts that may come."""
@@ -391,31 +360,24 @@ class Reader:
 
     def several(self) -> Set[int]:
         """The lines of scripts that several tasks have."""
-        found: Set[int] = set()
-        for thing in self._things["task"]:
-            if thing.count is not None and thing.script is not None:
-                found |= {thing.word.place.line, *thing.script.lines()}
-        return found
+        those = (it for it in self.scripts() if it[0].count is not None)
+        return {at for it, script in those for at in (it.word.place.line, *script.lines())}
 
     def _spares(self) -> Dict[int, Spare]:
         """What each task doesn't use; its script is closed."""
-        tasks = [it for it in self._things["task"] if it.script is not None]
-        uses: List[Uses] = []
-        for task in tasks:
-            assert task.script is not None
-            task.script.close()
-            uses.append(task.script.uses())
-        for it in self._interrupts:
-            uses.append(Uses())
-            for call in it.calls:
-                uses[-1].tell(call.words)
+        for _, script in self.scripts():
+            script.close()
+        uses = [script.uses() for _, script in self.scripts()]
+        uses.append(Uses())
+        for call in (call for it in self._interrupts for call in it.calls):
+            uses[-1].tell(call.words)
         found: Dict[int, Spare] = {}
-        for task, own in zip(tasks, uses):
-            assert task.script is not None
-            names, has_waits = task.names(), task.script.has_waits
-            free = found[id(task)] = spare(names, own, uses, self._entries(), has_waits)
-            task.script.check_spare(free)
-            self.remarks += task.script.remarks(free, names)
+        for (task, script), own in zip(self.scripts(), uses):
+            names = task.names()
+            free = spare(names, own, uses, self._entries(), script.has_waits)
+            found[id(task)] = free
+            script.check_spare(free)
+            self.remarks += script.remarks(free, names)
             if free.ending is not None:
                 self._endings += [waits.interrupt(name, free.ending) for name in names]
         return found
@@ -425,14 +387,6 @@ class Reader:
         node = self._numbers["notes"].node.value if "notes" in self._numbers else Number("1")
         return int(node.text) if isinstance(node, Number) and len(node.text) < 3 else 1
 
-    def named(self) -> "Named":
-        """What is named besides tasks and objects, once all is read."""
-        tasks = self._things["task"]
-        labels = {
-            name: it.script.labels() for it in tasks if it.script is not None for name in it.names()
-        }
-        return Named(self.constants.values, labels)
-
     def _tree(self) -> Node:
         for thing in self._meant:
             others = self._things[thing.word.text]
@@ -441,46 +395,26 @@ class Reader:
         spares = self._spares()
         number = Number("2" if self._interrupts or self._has_endings() else "1")
         profile = Member("profile", TOP, Node(number, TOP))
+        numbers = {"profile": profile, **self._numbers}
         members: List[Member] = []
         for key in FILE.keys:
-            things = self._things.get(key.name[:-1], []) if key.of is not None else []
-            if key.name in self._numbers or key.name == "profile":
-                members.append(self._numbers.get(key.name, profile))
+            things = [] if key.of is None else self._things[key.name[:-1]]
+            if key.name in numbers:
+                members.append(numbers[key.name])
             elif things:
                 place = things[0].word.place
-                nodes = tuple(
-                    node for it in things for node in it.nodes(spares.get(id(it), NOTHING))
-                )
-                members.append(Member(key.name, place, Node(nodes, place)))
+                nodes = (it.nodes(spares.get(id(it), NOTHING)) for it in things)
+                tree = Node(tuple(itertools.chain.from_iterable(nodes)), place)
+                members.append(Member(key.name, place, tree))
         return Node(Object(tuple(members)), TOP)
 
 
-class Named(NamedTuple):
-    """What a text names besides tasks and objects: numbers, and of each task instructions."""
-
-    constants: Mapping[str, int]
-    labels: Mapping[str, Mapping[str, int]]
-
-
-def named(text: str, given: Mapping[str, int]) -> Named:
+def named(text: str, given: Mapping[str, int]) -> Beside:
     """What an accepted text names, whose consts of these names are these numbers."""
     reader = Reader(given)
     reader.read(text)
-    return reader.named()
-
-
-@dataclasses.dataclass(frozen=True)
-class Text:
-    """What a text says: its tree, none where it can't be read to its end, what is wrong with it,
-    what there is to remark, what lines of objects become, the comments of each line, and the
-    interrupts that may come."""
-
-    root: Optional[Node]
-    faults: Tuple[Fault, ...]
-    remarks: Tuple[Fault, ...] = ()
-    made: Tuple[Tuple[int, str], ...] = ()
-    comments: Mapping[int, str] = dataclasses.field(default_factory=dict)
-    interrupts: Tuple[Interrupt, ...] = ()
+    labels = {name: script.labels() for it, script in reader.scripts() for name in it.names()}
+    return Beside(reader.constants.values, labels)
 
 
 def read(content: bytes, given: Mapping[str, int]) -> Text:
@@ -489,11 +423,9 @@ def read(content: bytes, given: Mapping[str, int]) -> Text:
     refused where it has its name. Raises `Failure` where the text is too long, or where no line has
     a const that is given."""
     reader = Reader(given)
-    try:
+    root: Optional[Node] = None
+    with reader.kept.keeping():
         root = reader.read(decoded(content))
-    except Refusal as refusal:
-        reader.refusals.append(refusal)
-        root = None
     idle = min(reader.constants.idle, default=None)
     if idle is not None:
         near = near_to(idle, reader.constants.named)
@@ -505,16 +437,11 @@ def read(content: bytes, given: Mapping[str, int]) -> Text:
         others = [fault for fault in others if fault.place.line not in lines]
         others = sorted([*faults, *others], key=lambda fault: fault.place)
     remarks = sorted(reader.remarks, key=lambda it: it.place)
-    made, may_come = tuple(reader.made), reader.interrupts()
-    return Text(root, tuple(others), tuple(remarks), made, reader.comments, may_come)
+    return Text(root, others, remarks, reader.made, reader.comments, reader.interrupts())
 
 
 def once(faults: Sequence[Fault], several: Set[int]) -> List[Fault]:
     """Faults without those that lines of several tasks have as often as there are tasks."""
-    found: List[Fault] = []
-    told: Set[Tuple[Place, str]] = set()
-    for fault in faults:
-        if fault.place.line not in several or (fault.place, fault.kind) not in told:
-            found.append(fault)
-        told.add((fault.place, fault.kind))
-    return found
+    firsts: Dict[Tuple[Place, str], Fault] = {}
+    told = [(it, firsts.setdefault((it.place, it.kind), it)) for it in faults]
+    return [it for it, first in told if it.place.line not in several or it is first]

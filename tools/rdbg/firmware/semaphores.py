@@ -3,11 +3,10 @@
 A semaphore that is there at the start by nobody's giving can't be a queue with items, since a queue
 is empty at boot. So what is given then is a queue of what is taken: an item stands in it as long as
 somebody has it. Else an item is what can be taken."""
-import dataclasses
-from typing import Dict, Mapping, Optional, Sequence, Tuple
+from typing import Dict, Mapping, NamedTuple, Optional, Sequence, Tuple
 
 from rdbg.firmware.numbers import Constants, Kept, Numbers
-from rdbg.firmware.objects import next_number
+from rdbg.firmware.objects import next_number, queue
 from rdbg.firmware.operands import Operands
 from rdbg.firmware.tokens import Refusal, Token, shown
 from rdbg.operands import KIND_OF
@@ -23,14 +22,14 @@ OF_SETS = ("setadd", "setdel")
 NO_INHERITANCE = "no priority inheritance, and nobody owns it"
 
 
-@dataclasses.dataclass(frozen=True)
-class Semaphore:
-    """A semaphore or a mutex: its word, its name, its length, and whether it is given at first."""
+class Semaphore(NamedTuple):
+    """A semaphore or a mutex, with the members of its queue where its line isn't wrong."""
 
     word: Token
     name: str
     length: int
     is_given: bool
+    members: Tuple[Member, ...] = ()
 
     def queue(self) -> str:
         """The queue that stands for it, in words."""
@@ -45,37 +44,25 @@ class Semaphore:
         return f"qreset {self.name}" if self.length == 1 else f"recv {self.name} 0"
 
 
-class SemaphoreLine:
-    """Reads the line of one: its semaphore, and the members of its queue."""
-
-    def __init__(self, tokens: Sequence[Token], kept: Kept) -> None:
-        self._numbers = Numbers(tokens, kept)
-        self._numbers.at = 1
-        self._word = tokens[0]
-        self.members: Tuple[Member, ...] = ()
-
-    def read(self) -> Semaphore:
-        """All of it. Raises `Refusal` where it is wrong."""
-        name = self._numbers.next()
-        form = FORMS[self._word.text]
-        if name is None or not name.is_word():
-            raise Refusal(self._word.place, f"{form}: there is no name")
-        self._numbers.at += 1
-        one = Node(Number("1"), self._word.place)
-        length, is_given = one, self._word.text == MUTEX
-        for token in iter(self._numbers.next, None):
-            assert token is not None
-            self._numbers.at += 1
-            if token.text == LENGTH and self._word.text == SEMAPHORE:
-                length = next_number(self._numbers)
-            elif token.text == GIVEN and self._word.text == SEMAPHORE:
-                is_given = True
-            else:
-                raise Refusal(token.place, f"{shown(token.text)} is no key: {form}")
-        values = (("name", Node(name.text, name.place)), ("length", length), ("item", one))
-        self.members = tuple(Member(key, node.place, node) for key, node in values)
-        assert isinstance(length.value, Number)
-        return Semaphore(self._word, name.text, int(length.value.text), is_given)
+def read(tokens: Sequence[Token], kept: Kept) -> Semaphore:
+    """The one that a line gives. Raises `Refusal` where it is wrong."""
+    word, numbers = tokens[0], Numbers(tokens, kept, 1)
+    name, form = numbers.next(), FORMS[word.text]
+    if name is None or not name.is_word():
+        raise Refusal(word.place, f"{form}: there is no name")
+    numbers.at += 1
+    length = one = Node(Number("1"), word.place)
+    is_given = word.text == MUTEX
+    for token in numbers.each():
+        if token.text == LENGTH and word.text == SEMAPHORE:
+            length = next_number(numbers)
+        elif token.text == GIVEN and word.text == SEMAPHORE:
+            is_given = True
+        else:
+            raise Refusal(token.place, f"{shown(token.text)} is no key: {form}")
+    assert isinstance(length.value, Number)
+    members = queue(Node(name.text, name.place), length, one)
+    return Semaphore(word, name.text, int(length.value.text), is_given, members)
 
 
 def named(lines: Sequence[Sequence[Token]], constants: Constants) -> Dict[str, Semaphore]:
@@ -83,7 +70,7 @@ def named(lines: Sequence[Sequence[Token]], constants: Constants) -> Dict[str, S
     found: Dict[str, Semaphore] = {}
     for tokens in (it for it in lines if it[0].text in FORMS):
         try:
-            it = SemaphoreLine(tokens, Kept(constants, [])).read()
+            it = read(tokens, Kept(constants, []))
         except Refusal:
             name = tokens[1].text if len(tokens) > 1 else ""
             it = Semaphore(tokens[0], name, 1, tokens[0].text == MUTEX)
@@ -123,7 +110,7 @@ def why_not(word: str, name: str, known: Mapping[str, Semaphore]) -> str:
     if it is None or not (word in BY_ITSELF or word in OF_SETS and it.is_given):
         return ""
     if word in OF_SETS:
-        return f"{not_in_sets(it)}"
+        return not_in_sets(it)
     return f"{name} is a {it.word.text}: take {name} T, give {name}"
 
 

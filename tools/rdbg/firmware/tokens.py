@@ -1,7 +1,6 @@
 """The words of a text in lines, each with its place; comments and the ends of lines are gone."""
-import dataclasses
 import re
-from typing import Dict, Iterator, List, Optional, Sequence
+from typing import Dict, Iterator, List, NamedTuple, Optional, Sequence
 
 from rdbg.failure import Failure
 from rdbg.tree import Place
@@ -43,10 +42,8 @@ class Stop(Refusal):
     """A refusal behind which the text isn't read."""
 
 
-@dataclasses.dataclass(frozen=True)
-class Token:
-    """A word, a text in quotes or a sign, as it is written; `gap` is what parts it from the one
-    before it: nothing, a space, or a comma and a space."""
+class Token(NamedTuple):
+    """A word, a text in quotes or a sign; `gap` is what parts it from the one before it."""
 
     text: str
     place: Place
@@ -128,7 +125,9 @@ class Scanner:
         at, gap = 0, ""
         while at < len(line) and len(tokens) <= MOST_TOKENS:
             if self._comment is not None:
-                end = self._behind_comment(line, at)
+                end = line.find("*/", at) + 2
+                self._comment = None if end > 1 else self._comment
+                end = end if end > 1 else len(line)
                 self._keep(number, line[at:end])
                 at, gap = end, " "
                 continue
@@ -143,12 +142,15 @@ class Scanner:
             elif found.lastgroup == "token":
                 tokens.append(Token(found[0], place, gap))
                 gap = ""
-            elif found.lastgroup == "comment":
-                directive = [] if tokens else self._directive(found[0], place)
-                tokens += directive
-                at = found.start() + len(directive[0].text) if directive else at
-                if not directive:
-                    self._keep(number, found[0])
+            elif not tokens and DEFINE.match(found[0]):
+                tokens.append(Token("#define", place))
+                at = found.start() + len("#define")
+            else:
+                refused = None if tokens else DIRECTIVE.match(found[0])
+                if refused:
+                    message = f"there is no {refused[0]} here, and a comment would begin with //"
+                    self._refusals.append(Refusal(place, message))
+                self._keep(number, found[0])
         return tokens
 
     def _keep(self, number: int, comment: str) -> None:
@@ -156,20 +158,3 @@ class Scanner:
         text = COMMENT.sub("", comment.strip()).strip()
         if text:
             self.comments[number] = f"{self.comments.get(number, '')} {text}".strip()
-
-    def _behind_comment(self, line: str, at: int) -> int:
-        """Where the comment ends that is open."""
-        end = line.find("*/", at)
-        if end < 0:
-            return len(line)
-        self._comment = None
-        return end + 2
-
-    def _directive(self, comment: str, place: Place) -> List[Token]:
-        """The `#define` that a line begins with, and none where it is a comment."""
-        refused = DIRECTIVE.match(comment)
-        if refused:
-            message = f"there is no {refused[0]} here, and a comment would begin with //"
-            self._refusals.append(Refusal(place, message))
-        define = DEFINE.match(comment)
-        return [Token(define[0], place)] if define else []

@@ -19,8 +19,7 @@ NAME_END = "_wait"
 
 
 def texts_of(tokens: Sequence[Token], kept: Kept) -> Tuple[Tuple[str, ...], str]:
-    """The instructions of a line, with `{ending}` for the entry at which it waits, and what they
-    cost. Raises `Refusal` where it is wrong."""
+    """The instructions of a line, `{ending}` as its entry, and their cost. Raises `Refusal`."""
     if len(tokens) < 2:
         raise Refusal(tokens[0].place, f"{FORM}: there is no number")
     if BETWEEN not in tokens[1].text:

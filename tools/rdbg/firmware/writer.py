@@ -1,7 +1,7 @@
 """The text in lines (`.fw`) of an application: what `rdbg.firmware` reads, written to be read."""
-import dataclasses
+import itertools
 import re
-from typing import Any, Callable, Dict, Iterator, List, Optional, Sequence, Tuple
+from typing import Any, Callable, Dict, Iterator, List, NamedTuple, Optional, Sequence, Tuple
 
 from rdbg.application import Application, Instruction, Task
 from rdbg.digits import is_digits
@@ -13,11 +13,11 @@ from rdbg.json_layout import pairs, settings
 from rdbg.shapes import FILE
 
 JUMPS = ("jump", "jumpz")
-TARGET = re.compile(r"\{target\}")
+# What stands for a number while instructions are compared.
+TARGET = "TARGET"
 
 
-@dataclasses.dataclass(frozen=True)
-class FoundIf:
+class FoundIf(NamedTuple):
     """An `if` of so many instructions, that jumps to one by its number."""
 
     test: Test
@@ -34,15 +34,6 @@ def text_of_test(test: Test) -> str:
     if test.number:
         return f"({looked}) {sign} {test.number:#x}"
     return looked if test.is_turned else f"!({looked})"
-
-
-def jumped_into(code: Sequence[str]) -> Dict[int, List[int]]:
-    """The instructions that are jumped to, by their numbers, each with those that jump there."""
-    found: Dict[int, List[int]] = {}
-    for number, words in enumerate(text.split(" ") for text in code):
-        if words[0] in JUMPS and is_digits(words[-1]):
-            found.setdefault(int(words[-1]), []).append(number)
-    return found
 
 
 def tests_at(code: Sequence[str], at: int) -> Iterator[Tuple[Test, str, str]]:
@@ -62,32 +53,19 @@ def tests_at(code: Sequence[str], at: int) -> Iterator[Tuple[Test, str, str]]:
             yield from ((test, spare, words[1][2]) for test in tests)
 
 
-def target_of(template: str, text: str) -> Optional[int]:
-    """The target that an instruction has where its template has one."""
-    pattern = TARGET.sub("([0-9]+)", re.escape(template).replace(r"\{target\}", "{target}"))
-    found = re.fullmatch(pattern, text)
-    return int(found[1]) if found else None
-
-
-def if_at(code: Sequence[str], at: int, own: str) -> Optional[FoundIf]:
-    """The `if` that begins with an instruction, into whose middle nothing jumps, or none."""
-    into = jumped_into(code)
-    longest: Optional[FoundIf] = None
+def ifs_at(code: Sequence[str], at: int, own: str) -> Iterator[FoundIf]:
+    """Each `if` that may begin with an instruction, into whose middle nothing jumps."""
+    words = enumerate(text.split(" ") for text in code)
+    jumps = [(it, int(to[-1])) for it, to in words if to[0] in JUMPS and is_digits(to[-1])]
     for test, spare, entry in tests_at(code, at):
-        templates = test.jump().texts
+        templates, _ = test.jump()
         end = at + len(templates)
-        here = range(at, end + 1)
-        values = {"spare": spare, "entry": entry, "own": own, "here": here, "target": "{target}"}
-        texts = [template.format(**values) for template in templates]
-        targets = [target_of(*pair) for pair in zip(texts, code[at:end]) if "{" in pair[0]]
-        plain = [pair for pair in zip(texts, code[at:end]) if "{" not in pair[0]]
-        is_alone = all(at <= it < end for to in range(at + 1, end) for it in into.get(to, ()))
-        if end <= len(code) and is_alone and all(a == b for a, b in plain):
-            is_found = len(targets) == 1 and targets[0] is not None
-            if is_found and (longest is None or longest.length < len(templates)):
-                assert targets[0] is not None
-                longest = FoundIf(test, len(templates), targets[0])
-    return longest
+        values = {"spare": spare, "entry": entry, "own": own, "target": TARGET}
+        text = "\n".join(templates).format(here=range(at, end + 1), **values)
+        pattern = re.escape(text).replace(TARGET, "([0-9]+)")
+        found = re.fullmatch(pattern, "\n".join(code[at:end]))
+        if found and all(at <= it < end for it, to in jumps if at < to < end):
+            yield FoundIf(test, len(templates), int(found[1]))
 
 
 INDENT = "    "
@@ -105,41 +83,27 @@ def decimal(word: str) -> str:
     return str(int(word)) if is_digits(word) else word
 
 
-def hexadecimal(word: str) -> str:
-    """A number that stands for bits; a register as it is."""
-    return hex(int(word)) if is_digits(word) and int(word) else decimal(word)
-
-
-def summand(word: str) -> str:
-    """A number that is added: the upper half of them take away."""
-    value = int(word)
-    return str(value) if value <= LARGEST // 2 else str(value - LARGEST - 1)
-
-
 # How the operands are written that can be written in other ways than in the JSON.
 WRITERS: Dict[str, Callable[[str], str]] = {
-    "N": decimal,
-    "V": decimal,
+    **dict.fromkeys(("N", "V", "I", "ROOM"), decimal),
     "T": lambda word: FOREVER if word == "max" else decimal(word),
-    "I": decimal,
-    "ROOM": decimal,
     "L": label,
     "HEX": lambda word: word if word == "-" else f"0x{word}",
 }
 
 
 def instruction_text(instruction: Instruction) -> str:
-    """An instruction with labels, and with bits as hexadecimal numbers."""
+    """An instruction with labels, with bits as hexadecimal numbers, and less of what is added."""
     first, *operands = instruction.words()
     form = FORM_OF[first]
     parts = [first]
     for symbol, noun, word in zip(form.symbols, form.nouns, operands):
-        write = WRITERS.get(symbol, str)
-        if noun.startswith("bits") or symbol == "V" and operands[-1] == "bits":
-            write = hexadecimal
-        elif first == "add" and symbol == "N":
-            write = summand
-        parts.append(write(word))
+        said, value = WRITERS.get(symbol, str)(word), int(word) if is_digits(word) else 0
+        if value and (noun.startswith("bits") or symbol == "V" and operands[-1] == "bits"):
+            said = hex(value)
+        elif first == "add" and symbol == "N" and value > LARGEST // 2:
+            said = str(value - LARGEST - 1)
+        parts.append(said)
     return " ".join(parts)
 
 
@@ -147,14 +111,13 @@ Line = Tuple[int, str, Optional[int]]
 
 
 def lines_of(task: Task, has_ifs: bool) -> List[Line]:
-    """The lines of a script without labels: the number of the first instruction of each, its text,
-    and to which instruction it jumps, if to any. An `if` that became several instructions is one,
-    where that is asked."""
+    """The lines of a script: its first instruction, its text, and where it jumps, of each."""
     code = [it.text for it in task.code]
     found: List[Line] = []
     at = 0
     while at < len(code):
-        several = if_at(code, at, task.name) if has_ifs else None
+        ifs = ifs_at(code, at, task.name) if has_ifs else ()
+        several = max(ifs, key=lambda it: it.length, default=None)
         if several is not None:
             text = f"if {text_of_test(several.test)} goto {label(str(several.target))}"
             found.append((at, text, several.target))
@@ -193,14 +156,11 @@ def task_blocks(app: Application, is_plain: bool) -> Iterator[List[str]]:
 def counted(left: Sequence[Tuple[Task, List[str]]]) -> int:
     """How many tasks at the front have one script and priority, and names counted from 0."""
     first, script = left[0]
-    count = 0
-    while first.name.endswith("0") and count < len(left):
-        task, other = left[count]
-        is_one = (task.name, task.priority) == (f"{first.name[:-1]}{count}", first.priority)
-        if not is_one or other != script:
-            break
-        count += 1
-    return count
+    alike = (
+        (it.name, it.priority, other) == (f"{first.name[:-1]}{at}", first.priority, script)
+        for at, (it, other) in enumerate(left)
+    )
+    return len([*itertools.takewhile(bool, alike)])
 
 
 def object_cells(word: str, thing: Any) -> List[str]:
@@ -230,9 +190,7 @@ def object_lines(app: Application) -> List[str]:
 
 
 def text_of(app: Application, is_plain: bool = False) -> str:
-    """The text of an application, with an end of line. Reading it gives the application again, with
-    several tasks and an `if` in a line each, where they can be found; or without, where that is
-    asked."""
+    """The text of an application; not plain, it has several tasks and ifs in a line each."""
     numbers = [pair for pair in settings(app) if pair != PROFILE]
     blocks = [[f"{name} {value}" for name, value in numbers]]
     blocks += [object_lines(app), *task_blocks(app, is_plain)]
@@ -240,8 +198,7 @@ def text_of(app: Application, is_plain: bool = False) -> str:
 
 
 def jumps_of(app: Application) -> List[str]:
-    """The tasks of which some jumps come back with labels, as there is no loop, no while and no
-    block of an if in a JSON, each with the numbers of these jumps."""
+    """The tasks of which jumps come back with labels, as no JSON has blocks, with their numbers."""
     found: List[str] = []
     for task in app.tasks:
         ends = [(at, text) for at, text, target in lines_of(task, True) if target is not None]

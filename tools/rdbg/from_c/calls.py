@@ -1,9 +1,11 @@
 """FreeRTOS's calls as they stand in C: what a model says of each, which of its arguments that has,
 and where calls are found."""
+import itertools
 import re
 from typing import Dict, List, Mapping, NamedTuple, Sequence, Tuple
 
 from rdbg.from_c.lexer import WORD, Piece, joined
+from rdbg.operands import ACTIONS
 from rdbg.tree import Place
 
 # A word of a model, then its operands: of which kind each is, and behind `:` the number of the
@@ -58,13 +60,7 @@ CALLS: Dict[str, Tuple[str, ...]] = {
 }
 # What C calls the choices of a call, and the words of a model for them.
 CHOICES: Dict[str, Dict[str, str]] = {
-    "ACTION": {
-        "eNoAction": "none",
-        "eSetBits": "bits",
-        "eIncrement": "inc",
-        "eSetValueWithOverwrite": "set",
-        "eSetValueWithoutOverwrite": "setif",
-    },
+    "ACTION": ACTIONS,
     "WISH": {"pdTRUE": "all", "pdFALSE": "any"},
     "CLR": {"pdTRUE": "clear", "pdFALSE": "keep"},
     "TAKE": {"pdTRUE": "clear", "pdFALSE": "dec"},
@@ -72,6 +68,7 @@ CHOICES: Dict[str, Dict[str, str]] = {
 VALUES, NAMES = ("V", "T"), ("Q", "K")
 # A name that is none of a part of something.
 NAME = re.compile(r"(?<![\w.>])[A-Za-z_]\w*")
+PARAMETER = re.compile(r"\(\*(\w+)\)|(\w+)[\[\]\w]*$")
 # So many calls are gone into at the most from one.
 MOST_CALLS = 100
 
@@ -94,14 +91,8 @@ class Template(NamedTuple):
 def template(text: str) -> Template:
     """A row of the table, read."""
     word, *parts = text.split()
-    operands = []
-    for part in parts:
-        kind, sign, value = part.partition("=")
-        if sign:
-            operands.append(Operand(kind, -1, value))
-        else:
-            kind, _, value = part.partition(":")
-            operands.append(Operand(kind, int(value), ""))
+    found = (re.fullmatch("(.+)(?::([0-9]+)|=(.+))", part) for part in parts)
+    operands = [Operand(it[1], int(it[2] or -1), it[3] or "") for it in found if it]
     return Template(word, tuple(operands))
 
 
@@ -188,42 +179,29 @@ def arguments(code: Sequence[Piece], at: int) -> Tuple[Tuple[str, ...], int]:
 
 def calls_in(code: Sequence[Piece]) -> List[Call]:
     """All calls in a function, of whatever it calls, in order."""
-    found: List[Call] = []
-    for at, piece in enumerate(code[:-1]):
-        if piece.kind == WORD and code[at + 1].text == "(":
-            given, end = arguments(code, at + 1)
-            found.append(Call(piece.text, given, piece.place, code[end].end))
-    return found
-
-
-def parameter(written: str) -> str:
-    """The name of a parameter."""
-    found = re.search(r"\(\*(\w+)\)|(\w+)[\[\]\w]*$", written)
-    return (found[1] or found[2]) if found else ""
+    pairs = zip(code, code[1:])
+    heads = (at for at, (it, behind) in enumerate(pairs) if it.kind == WORD and behind.text == "(")
+    given = ((code[at], *arguments(code, at + 1)) for at in heads)
+    return [Call(it.text, texts, it.place, code[end].end) for it, texts, end in given]
 
 
 def kept(block: Block) -> List[str]:
     """The names of a function's parameters; empty that of one which it may change."""
     text = joined(block.pieces)
     changed = r"\b{0}(?:[-+*/%|&^]|<<|>>)?=(?!=)|[(,]&{0}\b|\b{0}(?:--|\+\+)|(?:--|\+\+){0}\b"
-    names = map(parameter, block.parameters)
+    found = (PARAMETER.search(it) for it in block.parameters)
+    names = [(it[1] or it[2]) if it else "" for it in found]
     return ["" if re.search(changed.format(it), text) else it for it in names]
 
 
 def made_by(call: Call, functions: Mapping[str, Block]) -> List[Call]:
-    """The calls of FreeRTOS that a call of one of these functions makes, by itself and by others of
-    them, with what it is given in the place of its parameters."""
+    """The calls of FreeRTOS that a call makes by these functions, with what it is given in them."""
     waiting, found = [call], []
-    for _ in range(MOST_CALLS):
-        if not waiting:
-            break
-        one = waiting.pop(0)
+    for one in itertools.islice(waiting, MOST_CALLS):  # (which grows meanwhile)
         block = functions[one.name]
         given = dict(zip(kept(block), one.arguments))
         for it in calls_in(block.pieces):
-            put = (
-                NAME.sub(lambda name: given.get(name[0], name[0]), text) for text in it.arguments
-            )
+            put = [NAME.sub(lambda it: given.get(it[0], it[0]), text) for text in it.arguments]
             if it.name in TEMPLATES:
                 found.append(it._replace(arguments=tuple(put)))
             elif it.name in functions:

@@ -1,33 +1,14 @@
 """Where the C of a firmware and the model in its comments have gone apart."""
+import itertools
 import pathlib
 import re
-from typing import (
-    Dict,
-    Iterable,
-    Iterator,
-    List,
-    Mapping,
-    NamedTuple,
-    Optional,
-    Sequence,
-    Set,
-    Tuple,
-)
+from typing import Dict, Iterator, List, Mapping, NamedTuple, Optional, Sequence, Set, Tuple
 
-from rdbg.from_c.calls import CHOICES, TEMPLATES, Block, Call, Operand, blocks, calls_in, made_by
+from rdbg.from_c.calls import CHOICES, NAMES, TEMPLATES, Block, Call, Operand
+from rdbg.from_c.calls import blocks, calls_in, made_by
 from rdbg.from_c.lexer import DIRECTIVE, Piece, pieces
 from rdbg.from_c.lines import SKIP, Line, lines_of, rows_alone
-from rdbg.from_c.said import (
-    Said,
-    Value,
-    defined,
-    first_of,
-    is_name,
-    said,
-    shown,
-    value_of,
-    values,
-)
+from rdbg.from_c.said import Said, Value, defined, said, shown, tokens_of, value_of, values
 from rdbg.json_layout import MOST_BYTES
 from rdbg.operands import PATTERN_OF
 from rdbg.tree import Fault, Place
@@ -73,16 +54,15 @@ class Comparing:
             text = call.argument(it.argument)
             named = self._handles.get(handle(text))
             choice = CHOICES.get(it.kind, {}).get(text)
-            plain = handle(text) if is_name(it.kind) else text
+            plain = handle(text) if it.kind in NAMES else text
             parts.append(it.fixed or choice or (named[0] if named else plain) or it.kind)
         return " ".join(parts)
 
     def judge(self, line: Said, call: Call) -> Iterator[Fault]:
-        """Where the line of a call of FreeRTOS says something else; what it names stands for that
-        from there on."""
+        """Where a line says something else than its call; what it names is known from there on."""
         yield from self.faults(line, call)
         for operand, value in self._pairs(line, call):
-            if is_name(operand.kind):
+            if operand.kind in NAMES:
                 text = handle(call.argument(operand.argument))
                 self._handles.setdefault(text, (value.text, line.line.number))
 
@@ -105,14 +85,14 @@ class Comparing:
             yield fault(line.line.place, message + ", with other operands" * (line.word in words))
         for operand, value in pairs:
             wrong = self._differs(operand, value, call)
-            if wrong and (is_one or not is_name(operand.kind)):
+            if wrong and (is_one or operand.kind not in NAMES):
                 yield fault(line.line.place, f"{both} has {wrong}")
 
     def _differs(self, operand: Operand, value: Value, call: Call) -> str:
         """What a call has in the place of an operand, where it is something else."""
         text = operand.fixed or call.argument(operand.argument)
         noun = NOUN.get(operand.kind, "")
-        if is_name(operand.kind):
+        if operand.kind in NAMES:
             return self._other_thing(handle(text), value.text, noun)
         if operand.kind in CHOICES:
             choice = operand.fixed or CHOICES[operand.kind].get(text, "")
@@ -143,16 +123,15 @@ INCLUDE = re.compile(r'#\s*include\s*"([^"/\\]+)"')
 KERNEL, CONFIGURATION = "FreeRTOS.h", "FreeRTOSConfig.h"
 
 
-def included(directives: Iterable[Piece]) -> List[str]:
+def included(directives: Sequence[Piece]) -> List[str]:
     """The names that are included by quotes."""
     found = (INCLUDE.match(it.text) for it in directives if it.kind == DIRECTIVE)
     names = [it[1] for it in found if it]
     return [*names, CONFIGURATION] if KERNEL in names else names
 
 
-def of_headers(path: str, source: Iterable[Piece]) -> List[Piece]:
-    """What stands in the headers of a source of this path, and in theirs. Those that aren't in its
-    folder are passed over."""
+def of_headers(path: str, source: Sequence[Piece]) -> List[Piece]:
+    """What stands in the headers of a source, and in theirs, as far as its folder has them."""
     folder, found = pathlib.Path(path).parent, []
     names = [*dict.fromkeys(included(source))]
     for name in names:
@@ -172,10 +151,10 @@ TASK, CONSTS = "task", ("const", "#define")
 
 
 class Beside(NamedTuple):
-    """A call, with the first line of its statement."""
+    """A call, with the rows in which what stands is beside it."""
 
     call: Call
-    begin: int
+    rows: range
 
 
 class Source(NamedTuple):
@@ -208,42 +187,32 @@ class Function:
                 yield from self._judge_several(it, naming[it.call])
             elif it.call.name in TEMPLATES:
                 yield from self._judge(it, lines[it.call] or self._fitting(it, is_any=True))
-        for left in self._said:
-            if left.line.place not in self._used:
-                yield self._without(left)
+        for left in (it for it in self._said if it.line.place not in self._used):
+            function, line = left.line.function, shown(left)
+            own = "" if function else f"; of a function that makes it: // rdbg(NAME): {line}"
+            beside = f"no call of {function or like(left)} stands beside it"
+            yield fault(left.line.place, f"{line}: {beside}{own}")
 
     def _beside(self) -> Iterator[Beside]:
         """The calls that a model has to say, and those by which lines say that one is made."""
         named = {*TEMPLATES, *self._source.functions, *(it.line.function for it in self._said)}
         ends = [it.place for it in self._block.pieces if it.text in (";", "{", "}")]
-        begins = [it.place for it in self._block.pieces[1:]]
+        begins, alone = [it.place for it in self._block.pieces[1:]], self._source.alone
         for call in calls_in(self._block.pieces):
             if call.name in named:
-                last = max(
-                    (it for it in ends if it < call.place), default=self._block.pieces[0].place
-                )
+                before = (it for it in ends if it < call.place)
+                last = max(before, default=self._block.pieces[0].place)
                 begin = min((it.line for it in begins if it > last), default=call.place.line)
-                yield Beside(call, begin)
+                above = (row for row in itertools.count(begin, -1) if row - 1 not in alone)
+                yield Beside(call, range(next(above), call.end + 1))
 
     def _near(self, it: Beside) -> List[Said]:
         """The lines beside a call that are of no other yet."""
-        reach = self._reach(it)
-        return [
-            line
-            for line in self._said
-            if line.line.number in reach and line.line.place not in self._used
-        ]
-
-    def _reach(self, it: Beside) -> range:
-        """The rows in which what stands is beside a call."""
-        begin = it.begin
-        while begin - 1 in self._source.alone:
-            begin -= 1
-        return range(begin, it.call.end + 1)
+        left = (each for each in self._said if each.line.place not in self._used)
+        return [each for each in left if each.line.number in it.rows]
 
     def _naming(self, it: Beside) -> List[Said]:
-        """The lines beside a call that name its function. Those that name another which that calls
-        are beside it, too."""
+        """The lines beside a call that name its function, beside those of what that calls."""
         block = self._source.functions.get(it.call.name)
         inner = {call.name for call in calls_in(block.pieces)} if block else set()
         near = [line for line in self._near(it) if line.line.function in (it.call.name, *inner)]
@@ -251,15 +220,10 @@ class Function:
         return [line for line in near if line.line.function == it.call.name]
 
     def _fitting(self, it: Beside, is_any: bool) -> Optional[Said]:
-        """The nearest line beside a call of FreeRTOS. It has the word of the call, or, where it may
-        be any, that of another."""
-        words = words_of(it.call)
-        found = [
-            line
-            for line in self._near(it)
-            if not line.line.function and (is_any or line.word in words)
-        ]
-        row = it.call.place.line
+        """The nearest line beside a call of FreeRTOS, with its word, or with any."""
+        words, row = words_of(it.call), it.call.place.line
+        near = [line for line in self._near(it) if not line.line.function]
+        found = [line for line in near if is_any or line.word in words]
         nearest = min(found, key=lambda one: abs(one.line.number - row), default=None)
         if nearest is not None:
             self._used.add(nearest.line.place)
@@ -267,12 +231,11 @@ class Function:
 
     def _is_skipped(self, it: Beside, function: str) -> bool:
         """Whether a line beside a call says that the model leaves it out."""
-        reach = self._reach(it)
-        for skip in self._skips:
-            if skip.number in reach and skip.function == function:
-                self._skips.remove(skip)
-                return True
-        return False
+        own = (skip for skip in self._skips if skip.function == function)
+        found = next((skip for skip in own if skip.number in it.rows), None)
+        if found is not None:
+            self._skips.remove(found)
+        return found is not None
 
     def _judge(self, it: Beside, line: Optional[Said]) -> Iterator[Fault]:
         """What is told of a call of FreeRTOS, and of the line beside it."""
@@ -309,15 +272,6 @@ class Function:
                 where = f"{call.name} in line {call.place.line}, which {name} calls"
                 yield fault(it.call.place, f"{where}, has no line here: {would}")
 
-    def _without(self, line: Said) -> Fault:
-        """That a line stands beside no call."""
-        function = line.line.function
-        if function:
-            return fault(line.line.place, f"{shown(line)}: no call of {function} stands beside it")
-        own = f"of a function that makes it: // rdbg(NAME): {shown(line)}"
-        message = f"{shown(line)}: no call of {like(line)} stands beside it; {own}"
-        return fault(line.line.place, message)
-
 
 def words_of(call: Call) -> Set[str]:
     """The words by which a model says a call."""
@@ -336,18 +290,16 @@ def is_of_task(block: Block, lines: Sequence[Line], before: int) -> bool:
     if any(block.begin <= it.number <= block.end for it in lines):
         return True
     above = [it for it in lines if before < it.number < block.begin]
-    return bool(above) and first_of(above[-1]) == TASK
+    return [it.text for line in above[-1:] for it in tokens_of(line.text)[:1]] == [TASK]
 
 
 def differing_consts(lines: Sequence[Line], model: Model) -> Iterator[Fault]:
     """Consts of the model that are other numbers in the C."""
     for line in lines:
-        words = line.text.replace(",", " ").split()
-        if words and words[0] in CONSTS and len(words) > 1:
-            name = words[1]
-            known, own = model.known.get(name), model.of_c.get(name)
-            if known is not None and own is not None and known != own:
-                yield fault(line.place, f"const {name} is {known}, and {own} in the C")
+        word, name, *_ = [*line.text.replace(",", " ").split(), "", ""]
+        known, own = model.known.get(name), model.of_c.get(name)
+        if word in CONSTS and None not in (known, own) and known != own:
+            yield fault(line.place, f"const {name} is {known}, and {own} in the C")
 
 
 def drifts(path: str, text: str, names: Set[str], known: Mapping[str, int]) -> List[Fault]:

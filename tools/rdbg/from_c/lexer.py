@@ -1,10 +1,9 @@
 """The words of a C source, with their places. No C is understood: comments, texts in quotes and
 directives of the preprocessor are told apart from what is left, and words from signs."""
-import bisect
 import re
 from typing import Iterator, NamedTuple, Sequence
 
-from rdbg.tree import Place
+from rdbg.tree import Lines, Place
 
 COMMENT, TEXT, DIRECTIVE, WORD = "comment", "text", "directive", "word"
 PIECE = re.compile(
@@ -31,25 +30,13 @@ class Piece(NamedTuple):
         return self.kind not in (COMMENT, DIRECTIVE)
 
 
-class Places:
-    """The places of the characters of a text."""
-
-    def __init__(self, text: str) -> None:
-        self._begins = [0, *(it.end() for it in re.finditer("\n", text))]
-
-    def of(self, at: int) -> Place:
-        """The place of a character."""
-        line = bisect.bisect_right(self._begins, at)
-        return Place(line, at - self._begins[line - 1] + 1)
-
-
 def pieces(text: str) -> Iterator[Piece]:
     """The pieces of a source, in order."""
-    places = Places(text)
+    place = Lines(text).place
     for found in PIECE.finditer(text):
         assert found.lastgroup is not None
-        last = places.of(max(found.end() - 1, found.start())).line
-        yield Piece(found.lastgroup, found[0], places.of(found.start()), last)
+        last = place(max(found.end() - 1, found.start())).line
+        yield Piece(found.lastgroup, found[0], place(found.start()), last)
 
 
 def joined(found: Sequence[Piece]) -> str:

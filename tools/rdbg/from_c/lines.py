@@ -36,10 +36,8 @@ def bodies(piece: Piece) -> Iterator[Line]:
         return
     closed = piece.text[:-2] if piece.text.startswith("/*") else piece.text
     for number, text in enumerate(closed.split("\n")):
-        begin = mark.end() if number == 0 else 0
-        if number:
-            star = STAR.match(text)
-            begin = star.end() if star else 0
+        star = STAR.match(text) if number else mark
+        begin = star.end() if star else 0
         body = text[begin:].rstrip()
         begin += len(body) - len(body.lstrip())
         column = begin + (piece.place.column if number == 0 else 1)
@@ -78,8 +76,7 @@ def code_beside(text: str, found: Sequence[Piece]) -> Dict[int, str]:
 
 
 def in_lines(text: str) -> str:
-    """The model of a source as a text in lines: each line stands where it stands in the source,
-    with the C beside it as its comment."""
+    """The model of a source as a text in lines, each where it stands, with the C as its comment."""
     found = [*pieces(text)]
     said: Dict[int, str] = {}
     for line in lines_of(found):

@@ -5,7 +5,7 @@ from typing import Dict, Iterable, List, Mapping, Match, NamedTuple, Optional, S
 from rdbg.firmware.code import without_parentheses
 from rdbg.firmware.numbers import LARGEST, Constants, Kept, Numbers
 from rdbg.firmware.tokens import Refusal, Scanner, Token, written
-from rdbg.from_c.calls import NAMES, VALUES, WORDS, Template
+from rdbg.from_c.calls import VALUES, WORDS, Template
 from rdbg.from_c.lexer import DIRECTIVE, Piece
 from rdbg.from_c.lines import Line
 from rdbg.operands import PATTERN_OF
@@ -31,17 +31,15 @@ def value_of(text: str, known: Mapping[str, int]) -> Optional[int]:
 
     if text == FOREVER:
         return LARGEST
-    refusals: List[Refusal] = []
-    constants = Constants()
-    constants.values.update({**OF_C, **known})
+    kept, value = Kept(Constants(), []), None
+    kept.constants.values.update({**OF_C, **known})
     plain = IN_TICKS.sub(in_ticks, CAST.sub("", text))
-    tokens = next(Scanner(plain.replace("\n", " "), refusals).lines())
-    try:
-        reader = Numbers(tokens, Kept(constants, refusals))
+    tokens = next(Scanner(plain.replace("\n", " "), kept.refusals).lines())
+    with kept.keeping():
+        reader = Numbers(tokens, kept)
         value = reader.number() if tokens else None
-        return None if refusals or reader.next() is not None else value
-    except Refusal:
-        return None
+        reader.end()
+    return None if kept.refusals else value
 
 
 def defined(pieces: Iterable[Piece], known: Mapping[str, int]) -> Dict[str, int]:
@@ -102,12 +100,6 @@ def said(line: Line) -> Optional[Said]:
     return Said(line, tokens[0].text, behind)
 
 
-def first_of(line: Line) -> str:
-    """The first word of a line."""
-    tokens = tokens_of(line.text)
-    return tokens[0].text if tokens else ""
-
-
 def grouped(tokens: Sequence[Token]) -> List[str]:
     """Operands as texts: `RX | 1<<4` is one."""
     found: List[str] = []
@@ -134,11 +126,6 @@ def values(it: Said, form: Template, known: Mapping[str, int]) -> Optional[List[
         is_number = operand.kind in VALUES and not PATTERN_OF["R"].fullmatch(text)
         found.append(Value(text, value_of(text, known) if is_number else None))
     return found
-
-
-def is_name(kind: str) -> bool:
-    """Whether an operand is the name of a thing."""
-    return kind in NAMES
 
 
 def shown(it: Said) -> str:
