@@ -26,16 +26,12 @@ class Changes(Way):
         self.kind, self.name, self.view = kind, name, f"show {kind} {name}"
         self.text = f"changes {name}"
         self.target = target
-        self.hides = self._hides()
-
-    def _hides(self) -> bool:
-        """Whether a move of a script can change it and leave how much it holds."""
-        words = HIDING.get(self.kind)
-        application = self.target.application
-        if application is None or words is None:
-            return words != ()
-        texts = (it.words() for task in application.tasks for it in task.code)
-        return any(text[0] in words and text[1] == self.name for text in texts)
+        # Whether a move of a script can change it and leave how much it holds.
+        words, application = HIDING.get(kind), target.application
+        self.hides = words != ()
+        if application is not None and words is not None:
+            texts = (it.words() for task in application.tasks for it in task.code)
+            self.hides = any(text[0] in words and text[1] == name for text in texts)
 
     def _amounts(self, content: Object) -> List[Condition]:
         """The conditions of which one holds wherever there is more or less in it."""
@@ -51,9 +47,8 @@ class Changes(Way):
     def next(self, walk: Walk, limit: int) -> Optional[int]:
         start = walk.place
         found = nearest(walk, self._amounts(self._look(walk)), limit)
-        if not self.hides:
-            return found
-        scanned = self._scan(walk, start + limit if found is None else found - 1)
+        end = start + limit if found is None else found - 1
+        scanned = self._scan(walk, end) if self.hides else None
         return found if scanned is None else scanned
 
     def _scan(self, walk: Walk, end: int) -> Optional[int]:
@@ -69,9 +64,7 @@ class Changes(Way):
         if walk.place == 0:
             return None
         walk.goto(walk.place - 1)
-        place, content = walk.place, self._look(walk)
-        amounts = self._amounts(content)
-        other = latest(walk, amounts) if amounts else None
+        place, other = walk.place, latest(walk, self._amounts(self._look(walk)))
         first = 0 if other is None else other + 1
         if self.hides or self._was_edited(first, place):
             scanned = self._scan(walk, first)

@@ -57,34 +57,28 @@ class PacedWalk(Walk):
 
     def _seen(self, line: str, reply: str, before: int) -> None:
         """Takes note of moves, whoever makes them."""
-        word = line.split(" ", 1)[0]
+        word, *others = line.split(" ")
         if not reply.startswith("ok at ") or word not in NEW:
             return
         state = self._states.get(before, State())
         self._states = {at: it for at, it in self._states.items() if at <= before}
         self._own = {at: it for at, it in self._own.items() if at <= before}
-        if word == "step":
-            clock = state.clock.moved(int(line.split(" ")[1]))
-            state = dataclasses.replace(state, clock=clock)
-        elif word == "tick":
-            state = dataclasses.replace(state, clock=Clock(), is_new_tick=True)
-        elif word in RUNS:
-            state = dataclasses.replace(state, clock=Clock())
-        self._states[self.target.place] = state
+        clock = state.clock.moved(int(others[0])) if word == "step" else state.clock
+        self._states[self.target.place] = dataclasses.replace(
+            state,
+            clock=Clock() if word in ("tick", *RUNS) else clock,
+            is_new_tick=state.is_new_tick or word == "tick",
+        )
 
     def _next(self) -> str:
         """The line of the next move."""
-        place = self.place
-        state = self._states.get(place, State())
+        state = self._states.get(self.place, State())
         cores = self.target.ask("show cores", Cores)
         if state.is_new_tick and not state.left:
             state = self._with_interrupt(state, cores.tick)
         clock = state.clock.seen(cores.running)
-        if state.left:
-            line, left = state.left[0], state.left[1:]
-        else:
-            line, left = self.tick_pace.line(cores, clock.of(len(cores.running))), ()
-        self._states[place] = dataclasses.replace(state, clock=clock, left=left)
+        line, *left = state.left or [self.tick_pace.line(cores, clock.of(len(cores.running)))]
+        self._states[self.place] = dataclasses.replace(state, clock=clock, left=tuple(left))
         return line
 
     def _with_interrupt(self, state: State, tick: int) -> State:

@@ -3,6 +3,7 @@
 A goal is found by small runs and looks between. A way says the place of the very move, and may
 leave the target anywhere that a run from where it began came through."""
 import dataclasses
+from functools import partial
 from typing import Callable, Iterator, List, Optional, Sequence, Tuple
 
 from rdbg import record, replies
@@ -23,35 +24,47 @@ NEAR, TURNS = 8, 4
 FIRST_WINDOW, WIDER = 64, 8
 
 
-def nearest(walk: Walk, conditions: Sequence[Condition], limit: int) -> Optional[int]:
-    """The first place of a run where one of these conditions holds. Stays where it is."""
-    start, left = walk.place, limit
+def first_of(
+    walk: Walk, finds: Sequence[Callable[[int], Optional[int]]], limit: int
+) -> Tuple[Optional[int], int]:
+    """The first place of so many moves that one of these finds, and which. Stays where it is."""
+    start, left, which = walk.place, limit, -1
     found: Optional[int] = None
-    for condition in conditions:
+    for at, find in enumerate(finds):
         if left < 1:
             break
-        met = walk.until(condition.text, left)
-        if met is not None:
-            found, left = met, met - start - 1
+        place = find(left)
+        if place is not None:
+            found, left, which = place, place - start - 1, at
         walk.reach(start)
-    return found
+    return found, which
+
+
+def last_of(walk: Walk, finds: Sequence[Callable[[], Optional[int]]]) -> Tuple[Optional[int], int]:
+    """The last earlier place that one of these finds, and which. Stays where it is."""
+    start, which = walk.place, -1
+    found: Optional[int] = None
+    for at, find in enumerate(finds):
+        place = find()
+        if place is not None and (found is None or place > found):
+            found, which = place, at
+        walk.goto(start)
+    return found, which
+
+
+def nearest(walk: Walk, conditions: Sequence[Condition], limit: int) -> Optional[int]:
+    """The first place of a run where one of these conditions holds. Stays where it is."""
+    return first_of(walk, [partial(walk.until, it.text) for it in conditions], limit)[0]
 
 
 def latest(walk: Walk, conditions: Sequence[Condition]) -> Optional[int]:
     """The last earlier place where one of these conditions holds. Stays where it is."""
-    start = walk.place
-    met: List[int] = []
-    for condition in conditions:
-        place = walk.back_until(condition.text)
-        if place is not None:
-            met.append(place)
-        walk.goto(start)
-    return max(met) if met else None
+    return last_of(walk, [partial(walk.back_until, it.text) for it in conditions])[0]
 
 
-def look_at(walk: Walk, goal: Goal) -> Look:
+def look_at(target: Target, goal: Goal) -> Look:
     """A look at what a goal speaks of."""
-    return walk.target.look(goal.names(walk.target.names))
+    return target.look(goal.names(target.names))
 
 
 def looked(
@@ -95,7 +108,7 @@ def is_so(target: Target, goal: Goal) -> bool:
     # (mostly it is seen by one line that something goes on)
     if isinstance(goal, Stuck) and any(target.ask("show cores", replies.Cores).running):
         return False
-    return goal.is_so(target.look(goal.names(target.names)))
+    return goal.is_so(look_at(target, goal))
 
 
 def is_stuck(target: Target) -> bool:
@@ -125,7 +138,7 @@ class Search:
         end = walk.place + limit
         while walk.place < end:
             walk.interrupt.check()
-            look, here = look_at(walk, self.goal), walk.place
+            look, here = look_at(walk.target, self.goal), walk.place
             turns = None if self.goal.is_so(look) else self.goal.turns(look, earlier=False)
             if turns is None or self._short >= TURNS:
                 place = self._scan(end)
@@ -149,13 +162,17 @@ class Search:
         while walk.place > base:
             walk.interrupt.check()
             walk.goto(walk.place - 1)
-            look, here = look_at(walk, self.goal), walk.place
+            look, here = look_at(walk.target, self.goal), walk.place
             if self.goal.is_so(look):
                 return here
             if self.goal.is_lasting and only_runs(walk.target):
                 return None
             if isinstance(self.goal, Not) and self.goal.goal.is_lasting and only_runs(walk.target):
-                return self._before(base, here)
+                # (it isn't so behind the last place at which what lasts isn't so yet)
+                walk.goto(base)
+                is_there = is_so(walk.target, self.goal)
+                lasting = Search(walk, self.goal.goal)
+                return lasting.between(base, here) - 1 if is_there else None
             turns = self.goal.turns(look, earlier=True)
             if turns is None or self._short >= TURNS:
                 place = self._scan(base)
@@ -210,14 +227,6 @@ class Search:
             else:
                 low = self.walk.place
         return high
-
-    def _before(self, low: int, high: int) -> Optional[int]:
-        """The last place from `low` up to `high`, where what lasts is so, at which it isn't."""
-        self.walk.goto(low)
-        if not is_so(self.walk.target, self.goal):
-            return None
-        assert isinstance(self.goal, Not)
-        return Search(self.walk, self.goal.goal).between(low, high) - 1
 
 
 def only_runs(target: Target) -> bool:
@@ -290,31 +299,16 @@ class AnyOf(Way):
         while True:
             here = walk.place
             left = limit - (here - start)
-            found = self._first(walk, min(window, left))
+            finds = [partial(it.next, walk) for it in self.ways]
+            found, which = first_of(walk, finds, min(window, left))
             if found is not None or left <= window or walk.wall:
-                return found
+                return self._met(found, which)
             walk.reach(here + window)
             window *= WIDER
 
-    def _first(self, walk: Walk, limit: int) -> Optional[int]:
-        """The first place of so many moves. Stays where it is."""
-        start, left = walk.place, limit
-        found: Optional[int] = None
-        for way in self.ways:
-            if left < 1:
-                break
-            place = way.next(walk, left)
-            if place is not None:
-                found, left, self.met = place, place - start - 1, way
-            walk.reach(start)
-        return found
-
     def last(self, walk: Walk) -> Optional[int]:
-        start = walk.place
-        found: Optional[int] = None
-        for way in self.ways:
-            place = way.last(walk)
-            if place is not None and (found is None or place > found):
-                found, self.met = place, way
-            walk.goto(start)
-        return found
+        return self._met(*last_of(walk, [partial(it.last, walk) for it in self.ways]))
+
+    def _met(self, place: Optional[int], which: int) -> Optional[int]:
+        self.met = self.met if place is None else self.ways[which]
+        return place

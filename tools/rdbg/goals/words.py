@@ -34,8 +34,7 @@ def counted(words: Sequence[str], scope: Scope) -> Tuple[Goal, Optional[int]]:
     try:
         return plain(words, scope), None
     except NoGoal as wrong:
-        is_last = wrong.at is not None and wrong.at == len(wrong.words) - 1
-        if is_last and len(words) > 1 and commands.is_count(words[-1]):
+        if wrong.at == len(wrong.words) - 1 and words[1:] and commands.is_count(words[-1]):
             with contextlib.suppress(NoGoal):
                 return plain(words[:-1], scope), int(words[-1])
     return read(words, scope), None
