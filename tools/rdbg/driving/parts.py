@@ -52,14 +52,11 @@ def walk_through(walk: Walk, first: int, last: int) -> Part:
     """The same; it ends at the last place."""
     target = walk.target
     walk.goto(first - 1)
-    before = target.look()
-    moves: List[Move] = []
-    looks: List[Look] = []
+    before, looks = target.look(), []
     while walk.place < last:
-        for look in trail.again(target, min(trail.CHUNK, last - walk.place), target.names):
-            moves.append(trail.between(target, looks[-1] if looks else before, look))
-            looks.append(look)
-    return Part(before, tuple(moves), tuple(looks))
+        looks += trail.again(target, min(trail.CHUNK, last - walk.place), target.names)
+    pairs = zip([before, *looks], looks)
+    return Part(before, tuple(trail.between(target, *it) for it in pairs), tuple(looks))
 
 
 def move_to(source: Optional[Source], lines: Sequence[str], place: int) -> Move:

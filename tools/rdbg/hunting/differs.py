@@ -11,13 +11,13 @@ import itertools
 import re
 from typing import Dict, Iterator, List, Optional, Sequence, Set, Tuple
 
-from rdbg.application import Task
+
 from rdbg.driving.target import read
 from rdbg.goals.ways import To
 from rdbg.hunting.ends import claims
 from rdbg.hunting.goals import STUCK, is_stuck
 from rdbg.hunting.orders import FORWARD, TICK, Order, choice
-from rdbg.hunting.search import Search
+from rdbg.hunting.search import STOPS, Search
 from rdbg.hunting.stage import Find, Stage
 from rdbg.reaching.said import Answer, Bound, Kind
 from rdbg.replies import Cores
@@ -88,9 +88,9 @@ class Differs:
         whole = self._run(())
         tasks = () if is_stuck(whole.look) else self.stage.names.tasks
         resting = tuple(it for it in tasks if rests(self.stage, it))
-        ends = [self._run(way) for way in ways(self.stage)]
-        self._ends = {it.views for it in ends}
-        return Own(whole, tuple(ends), resting)
+        ends = tuple(self._run(way) for way in ways(self.stage))
+        self._ends.update(it.views for it in ends)
+        return Own(whole, ends, resting)
 
     def _run(self, way: Sequence[Tuple[str, ...]]) -> Find:
         """What `forward` comes to, with these interrupts behind it, each where all rests again."""
@@ -185,11 +185,11 @@ class Differs:
 
     def _state(self, cores: Cores, views: Sequence[str]) -> Tuple[object, ...]:
         """What is the same where all goes on alike, whatever the tick."""
-        left = (
-            TIMES.sub(lambda it: f"{it[1]}+{max(0, int(it[2]) - cores.tick)}", view)
-            for view in views
-        )
-        tick = cores.tick % len(cores.running)
+
+        def relative(found: "re.Match[str]") -> str:
+            return f"{found[1]}+{max(0, int(found[2]) - cores.tick)}"
+
+        tick, left = cores.tick % len(cores.running), (TIMES.sub(relative, it) for it in views)
         return (cores.running, cores.ready, tick, choice(cores), *left)
 
     def _behind(
@@ -210,22 +210,22 @@ class Differs:
             # (of whatever length)
             more = self.search.interrupts(come)
             answer = self.search.asker.ask(goal, Bound(), leaving, more, self.search.question)
-            if self.search.is_stopped_by(answer):
+            if answer.why in STOPS:
+                self.search.none.append(answer)
                 return None
-            if answer.kind is not Kind.NONE:
-                continue
-            task = self.stage.application.task(name)
-            assert task is not None
-            found = self.search.ask(at_rest(task), bound, leaving, come, keeps=False)
-            return Difference(found or self.stage.find(leaving), (name,))
+            if answer.kind is Kind.NONE:
+                at_rest = self._at_rest(name)
+                found = self.search.ask(at_rest, bound, leaving, come, keeps=False)
+                return Difference(found or self.stage.find(leaving), (name,))
         return None
 
-
-def at_rest(task: Task) -> str:
-    """That a task has ended or failed, or waits in a call without a deadline."""
-    endless = (at for at, it in enumerate(task.code) if it.words()[-1] == "max")
-    waiting = (f"waits {task.name} and at {task.name} {at}" for at in endless)
-    return " or ".join([f"ended {task.name}", f"failed {task.name}", *waiting])
+    def _at_rest(self, name: str) -> str:
+        """That a task has ended or failed, or waits in a call without a deadline."""
+        task = self.stage.application.task(name)
+        assert task is not None
+        endless = (at for at, it in enumerate(task.code) if it.words()[-1] == "max")
+        waiting = (f"waits {name} and at {name} {at}" for at in endless)
+        return " or ".join([f"ended {name}", f"failed {name}", *waiting])
 
 
 def compared(own: Own, difference: Difference) -> Dict[str, Tuple[str, str]]:

@@ -2,7 +2,7 @@
 and object. So an order that ends otherwise than another is one whose end denies one of its claims.
 """
 import re
-from typing import Dict, Iterator, Tuple
+from typing import Dict, Iterable, Iterator, Tuple
 
 from rdbg import kinds, replies
 from rdbg.application import Application, Task
@@ -30,17 +30,17 @@ def claims(look: Look, application: Application) -> Dict[str, str]:
     """What is so, by thing."""
     forms = (form_of(it.words()[0]) for task in application.tasks for it in task.code)
     has_notes = any(form is not None and ENTRY in form.symbols for form in forms)
-    found: Dict[str, Tuple[str, ...]] = {}
-    for task in application.tasks:
-        found[task.name] = tuple(task_claims(look.tasks[task.name], task, has_notes))
+    found: Dict[str, Iterable[str]] = {
+        task.name: task_claims(look.tasks[task.name], task, has_notes) for task in application.tasks
+    }
     # (goals can't speak of a stream buffer and a message buffer that have one name)
     buffers = [name for kind, name in look.objects if kind in ("stream", "message")]
     for (kind, name), it in look.objects.items():
         if kind not in ("stream", "message") or buffers.count(name) < 2:
             amount = kinds.OF_WORD[kind].amount
-            claim = (f"{amount} {name} = {AMOUNTS[amount](it, 0)}",) if amount else ()
-            found[f"{kind} {name}"] = claim
-    return {thing: " and ".join(said) for thing, said in found.items() if said}
+            if amount:
+                found[f"{kind} {name}"] = [f"{amount} {name} = {AMOUNTS[amount](it, 0)}"]
+    return {thing: " and ".join(said) for thing, said in found.items()}
 
 
 def denied(goal: str, others: Tuple[str, ...]) -> str:

@@ -34,25 +34,19 @@ class Goal:
         """Whether an order is held against another one."""
         return self.of_places is None
 
-    @property
-    def _watched(self) -> Optional[claims.Holds]:
-        """The condition that a watch can be of."""
-        goal = self.of_places
-        return goal if isinstance(goal, claims.Holds) and self.is_met else None
-
     def is_so(self, look: Look) -> bool:
         """Whether it is so where this is seen, or needn't be."""
         return self.of_places is None or not self.is_met or self.of_places.is_so(look)
 
     def first_lines(self) -> List[str]:
         """The lines that stand first among those that show a find."""
-        return [f"watch {self.asked}"] if self._watched else []
+        is_watched = isinstance(self.of_places, claims.Holds) and self.is_met
+        return [f"watch {self.asked}"] if is_watched else []
 
     def last_lines(self, names: Names) -> List[str]:
         """The lines that show, at the end of an order, that it is a find."""
-        watched = self._watched
-        if watched is not None:
-            return ["show watches", watched.condition.view]
+        if isinstance(self.of_places, claims.Holds) and self.is_met:
+            return ["show watches", self.of_places.condition.view]
         if self.of_places is None:
             return names.lines()
         return Names(names.tasks, self.of_places.names(names).objects).lines()

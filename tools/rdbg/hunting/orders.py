@@ -3,7 +3,7 @@
 A surprise is a move that `forward` wouldn't make next, where the moves of one core in a row, all
 ahead of it, count as one; an interrupt is one, whatever it calls."""
 import dataclasses
-from typing import Iterator, List, Optional, Sequence, Tuple
+from typing import List, Optional, Sequence, Tuple
 
 from rdbg.driving.target import Target, read
 from rdbg.failure import Failure
@@ -65,12 +65,10 @@ def choice(cores: Cores) -> Optional[int]:
     return next(busy, None)
 
 
-def runs_of(
-    lines: Sequence[str], looks: Sequence[Cores], handlers: Sequence[Handler]
-) -> Iterator[Run]:
+def runs_of(lines: Sequence[str], looks: Sequence[Cores], handlers: Sequence[Handler]) -> List[Run]:
     """The runs that the moves of an order make, with the cores before each of them."""
+    found: List[Run] = []
     at = 0
-    last: Optional[Run] = None
     while at < len(lines):
         line = lines[at]
         if line.split()[0] == WORD:
@@ -83,14 +81,11 @@ def runs_of(
             expected = TICK if core is None else f"step {core}"
             run = Run(FORWARD if line == expected else line, 1, at)
         at += run.count
-        if last is not None and last.line == run.line and run.line != TICK and not run.calls:
-            last.count += 1
-            continue
-        if last is not None:
-            yield last
-        last = run
-    if last is not None:
-        yield last
+        if found and found[-1].line == run.line and run.line != TICK and not run.calls:
+            found[-1].count += 1
+        else:
+            found.append(run)
+    return found
 
 
 def make(target: Target, moves: Sequence[str], handlers: Sequence[Handler]) -> Order:
@@ -100,12 +95,8 @@ def make(target: Target, moves: Sequence[str], handlers: Sequence[Handler]) -> O
     if any(it.startswith("no ") for it in answers):
         raise Failure("what was found can't be made again")
     looks = [it for it in map(read, answers[::2]) if isinstance(it, Cores)]
-    runs = [*runs_of(moves, looks, handlers)]
-    lengths = (1 if it.calls else it.count for it in runs)
-    return Order(
-        tuple(line for it in runs for line in it.lines()),
-        tuple(moves),
-        tuple(it.told() for it in runs if it.told()),
-        sum(lengths),
-        len(moves),
-    )
+    runs = runs_of(moves, looks, handlers)
+    lines = tuple(line for it in runs for line in it.lines())
+    told = tuple(it.told() for it in runs if it.told())
+    length = sum(1 if it.calls else it.count for it in runs)
+    return Order(lines, tuple(moves), told, length, len(moves))

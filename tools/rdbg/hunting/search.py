@@ -5,7 +5,7 @@ no other ends otherwise, are further questions, of which each answer is said of 
 bound."""
 import dataclasses
 import heapq
-from typing import Callable, Dict, FrozenSet, List, Optional, Sequence, Tuple
+from typing import Callable, FrozenSet, List, Optional, Sequence, Set, Tuple
 
 from rdbg.hunting.ends import claims, denied
 from rdbg.hunting.goals import Goal
@@ -45,12 +45,6 @@ class Search:
         """Whether the time is up, or Ctrl-C came."""
         return any(it.why in STOPS for it in self.none)
 
-    def is_stopped_by(self, answer: Answer) -> bool:
-        """Whether the time was up, or Ctrl-C came, while that was looked for: then it is kept."""
-        if answer.why in STOPS:
-            self.none.append(answer)
-        return answer.why in STOPS
-
     def interrupts(self, come: Sequence[Tuple[str, ...]] = ()) -> List[str]:
         """The lines that let those interrupts come that are left where these have come."""
         left = ((it, it.times - [*come].count(it.calls)) for it in self.stage.handlers)
@@ -82,7 +76,7 @@ class Search:
     def first(self) -> List[Find]:
         """What is found first."""
         found = self.ask(self.goal.asked)
-        return [] if found is None else [found]
+        return [found] if found else []
 
     def smallest(self) -> List[Find]:
         """The find with the fewest surprises, and of those the fewest moves, held against the
@@ -106,10 +100,7 @@ class Search:
         while found is not None and low < found.order.length and self.untold() == untold:
             middle = (low + found.order.length - 1) // 2
             fewer = self.ask(goal, Bound(middle), keeps=False)
-            if fewer is None:
-                low = middle + 1
-            else:
-                found = fewer
+            found, low = (found, middle + 1) if fewer is None else (fewer, low)
         return found
 
     def untold(self) -> int:
@@ -122,12 +113,12 @@ class Search:
         where one of its own claims is denied, too."""
         finds: List[Find] = []
         waiting: List[Waiting] = []
-        asked: Dict[Cell, None] = {}
+        asked: Set[Cell] = set()
 
         def look(cell: Cell) -> None:
             if cell in asked or self.is_stopped():
                 return
-            asked[cell] = None
+            asked.add(cell)
             found = self._in_cell(cell, find)
             if found is not None:
                 surprises, moves = found.size
@@ -157,14 +148,12 @@ class Search:
 
     def all(self, wanted: int) -> List[Find]:
         """So many finds that end otherwise, as far as goals can tell it."""
-        ends: Dict[Tuple[str, ...], None] = {}
+        ends: Set[Tuple[str, ...]] = set()
 
         def is_new(found: Find) -> bool:
-            end = tuple(claims(found.look, self.stage.application).values())
-            if end in ends:
-                return False
-            ends[end] = None
-            return True
+            before = len(ends)
+            ends.add(tuple(claims(found.look, self.stage.application).values()))
+            return len(ends) > before
 
         if self.is_exhaustive:
             return self.different(wanted, self.shortest, is_new)

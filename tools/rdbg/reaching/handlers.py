@@ -47,10 +47,12 @@ def handlers(texts: Sequence[str], application: Optional[Application]) -> List[H
     that. Raises `Failure` where it doesn't."""
     found: List[Handler] = []
     numbers: Dict[str, int] = {}
+    interrupts = application.interrupts if application else ()
+    others = {other.name: other for other in interrupts}
     for text in chosen(texts, application):
-        it = application.interrupt(text.strip()) if application else None
+        it = others.get(text.strip())
         if it is None:
-            check_name(text, application)
+            check_name(text, [*others])
             found.append(Handler(text))
             continue
         if it.after is not None and it.after not in numbers:
@@ -59,10 +61,9 @@ def handlers(texts: Sequence[str], application: Optional[Application]) -> List[H
         if it.name in numbers:
             raise Failure(f"{OPTION} {it.name} stands twice; how often it comes its line says", 2)
         numbers[it.name] = len(found)
-        others = application.interrupts if application else ()
-        found.append(named(it, numbers, {other.name: other for other in others}))
-    ends = [it for it in application.interrupts if it.is_of_wait] if application else []
-    return found + [named(it, numbers, {}) for it in ends if it.name not in numbers]
+        found.append(named(it, numbers, others))
+    ends = [it for it in interrupts if it.is_of_wait and it.name not in numbers]
+    return found + [named(it, numbers, {}) for it in ends]
 
 
 def chosen(texts: Sequence[str], application: Optional[Application]) -> Sequence[str]:
@@ -103,9 +104,8 @@ def named(it: Interrupt, numbers: Dict[str, int], others: Dict[str, Interrupt]) 
     return Handler(BETWEEN.join(it.calls), tuple(when))
 
 
-def check_name(text: str, application: Optional[Application]) -> None:
+def check_name(text: str, names: Sequence[str]) -> None:
     """Raises `Failure` where a word was meant to be the name of an interrupt."""
-    names = [it.name for it in application.interrupts] if application else []
     if names and len(text.split()) == 1:
         near = nearest(text.strip(), names)
         hint = f"{near} is near" if near else f"there is {', '.join(names)}"

@@ -1,9 +1,10 @@
 """What an answer of the program that searches says, as a value; and what several say together."""
 import dataclasses
 import enum
+import functools
 import re
 import signal
-from typing import Dict, Iterable, Iterator, Optional, Sequence, Tuple
+from typing import Iterable, Iterator, Optional, Sequence, Tuple
 
 from rdbg.failure import Failure
 from rdbg.reaching.progress import Progress
@@ -106,17 +107,12 @@ def kind_of(head: str) -> Kind:
     raise Failure(f"'{head}' is no answer of rdreach", UNTOLD)
 
 
-def number(text: Optional[str]) -> Optional[int]:
-    """The number that stands there, if one does."""
-    return None if text is None else int(text)
-
-
 def read(lines: Sequence[str]) -> Answer:
     """The answer in these lines. Raises `Failure` where there is none in them."""
     first, *rest = lines or [""]
     kind = kind_of(first)
     within, part = WITHIN.search(first), PART.search(first)
-    bound = Bound(number(within[1]), number(within[2])) if within else Bound()
+    limits = [None if it is None else int(it) for it in within.groups()] if within else []
     at = next((at for at, line in enumerate(rest) if COUNTS.fullmatch(line)), None)
     if at is None:
         raise Failure("the answer of rdreach has no end", UNTOLD)
@@ -126,7 +122,7 @@ def read(lines: Sequence[str]) -> Answer:
     missed = [it for it in map(MISSED.fullmatch, rest[at + 1 :]) if it]
     return Answer(
         kind,
-        bound,
+        Bound(*limits),
         tuple(rest[:at]) if has_order else (),
         "" if has_order else " ".join(rest[:at]),
         (states, moves, deepest),
@@ -160,8 +156,7 @@ def stopped(
         return Answer(Kind.UNTOLD, why=why)
     most = surprises if last.surprises is None else last.surprises
     bound = Bound(last.within, most) if is_reach else Bound()
-    counts = last.states, last.moves, last.deepest
-    return Answer(Kind.UNTOLD, bound, why=why, counts=counts)
+    return Answer(Kind.UNTOLD, bound, why=why, counts=(last.states, last.moves, last.deepest))
 
 
 def known(last: Optional[Progress], surprises: Optional[int], is_reach: bool = True) -> str:
@@ -173,20 +168,18 @@ def known(last: Optional[Progress], surprises: Optional[int], is_reach: bool = T
 
 def both(one: Answer, other: Answer) -> Answer:
     """What two answers say together of which none has an order: what both say, of their orders."""
-    kinds = {one.kind, other.kind}
-    missed: Dict[str, Tuple[int, ...]] = {}
-    others = dict(other.missed)
-    for task, instructions in one.missed:
-        common = tuple(it for it in instructions if it in others.get(task, ()))
-        if common:
-            missed[task] = common
+    kinds, others = {one.kind, other.kind}, dict(other.missed)
+    missed = (
+        (task, tuple(it for it in instructions if it in others.get(task, ())))
+        for task, instructions in one.missed
+    )
     unknown = [it for it in (one, other) if it.kind is Kind.UNTOLD and it.bound == Bound()]
     return Answer(
         Kind.UNTOLD if Kind.UNTOLD in kinds else Kind.NONE,
         Bound() if unknown else one.bound.least(other.bound),
         why=one.why or other.why,
         counts=summed(one.counts, other.counts),
-        missed=tuple(missed.items()),
+        missed=tuple(it for it in missed if it[1]),
     )
 
 
@@ -197,10 +190,7 @@ def summed(one: Tuple[int, int, int], other: Tuple[int, int, int]) -> Tuple[int,
 
 def together(answers: Iterable[Answer]) -> Answer:
     """What answers say together, of which there is one at the least, and none has an order."""
-    first, *rest = answers
-    for it in rest:
-        first = both(first, it)
-    return first
+    return functools.reduce(both, answers)
 
 
 def lines(answer: Answer) -> Iterator[str]:
