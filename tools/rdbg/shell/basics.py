@@ -22,19 +22,17 @@ def leave(shell: "Shell", words: Sequence[str]) -> None:
 
 def put(shell: "Shell", words: Sequence[str]) -> None:
     """`set moves|echo on|off`."""
-    if len(words) == 2 and words[0] in SETTINGS and words[1] in ("on", "off"):
-        is_on = words[1] == "on"
-        if words[0] == "moves":
-            shell.shows_moves = is_on
-        else:
-            shell.shows_lines = is_on
-    elif words:
+    on_off = ("off", "on")
+    if not words:
+        shell.say(f"moves {on_off[shell.shows_moves]}, echo {on_off[shell.shows_lines]}")
+    elif len(words) != 2 or words[0] not in SETTINGS or words[1] not in on_off:
         raise Unable(
             "`set moves on|off` says what each move did, `set echo on|off` shows each line"
         )
+    elif words[0] == "moves":
+        shell.shows_moves = words[1] == "on"
     else:
-        on_off = {True: "on", False: "off"}
-        shell.say(f"moves {on_off[shell.shows_moves]}, echo {on_off[shell.shows_lines]}")
+        shell.shows_lines = words[1] == "on"
 
 
 def forms(title: str, of: Sequence[Tuple[str, str]]) -> List[str]:
@@ -84,16 +82,13 @@ def help_on(shell: "Shell", words: Sequence[str]) -> None:
 
 def own_help(word: str) -> List[str]:
     """What a word of sh's own does."""
-    from rdbg.shell.words import WORDS
+    from rdbg.shell.words import BY_NAME
 
-    found: List[str] = []
-    for it in WORDS:
-        if word == it.name or word in it.short:
-            found.append(f"{it.form}: {it.does}")
-            if it.short:
-                found.append(f"  also: {', '.join(it.short)}")
-            found += [f"  {line}" for line in it.more.split("\n") if line]
-    return found
+    it = BY_NAME.get(word)
+    if it is None:
+        return []
+    also = [f"  also: {', '.join(it.short)}"] if it.short else []
+    return [f"{it.form}: {it.does}", *also, *(f"  {line}" for line in it.more.splitlines())]
 
 
 def rdbg_help(word: str) -> List[str]:

@@ -126,17 +126,12 @@ def meaning(word: str) -> List[str]:
 def of_freertos(word: str) -> str:
     """What stands for a name of FreeRTOS or of C; empty where it is no such name."""
     name = freertos.called(word)
-    plain = re.sub("Static$", "", name)
-    known = freertos.sentence(word) or (freertos.sentence(plain) if plain != name else "")
     if name in CONSTANTS:
         return f"{name} is written {CONSTANTS[name]}"
-    if known:
-        return known
-    if CALLED.fullmatch(name):
-        return (
-            f"nothing stands for {name}; docs/CALLS.md has each call that an instruction stands for"
-        )
-    return ""
+    plain = re.sub("Static$", "", name)
+    known = freertos.sentence(word) or (freertos.sentence(plain) if plain != name else "")
+    calls = "docs/CALLS.md has each call that an instruction stands for"
+    return known or (f"nothing stands for {name}; {calls}" if CALLED.fullmatch(name) else "")
 
 
 # What gdb calls otherwise, or has and rdbg hasn't: a sentence for each word.

@@ -17,7 +17,7 @@ def no_such(shell: "Shell", line: str) -> str:
         return "a name, a core, a register or an entry isn't there"
     is_asked = command.condition is not None
     texts = (missing(shell, *pair, is_asked) for pair in zip(command.symbols, command.words))
-    return "; ".join(text for text in texts if text) or "what it names isn't there"
+    return "; ".join(filter(None, texts)) or "what it names isn't there"
 
 
 def missing(shell: "Shell", symbol: str, it: str, is_asked: bool) -> str:
@@ -27,17 +27,13 @@ def missing(shell: "Shell", symbol: str, it: str, is_asked: bool) -> str:
         return missing_name(shell, kinds.OF_SYMBOL[symbol].word, it, is_asked)
     if symbol == "R" and int(it) > 7:
         return "registers are 0 to 7"
-    if symbol == "C" and application and int(it) >= application.cores:
-        return f"there {amount(application.cores, 'core')}, from 0 on"
-    if symbol == "I" and application and int(it) >= application.notes:
-        return f"there {amount(application.notes, 'notification entry')}, from 0 on"
+    cores, notes = (application.cores, application.notes) if application else (0, 0)
+    if symbol == "C" and 0 < cores <= int(it):
+        return f"there {'is one core' if cores == 1 else f'are {cores} cores'}, from 0 on"
+    if symbol == "I" and 0 < notes <= int(it):
+        entries = "is one notification entry" if notes == 1 else f"are {notes} notification entries"
+        return f"there {entries}, from 0 on"
     return ""
-
-
-def amount(number: int, noun: str) -> str:
-    """`is one core`, `are 2 cores`."""
-    several = noun[:-1] + "ies" if noun.endswith("y") else noun + "s"
-    return f"is one {noun}" if number == 1 else f"are {number} {several}"
 
 
 def missing_name(shell: "Shell", kind: str, name: str, is_asked: bool) -> str:
@@ -71,8 +67,7 @@ def no_task(shell: "Shell", line: str) -> str:
         f"{it.name} waits at {it.phase.place}" for it in look.tasks.values() if it.phase.place
     ]
     there = ", ".join([*running, *waiting]) or "all have ended"
-    onwards = "" if running else "; `tick` lets time pass"
-    return f"the core is idle: {there}{onwards}"
+    return f"the core is idle: {there}" + ("" if running else "; `tick` lets time pass")
 
 
 def nothing_undone(shell: "Shell", line: str) -> str:
@@ -113,7 +108,7 @@ BAD_EDITS = {
 Hint = Callable[["Shell", str], str]
 REFUSALS: Dict[str, Hint] = {
     "Syntax": syntax,
-    "NoSuch": lambda shell, line: no_such(shell, line),
+    "NoSuch": no_such,
     "NoTask": no_task,
     "MovesFull": moves_full,
     "NothingUndone": nothing_undone,

@@ -42,8 +42,7 @@ def of_step(target: Target, core: int, last: Look) -> Optional[Names]:
     form = form_of(words[0])
     if form is None or words[0] in LOCAL:
         return Names((task,))
-    pairs = zip(form.symbols, words[1:])
-    named = [(kinds.OF_SYMBOL.get(symbol), name) for symbol, name in pairs]
+    named = [(kinds.OF_SYMBOL.get(symbol), name) for symbol, name in zip(form.symbols, words[1:])]
     keys = [(kind.word, name) for kind, name in named if kind in kinds.OBJECTS]
     if any(kind == kinds.QUEUE.word for kind, _ in keys):
         keys += [key for key in target.names.objects if key[0] == kinds.QUEUE_SET.word]
@@ -52,10 +51,8 @@ def of_step(target: Target, core: int, last: Look) -> Optional[Names]:
 
 def is_enough(command: Command, names: Names, look: Look, last: Optional[Look]) -> bool:
     """Whether a look at these names, chosen by an older one, has what the line can change."""
-    if command.form.word != "step" or last is None:
-        return True
-    core = int(command.words[1])
-    if core >= len(look.cores.running):
+    core = int(command.words[1]) if command.form.word == "step" else len(look.cores.running)
+    if last is None or core >= len(look.cores.running):
         return True
     task = look.cores.running[core]
     if task is None or task != last.cores.running[core]:

@@ -70,11 +70,8 @@ class Notices:
     def told(self, reply: str) -> Tuple[str, List[str]]:
         """What the line that was answered so last did: in a few words, or a row each for the moves
         of a run. Empty where nothing was told."""
-        if not self._own:
-            return "", []
-        head, *rows = self._own
-        _, _, behind = head.partition(f" -> {reply}")
-        return behind[len(", ") :], rows
+        head, *rows = self._own or [""]
+        return head.partition(f" -> {reply}")[2][len(", ") :], rows
 
     @contextlib.contextmanager
     def doing(self, typed: str) -> Iterator[None]:
@@ -92,11 +89,9 @@ class Notices:
 
     def _asking(self, lines: Sequence[str]) -> None:
         """Lines are about to be asked."""
-        if self._typed is None or self._is_begun:
-            return
-        if self._typed and list(lines) == [self._typed]:
+        if self._typed and not self._is_begun and list(lines) == [self._typed]:
             self._typed = ""
-        else:
+        elif self._typed is not None and not self._is_begun:
             self._is_begun = True
             self._session.note(f"# does {self._typed}".rstrip())
 

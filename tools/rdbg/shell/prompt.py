@@ -1,5 +1,7 @@
 """Lines from a terminal, with a history and Tab, and lines from anywhere else."""
+import contextlib
 import functools
+import importlib
 import os
 import pathlib
 import select
@@ -26,15 +28,6 @@ ONCE = (
 ).split()
 
 
-def load_readline() -> Optional[ModuleType]:
-    """The module, where this Python has it."""
-    try:
-        import readline
-    except ImportError:
-        return None
-    return readline
-
-
 def history_file() -> Optional[pathlib.Path]:
     """Where the lines that were typed are kept: the file that RDBG_HISTORY names, none where it is
     empty, or one in the user's folder for such things."""
@@ -56,7 +49,10 @@ class Lines:
         from rdbg.shell.completion import Completer
 
         self.shell = shell
-        self.readline = load_readline()
+        # (which not each Python has)
+        self.readline: Optional[ModuleType] = None
+        with contextlib.suppress(ImportError):
+            self.readline = importlib.import_module("readline")
         self.file = history_file() if self.readline else None
         if self.readline is None:
             return
@@ -66,10 +62,7 @@ class Lines:
         self.readline.parse_and_bind("bind ^I rl_complete" if is_edit else "tab: complete")
         self.readline.set_auto_history(False)
         self.readline.set_history_length(MOST_LINES)
-        self._begin()
-
-    def _begin(self) -> None:
-        if self.file is None or self.readline is None:
+        if self.file is None:
             return
         try:
             folder = os.path.dirname(links.behind(str(self.file)))
@@ -87,11 +80,12 @@ class Lines:
         if length and self.readline.get_history_item(length) == line:
             return
         self.readline.add_history(line)
-        append = getattr(self.readline, "append_history_file", None)
+        if self.file is None:
+            return
         try:
-            if self.file is not None and append is not None:
-                append(1, str(self.file))
-            elif self.file is not None:
+            if hasattr(self.readline, "append_history_file"):
+                self.readline.append_history_file(1, str(self.file))
+            else:
                 self.readline.write_history_file(str(self.file))
         except OSError:
             self.file = None
@@ -162,7 +156,7 @@ def talk(shell: "Shell", begins: bool) -> None:
             last = line.strip()
             lines.keep(last)
         shell.line(last)
-        if last.split()[:1] and last.split()[0] in ONCE:
+        if {*last.split()[:1]} & {*ONCE}:
             last = ""
 
 

@@ -25,11 +25,6 @@ if TYPE_CHECKING:
 ENDING = ".commands"
 
 
-def identity(there: os.stat_result) -> Tuple[int, int]:
-    """By what a file is known again."""
-    return there.st_dev, there.st_ino
-
-
 class Saved:
     """The files that a prompt has saved, which it may save anew."""
 
@@ -45,7 +40,7 @@ class Saved:
     def _check(self, path: str, there: os.stat_result, is_anew: bool) -> None:
         if not path.endswith(ENDING):
             raise Unable(f"{path} is there, and doesn't end in {ENDING}: it stays as it is")
-        if not is_anew and identity(there) not in self._own:
+        if not is_anew and (there.st_dev, there.st_ino) not in self._own:
             why = f"{path} is there, and wasn't saved by this prompt: it stays as it is"
             raise Unable(f"{why}; `save! {path}` writes it anew")
 
@@ -53,28 +48,24 @@ class Saved:
         """Writes a file. Raises `Unable` where it can't, or may not, be written."""
         try:
             with turned(Unable, Failure), trying(f"write {path}"):
-                number = self._open(path, is_anew)
+                is_made, number = self._opened(path)
                 with os.fdopen(number, "w", encoding="ascii") as file:
                     there = os.fstat(number)
-                    self._own.add(identity(there))
+                    if not is_made:
+                        self._check(path, there, is_anew)
+                    self._own.add((there.st_dev, there.st_ino))
                     if stat.S_ISREG(there.st_mode):
                         file.truncate()
                     file.write(text)
         except ValueError:
             raise Unable(f"cannot write {path!r}: no file has such a name") from None
 
-    def _open(self, path: str, is_anew: bool) -> int:
-        """Opens a file that is made, or may be written over."""
-        try:
-            return own_file.opened(path, os.O_WRONLY | os.O_CREAT | os.O_EXCL)
-        except FileExistsError:
-            number = own_file.opened(path, os.O_WRONLY)
-        try:
-            self._check(path, os.fstat(number), is_anew)
-        except Unable:
-            os.close(number)
-            raise
-        return number
+    @staticmethod
+    def _opened(path: str) -> Tuple[bool, int]:
+        """Whether a file is made, and its number, by which it is written."""
+        with contextlib.suppress(FileExistsError):
+            return True, own_file.opened(path, os.O_WRONLY | os.O_CREAT | os.O_EXCL)
+        return False, own_file.opened(path, os.O_WRONLY)
 
 
 DEFAULT_MOVES = 20
@@ -87,20 +78,17 @@ BYTES = "data"
 
 def moves(shell: "Shell", words: Sequence[str]) -> None:
     """`moves [COUNT]`: the last moves, each with what it did."""
-    count = DEFAULT_MOVES
-    if words and words != ["all"]:
-        if len(words) > 1 or not commands.is_count(words[0]):
-            raise Unable("`moves` shows the last 20, `moves 100` the last 100, `moves all` all")
-        count = int(words[0])
-    if shell.notices.is_room and words != ["all"] and count <= MOST_MOVES:
+    is_all = words == ["all"]
+    if not is_all and (words[1:] or not all(map(commands.is_count, words))):
+        raise Unable("`moves` shows the last 20, `moves 100` the last 100, `moves all` all")
+    count = int(words[0]) if words and not is_all else DEFAULT_MOVES
+    if shell.notices.is_room and not is_all and count <= MOST_MOVES:
         shell.notices.forget()
         shell.target.session.remark(f"# moves {count}")
         return
     places = shell.target.places()
     done, base = places.done, places.done - places.kept
-    if words == ["all"]:
-        count = max(1, done)
-    first = max(base + 1, done - count + 1)
+    first = base + 1 if is_all else max(base + 1, done - count + 1)
     found: List[Move] = []
     with shell.wheel():
         if done > base:

@@ -1,4 +1,5 @@
 """Words that go to a goal: `until`, `until!`, `rc`, `rc!` and `continue`."""
+import contextlib
 import textwrap
 from typing import TYPE_CHECKING, List, Optional, Sequence, Tuple
 
@@ -20,7 +21,7 @@ if TYPE_CHECKING:
     from rdbg.shell.shell import Shell
 
 DEFAULT_COUNT = 10_000
-BACK = f"{record.BACK} until"
+
 WIDTH = 96
 # A goal that is no condition begins with one of these.
 FIRST = (*reading.OF_TASKS, *reading.ALONE, *reading.OF_MOVES, reading.NOT, reading.OPEN)
@@ -31,11 +32,9 @@ def is_goal(words: Sequence[str], scope: Scope) -> bool:
     of a condition that rdbg refuses are its own."""
     if not words or words[0].partition("(")[0] in FIRST or words[0].startswith("("):
         return bool(words)
-    try:
-        goal_words.counted(words, scope)
-    except NoGoal:
-        return False
-    return True
+    with contextlib.suppress(NoGoal):
+        return bool(goal_words.counted(words, scope))
+    return False
 
 
 def goal_of(shell: "Shell", words: Sequence[str], becoming: bool) -> Tuple[Way, Optional[int]]:
@@ -80,7 +79,7 @@ def run_to(shell: "Shell", words: Sequence[str], becoming: bool = True) -> None:
         raise Unable("until what? `until! COND [COUNT]`, `until asleep`; help until! says more")
     goal, count = goal_of(shell, words, becoming)
     keep_goal(shell, goal)
-    forwards(shell, goal, DEFAULT_COUNT if count is None else count)
+    forwards(shell, goal, count or DEFAULT_COUNT)
 
 
 def forwards(shell: "Shell", goal: Way, count: int) -> None:
@@ -141,8 +140,8 @@ def backwards(shell: "Shell", goal: Way) -> None:
 
 def drop_met(shell: "Shell", goal: Way) -> None:
     """Drops the watches that were to be met once, and are, behind a run to any of them."""
-    there = shell.target.watches.items()
     if isinstance(goal, AnyOf):
+        there = shell.target.watches.items()
         once = [number for number, text in shell.temporary.items() if (number, text) in there]
         watches = {number: goal_of(shell, [f"w{number}"], True)[0] for number in once}
         shell.drop_temporary(number for number, it in watches.items() if became(shell, it))
@@ -208,30 +207,25 @@ def tell_who_goes_on(shell: "Shell", goal: str) -> None:
     """Says of a target that isn't `asleep`, or `stuck`, who keeps it so."""
     found = []
     for name, it in shell.look().tasks.items():
+        why = ", and no instruction of its script ever waits" if never_waits(shell, name) else ""
         if it.core is not None:
-            found.append(f"{name} is busy on core {it.core}")
-            if never_waits(shell, name):
-                found[-1] += ", and no instruction of its script ever waits"
+            found.append(f"{name} is busy on core {it.core}{why}")
         elif it.phase.deadline is not None:
             found.append(f"{name} {phase_text(it)}")
     shell.say("\n".join(textwrap.wrap(f"not {goal}: {'; '.join(found)}", WIDTH)))
     if any(never_waits(shell, name) for name in shell.target.names.tasks):
-        shell.say(
-            f"so `{goal}` can't come; `until sleeps TASK` runs to where one task waits for ever"
-        )
+        onwards = "`until sleeps TASK` runs to where one task waits for ever"
+        shell.say(f"so `{goal}` can't come; {onwards}")
 
 
 def never_waits(shell: "Shell", name: str) -> bool:
     """Whether no instruction of a task's script can wait, or end it: so it is busy for ever."""
-    script = script_of(shell, name)
-    for it in script:
-        words = it.words()
-        form = form_of(words[0])
-        if form is None or words[0] == "end":
-            return False
-        if form.symbols[-1:] == ("T",) and words[-1] != "0":
-            return False
-    return bool(script)
+    script = [it.words() for it in script_of(shell, name)]
+    forms = [(form_of(words[0]), words) for words in script]
+    return bool(script) and not any(
+        form is None or words[0] == "end" or (form.symbols[-1:] == ("T",) and words[-1] != "0")
+        for form, words in forms
+    )
 
 
 def learn_all(shell: "Shell") -> None:
@@ -268,25 +262,23 @@ def back(shell: "Shell", words: Sequence[str]) -> None:
     if not words:
         backwards(shell, events(shell))
     elif is_rdbgs(words) or not is_goal(words, shell.scope()):
-        shell.command(f"{BACK} {' '.join(words)}")
+        shell.command(f"{record.BACK} until {' '.join(words)}")
     else:
         back_to(shell, words, False)
 
 
 def back_until(shell: "Shell", words: Sequence[str]) -> None:
     """`back until GOAL`, `back until! GOAL`."""
-    (back_becomes if words[0] == "until!" else back)(shell, words[1:])
+    if words[0] == "until!":
+        back_to(shell, words[1:])
+    else:
+        back(shell, words[1:])
 
 
-def back_becomes(shell: "Shell", words: Sequence[str]) -> None:
-    """`rc!`."""
+def back_to(shell: "Shell", words: Sequence[str], becoming: bool = True) -> None:
+    """Goes back to a goal; `rc!`."""
     if not words:
         raise Unable("back to what? `rc! COND`, `rc! asleep`")
-    back_to(shell, words, True)
-
-
-def back_to(shell: "Shell", words: Sequence[str], becoming: bool) -> None:
-    """Goes back to a goal."""
     goal, count = goal_of(shell, words, becoming)
     if count is not None:
         raise Unable(f"'{count}' is too much: a way back takes no COUNT")
@@ -296,11 +288,10 @@ def back_to(shell: "Shell", words: Sequence[str], becoming: bool) -> None:
 
 def events(shell: "Shell") -> Way:
     """What a run without a goal ends at: a watch, a task that fails, or that nothing goes on."""
-    goals: List[Way] = []
-    for number in sorted(shell.target.watches):
-        goal, _ = goal_of(shell, [f"w{number}"], True)
-        goal.text = f"w{number}, {goal.text}"
-        goals.append(goal)
+    names = [f"w{number}" for number in sorted(shell.target.watches)]
+    goals = [goal_of(shell, [name], True)[0] for name in names]
+    for name, goal in zip(names, goals):
+        goal.text = f"{name}, {goal.text}"
     return AnyOf("", [*goals, To(SomeFailed(), True), To(Stuck(), True)])
 
 
@@ -308,9 +299,9 @@ def can_change(shell: "Shell", goal: Way) -> bool:
     """Whether a run can meet a goal: of a target that is stuck only the tick changes."""
     ways = goal.ways if isinstance(goal, AnyOf) else [goal]
     asked = [it for it in ways if isinstance(it, To)]
-    ticks = [claim for it in asked for claim in it.goal.claims() if claim.text.startswith("tick ")]
+    is_of_tick = any(it.text.startswith("tick ") for way in asked for it in way.goal.claims())
     is_met = any(not it.becoming and it.is_so(shell.target) for it in asked)
-    return bool(ticks) or is_met or not is_stuck(shell.target)
+    return is_of_tick or is_met or not is_stuck(shell.target)
 
 
 def carry_on(shell: "Shell", words: Sequence[str]) -> None:

@@ -32,6 +32,7 @@ from rdbg.wording import counted
 MANY, FEW = 20, 5
 # It is said when a tenth of the history is left, and a hundredth; not of one that is small.
 NEARLY, NOT_SMALL = (10, 100), 1_000
+COMMENT = re.compile(r"^\s*#| #")
 # So many seconds pass before it is shown how far something is, and between two times.
 MOMENT = 0.3
 
@@ -203,18 +204,15 @@ class Shell:
         if not words:
             return
         with self.notices.doing(stripped if is_typed else ""):
-            self.do(stripped, words)
+            self.do(text)
         sys.stdout.flush()
 
-    def do_plain(self, text: str) -> None:
-        """Does a line of a file."""
-        stripped, words = parted(text)
-        if words:
-            self.do(stripped, words)
-
-    def do(self, stripped: str, words: Sequence[str]) -> None:
+    def do(self, text: str) -> None:
         """Does a line: one of rdbg's as it is, or a word of sh's own; and says what is displayed
         where that has moved the target."""
+        stripped, words = parted(text)
+        if not words:
+            return
         self.is_refused, self.is_stopped, self.asked = False, False, ""
         there = self.target, self.target.place
         self._do(stripped, words)
@@ -258,9 +256,8 @@ class Shell:
     def notice(self) -> None:
         """Says where others have moved the target since that was last told."""
         drift, self.target.drift = self.target.drift, None
-        if self.notices.is_room:
-            return  # (what moved it was told)
-        if drift is not None and drift[0] != drift[1]:
+        # (in a room what moved it was told)
+        if drift is not None and drift[0] != drift[1] and not self.notices.is_room:
             self.say(f"the target moved meanwhile: {drift[0]} -> {drift[1]}")
 
     def command(self, text: str) -> bool:
@@ -274,8 +271,9 @@ class Shell:
         self.notice()
         place = self.target.place
         self.notices.forget()
+        long = command if self.is_terminal else None
         try:
-            reply = self._reply(command, text)
+            reply = self.pieces.tell(long, text) if long else self.target.tell(text)
         except Interrupted:
             self.stopped(f"at {self.target.place}")
             self.after(place, before)
@@ -292,18 +290,14 @@ class Shell:
             elif self.target.is_own and self.target.place != place:
                 self.say(f"the moves up to {self.target.place} are made")
             return False
-        if command is not None and command.form.moves and self.notices.is_room:
-            self._as_told(reply)
-        elif command is not None and command.form.moves:
-            self.after(place, before)
+        if command is not None and command.form.moves:
+            if self.notices.is_room:
+                self._as_told(reply)
+            else:
+                self.after(place, before)
         elif self.is_terminal and not self.target.is_own:
             self.target.places()
         return True
-
-    def _reply(self, command: Optional[commands.Command], text: str) -> str:
-        if command is None or not self.is_terminal:
-            return self.target.tell(text)
-        return self.pieces.tell(command, text)
 
     def drop_temporary(self, numbers: Iterable[int]) -> None:
         """Drops those of these watches that were to be met once."""
@@ -374,13 +368,10 @@ class Shell:
     def _as_told(self, reply: str) -> None:
         """Says what a line did by what the room has told of it."""
         effect, rows = self.notices.told(reply)
-        if not self.shows_moves:
-            return
         if effect.startswith("next: "):
             effect = f"at {self.target.place}, {effect}"
-        for text in [effect, *rows]:
-            if text:
-                self.say(text)
+        for text in filter(None, [effect, *rows] if self.shows_moves else []):
+            self.say(text)
 
     def _look_again(self, before: Look) -> Look:
         """A look behind a move at what was looked at before it."""
@@ -429,13 +420,8 @@ class Shell:
             running = self.target.ask("show cores", Cores).running
             look = self.target.look(Names(tuple(name for name in running if name)))
             self._last = needs.together(self._last, look)
-        found = []
-        for core, name in enumerate(look.cores.running):
-            if name in look.tasks:
-                assert name is not None
-                pc = look.tasks[name].pc
-                text = f" {views.written(self, name, pc)}".rstrip()
-                found.append(f"{name} {pc}{text} (core {core})")
+        seats = ((core, look.tasks.get(name or "")) for core, name in enumerate(look.cores.running))
+        found = [f"{it.name} {views.next_of(self, it)} (core {core})" for core, it in seats if it]
         return ", ".join(found) or "no core is busy: tick"
 
     def _warn(self) -> None:
@@ -443,22 +429,14 @@ class Shell:
         left, limits = self.target.left(), self.target.limits
         if left is None or limits is None or limits.history < NOT_SMALL:
             return
-        if self._warned >= len(NEARLY) or left * NEARLY[self._warned] > limits.history:
-            return
-        self._warned += 1
-        self.hint(f"the history has room for {left} more lines, looks among them: see help history")
+        if self._warned < len(NEARLY) and left * NEARLY[self._warned] <= limits.history:
+            self._warned += 1
+            room = f"the history has room for {left} more lines, looks among them"
+            self.hint(f"{room}: see help history")
 
 
 def parted(text: str) -> Tuple[str, List[str]]:
-    """A line without its comment, and its words."""
-    stripped = without_comment(text.encode("utf-8", "replace").decode())
+    """A line without what stands behind a `#` of its own, and its words."""
+    whole = text.encode("utf-8", "replace").decode()
+    stripped = COMMENT.split(whole[:-1] if whole.endswith("\n") else whole, 1)[0]
     return stripped, stripped.replace("\t", " ").split()
-
-
-def without_comment(line: str) -> str:
-    """A line without what stands behind a `#` of its own, and without spaces at its ends."""
-    text = line[:-1] if line.endswith("\n") else line
-    if text.lstrip().startswith("#"):
-        return ""
-    at = text.find(" #")
-    return text if at < 0 else text[:at]

@@ -33,20 +33,15 @@ def step(shell: "Shell", words: Sequence[str]) -> None:
     if name not in shell.target.names.tasks and re.fullmatch(r"core_?[0-9]", name):
         raise Unable(f"a core is its number: `step {name[-1]}`")
     if name not in shell.target.names.tasks and not is_core:
-        look = shell.look()  # (which may tell of it, where the file isn't known)
+        shell.look()  # (which may tell of it, where the file isn't known)
         check_name(shell, name, "task")
-        assert look is not None
     for made in range(count):
         shell.interrupt.check()
-        if is_core:
-            if not shell.command(f"step {name}"):
-                return
-            continue
-        it = shell.target.ask(f"show task {name}", replies.Task)
-        if it.core is None:
+        it = None if is_core else shell.target.ask(f"show task {name}", replies.Task)
+        if it is not None and it.core is None:
             behind = f" after {made} of {count} instructions" if made else ""
             raise Unable(f"{name} is on no core{behind}: {why_on_none(shell, it)}")
-        if not shell.command(f"step {it.core}"):
+        if not shell.command(f"step {it.core if it else name}"):
             return
 
 
@@ -80,9 +75,8 @@ def tell_ticks(shell: "Shell", first: int, last: int) -> None:
         shell.say(f".. {len(told) - ROWS} ticks that did something before these")
     for move in told[-ROWS:]:
         shell.say(move.row(len(str(last))))
-    others = len(found) - len(told)
-    if others:
-        shell.say(f"{counted(others, 'tick')} woke and turned nobody")
+    if len(found) > len(told):
+        shell.say(f"{counted(len(found) - len(told), 'tick')} woke and turned nobody")
 
 
 def interrupt(shell: "Shell", words: Sequence[str]) -> None:
@@ -160,7 +154,7 @@ def break_at(shell: "Shell", words: Sequence[str]) -> None:
 
 def break_once(shell: "Shell", words: Sequence[str]) -> None:
     """`tbreak`: the same, and the watch is dropped where `continue` or `rc` meets it."""
-    before = set(shell.target.watches)
+    before = dict(shell.target.watches)
     break_at(shell, words)
     there = shell.target.watches.items()
     shell.temporary.update({number: text for number, text in there if number not in before})
@@ -203,26 +197,25 @@ def at_line(shell: "Shell", file: Optional[str], line: int) -> List[Sequence[str
         raise Unable("no file is known: `break TASK PC`")
     if file is not None and pathlib.Path(file).name != pathlib.Path(source.path).name:
         raise Unable(f"the file is {source.path}: `break {line}`, or `break TASK PC`")
-    if source.is_c and line not in {
-        it.place.line for task in application.tasks for it in task.code
-    }:
+    lines = {it.place.line for task in application.tasks for it in task.code}
+    if source.is_c and line not in lines:
         line = below(source.text).get(line, line)
     found = [
-        (it.place, task.name, number, it.written)
+        (f"{task.name} {number}", it)
         for task in application.tasks
         for number, it in enumerate(task.code)
         if it.place.line >= line and it.begins
     ]
     if not found:
         raise Unable(f"{source.path} has no instruction at line {line} or behind it")
-    first = min(at.line for at, *_ in found)
-    there = [(name, number, written) for at, name, number, written in found if at.line == first]
-    if len({at for at, *_ in found if at.line == first}) > 1:
-        texts = [f"`break {name} {number}` ({written})" for name, number, written in there]
+    first = min(it.place.line for _, it in found)
+    there = [(at, it) for at, it in found if it.place.line == first]
+    if len({it.place for _, it in there}) > 1:
+        texts = [f"`break {at}` ({it.written})" for at, it in there]
         raise Unable(f"line {first} has {len(there)} instructions: {', '.join(texts)}")
-    for name, number, written in there:
-        shell.say(f"{source.path}:{first}  {name} {number} {written}")
-    return [[name, str(number)] for name, number, _ in there]
+    for at, it in there:
+        shell.say(f"{source.path}:{first}  {at} {it.written}")
+    return [at.split() for at, _ in there]
 
 
 def delete(shell: "Shell", words: Sequence[str]) -> None:

@@ -13,7 +13,7 @@ if TYPE_CHECKING:
     from rdbg.shell.shell import Shell
 
 Words = List[str]
-# A repair of words: what they should be, and why; none where there is nothing to repair.
+# A repair of words: what they should be, and why; the same, or none, where there is none.
 Repair = Callable[["Shell", Words], Optional[Tuple[Words, str]]]
 COUNTS = {"forward": "100", record.BACK: "1", record.REDO: "1"}
 
@@ -21,20 +21,19 @@ COUNTS = {"forward": "100", record.BACK: "1", record.REDO: "1"}
 def small_letters(shell: "Shell", words: Words) -> Optional[Tuple[Words, str]]:
     """Words and names have small letters."""
     small = [word if commands.is_bytes(word) else word.lower() for word in words]
-    return (small, "words and names have small letters") if small != words else None
+    return small, "words and names have small letters"
 
 
 def marks(shell: "Shell", words: Words) -> Optional[Tuple[Words, str]]:
     """What stands round words in other languages."""
     bare = [re.sub(r"^[\"'`(]+|[\"'`);,]+$", "", word) for word in words]
-    bare = [word for word in bare if word]
-    return (bare, "there are no quotes, brackets and commas") if bare != words else None
+    return [word for word in bare if word], "there are no quotes, brackets and commas"
 
 
 def spaces(shell: "Shell", words: Words) -> Optional[Tuple[Words, str]]:
     """An operator stands between spaces."""
-    apart = re.sub(r"([<>=!]=?|==)", r" \1 ", " ".join(words)).split()
-    return (apart, "spaces stand round an operator") if apart != words else None
+    apart = re.sub(r"([<>=!]=?|==)", r" \1 ", " ".join(words))
+    return apart.split(), "spaces stand round an operator"
 
 
 def operators(shell: "Shell", words: Words) -> Optional[Tuple[Words, str]]:
@@ -52,10 +51,8 @@ def numbers(shell: "Shell", words: Words) -> Optional[Tuple[Words, str]]:
     """Numbers are decimal, registers and cores have numbers."""
     found, reason = list(words), ""
     for at, word in enumerate(words):
-        if re.fullmatch(r"0x[0-9a-f]{1,8}", word):
-            found[at], reason = str(int(word, 16)), "numbers are decimal"
-        elif re.fullmatch(r"0b[01]{1,32}", word):
-            found[at], reason = str(int(word, 2)), "numbers are decimal"
+        if re.fullmatch(r"0x[0-9a-f]{1,8}|0b[01]{1,32}", word):
+            found[at], reason = str(int(word, 0)), "numbers are decimal"
         elif re.fullmatch(r"[0-9]{1,3}([,_'][0-9]{3})+", word):
             found[at], reason = re.sub(r"[,_']", "", word), "a number has digits alone"
         elif re.fullmatch(r"r[0-7]", word) and "reg" in words[:at]:
@@ -66,18 +63,17 @@ def numbers(shell: "Shell", words: Words) -> Optional[Tuple[Words, str]]:
             found[at], reason = word[1:], "a watch is its number here"
         elif word in ("max", "portmax_delay") and at:
             found[at], reason = str(commands.MOST_NUMBER), "max is of scripts; here it is a number"
-    return (found, reason) if reason else None
+    return found, reason
 
 
 def kind(shell: "Shell", words: Words) -> Optional[Tuple[Words, str]]:
     """`show` takes a kind and a name."""
     if words[0] != "show" or len(words) < 2:
         return None
-    word, names = words[1], shell.target.names
-    single = word[:-1] if word.endswith("s") and word[:-1] in kinds.OF_WORD else ""
-    if single and len(words) > 2:
-        return ["show", single, *words[2:]], f"the kind is {single}"
-    there = names.kinds_of(word) if len(words) == 2 else []
+    word = words[1]
+    if len(words) > 2 and word.endswith("s") and word[:-1] in kinds.OF_WORD:
+        return ["show", word[:-1], *words[2:]], f"the kind is {word[:-1]}"
+    there = shell.target.names.kinds_of(word) if len(words) == 2 else []
     return (["show", there[0], word], "`show` takes a kind and a name") if there else None
 
 
@@ -99,7 +95,7 @@ def amounts(shell: "Shell", words: Words) -> Optional[Tuple[Words, str]]:
 def equals(shell: "Shell", words: Words) -> Optional[Tuple[Words, str]]:
     """A phase is named without an operator."""
     plain = [word for word in words if word != "=" or "phase" not in words]
-    return (plain, "a phase is named without =") if plain != words else None
+    return plain, "a phase is named without ="
 
 
 def word(shell: "Shell", words: Words) -> Optional[Tuple[Words, str]]:
@@ -140,12 +136,11 @@ def joined(words: Sequence[str]) -> str:
 def of_goal(shell: "Shell", words: Sequence[str]) -> str:
     """Why the words behind `until` and `back until` are no goal; empty where none stand there."""
     behind = words[2:] if words[:2] == ["back", "until"] else words[1:]
-    if not behind or (words[0] != "until" and len(behind) == len(words) - 1):
-        return ""
-    try:
-        goal_words.counted(behind, shell.scope())
-    except NoGoal as wrong:
-        return str(wrong)
+    if behind and (words[0] == "until" or len(behind) < len(words) - 1):
+        try:
+            goal_words.counted(behind, shell.scope())
+        except NoGoal as wrong:
+            return str(wrong)
     return ""
 
 
@@ -168,7 +163,7 @@ def mended(shell: "Shell", line: str) -> str:
     repaired = words
     for repair in REPAIRS:
         found = repair(shell, repaired)
-        if found is not None and found[0]:
+        if found is not None and found[0] not in ([], repaired):
             repaired, reason = found
             reasons.append(reason)
     text = " ".join(repaired)
@@ -192,11 +187,10 @@ def at_fault(shell: "Shell", words: Sequence[str]) -> str:
     if any(len(shape.symbols) == most for shape in best):
         return f"'{' '.join(words[most:])}' is too much: {forms}"
     expected = list(dict.fromkeys(shape.symbols[most] for shape in best))
-    if all(form.word in expected for form in commands.CONDITIONS):
-        words_of_conditions = [form.word for form in commands.CONDITIONS]
-        expected = [symbol for symbol in expected if symbol not in words_of_conditions]
-        expected.insert(0, f"COND: {', '.join(words_of_conditions)}")
-    wanted = " or ".join(describe(symbol) for symbol in expected)
+    conditions = STARTS if {*STARTS} <= {*expected} else ()
+    texts = [f"a condition ({', '.join(STARTS)} ..)"] if conditions else []
+    texts += [describe(symbol) for symbol in expected if symbol not in conditions]
+    wanted = " or ".join(texts)
     if list(words) == ["until"]:
         wanted += ", or another goal: `help until`"
     other = "" if most == len(words) else f", and not '{words[most]}'"
@@ -206,8 +200,6 @@ def at_fault(shell: "Shell", words: Sequence[str]) -> str:
 def describe(symbol: str) -> str:
     """What can stand at a symbol."""
     known = commands.SYMBOLS.get(symbol)
-    if symbol.startswith("COND: "):
-        return f"a condition ({symbol[len('COND: '):]} ..)"
     if known is None:
         return f"`{symbol}`"
     is_plain = known.choices in (known.noun, "its name")
@@ -216,10 +208,10 @@ def describe(symbol: str) -> str:
 
 def unknown_word(first: str) -> str:
     """What a first word may have been meant to be."""
-    from rdbg.shell.words import names
+    from rdbg.shell.words import BY_NAME
 
     if first in GOALS:
         return f"`until {first}` runs there, `rc {first}` goes back there; `help {first}`"
-    near = nearest(first, [*commands.WORDS, *names()])
+    near = nearest(first, [*commands.WORDS, *BY_NAME])
     hint = f"; near it is `{near}`" if near else ""
     return f"'{first}' is no word{hint}; `help` lists them"

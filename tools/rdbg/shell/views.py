@@ -39,10 +39,11 @@ def fitted(cells: Sequence[Sequence[str]], width: Optional[int], long: Sequence[
         if widths[widest] <= LEAST:
             break
         widths[widest] -= 1
-    pairs = [list(zip(row, widths)) for row in rows]
-    return table(
-        [[it if len(it) <= most else f"{it[: most - 2]}.." for it, most in row] for row in pairs]
-    )
+
+    def fits(it: str, most: int) -> str:
+        return it if len(it) <= most else f"{it[: most - 2]}.."
+
+    return table([list(map(fits, row, widths)) for row in rows])
 
 
 def script_of(shell: "Shell", name: str) -> Sequence[Instruction]:
@@ -59,18 +60,21 @@ def check_instruction(shell: "Shell", name: str, number: int) -> None:
         raise Unable(f"there is no instruction {number}: {name} has {has}")
 
 
-def written(shell: "Shell", name: str, pc: int) -> str:
-    """An instruction as it is written; empty where it isn't known."""
-    script = script_of(shell, name)
-    return script[pc].told if pc < len(script) else ""
+def written(shell: "Shell", task: replies.Task) -> str:
+    """The next instruction of a task as it is written; empty where it isn't known."""
+    return "".join(it.told for it in script_of(shell, task.name)[task.pc : task.pc + 1])
 
 
-def place_in_file(shell: "Shell", name: str, pc: int) -> str:
-    """The file and the line of an instruction; empty where it isn't known."""
-    script = script_of(shell, name)
-    if shell.source is None or pc >= len(script):
-        return ""
-    return f"{shell.source.path}:{script[pc].place.line}"
+def next_of(shell: "Shell", task: replies.Task) -> str:
+    """The next instruction of a task, with its number."""
+    return f"{task.pc} {written(shell, task)}".rstrip()
+
+
+def place_in_file(shell: "Shell", task: replies.Task) -> str:
+    """The file and the line of the next instruction of a task; empty where it isn't known."""
+    path = shell.source.path if shell.source else ""
+    found = script_of(shell, task.name)[task.pc : task.pc + 1] if path else ()
+    return "".join(f"{path}:{it.place.line}" for it in found)
 
 
 def phase_text(task: replies.Task) -> str:
@@ -107,7 +111,7 @@ def tasks(shell: "Shell") -> None:
     """All tasks, as a table."""
     rows = [["task", "core", "phase", "pc", "instruction", "registers", "data", "notes"]]
     for name, it in shell.look().tasks.items():
-        here = [name, seat(it), it.phase.text, str(it.pc), written(shell, name, it.pc) or "-"]
+        here = [name, seat(it), it.phase.text, str(it.pc), written(shell, it) or "-"]
         rows.append([*here, registers(it), hexadecimal(it.data), notes(it)])
     if shell.target.application is None:
         rows = [[*row[:4], *row[5:]] for row in rows]
@@ -134,7 +138,7 @@ def contents(it: Object) -> str:
     if isinstance(it, replies.Stream):
         return hexadecimal(it.content)
     if isinstance(it, replies.Messages):
-        return ",".join(hexadecimal(message) for message in it.messages) or "-"
+        return ",".join(map(hexadecimal, it.messages)) or "-"
     return f"0x{it.bits:06x}"
 
 
@@ -148,12 +152,10 @@ def waiters(it: Object) -> str:
     elif isinstance(it, (replies.Stream, replies.Messages)):
         named = {"read": [it.reader], "write": [it.writer]}
     else:
-        which = {True: "all", False: "any"}
-        wishes = [f"{wish.task}:{wish.bits}:{which[wish.wants_all]}" for wish in it.waiters]
-        named = {"bits": wishes}
-    there = {word: present(names) for word, names in named.items()}
-    found = [f"{word}: {','.join(names)}" for word, names in there.items() if names]
-    return "; ".join(found) or "nobody"
+        wishes = ((f"{wish.task}:{wish.bits}", wish.wants_all) for wish in it.waiters)
+        named = {"bits": [f"{wish}:{'all' if is_all else 'any'}" for wish, is_all in wishes]}
+    there = ((word, ",".join(present(names))) for word, names in named.items())
+    return "; ".join(f"{word}: {names}" for word, names in there if names) or "nobody"
 
 
 def present(names: Sequence[Optional[str]]) -> List[str]:
@@ -178,13 +180,12 @@ def task(shell: "Shell", name: str) -> List[str]:
     application = shell.target.application
     known = application.task(name) if application else None
     rank = f", priority {known.priority}" if known else ""
-    where = f"on core {it.core}" if it.core is not None else "on no core"
-    where = "ready" if seat(it) == "ready" else where
+    where = {"-": "on no core", "ready": "ready"}.get(seat(it), f"on core {it.core}")
     values = " ".join(f"{register}={value}" for register, value in zip(REGISTERS, it.registers))
     entries = " ".join(f"{at}={note.value}:{note.state}" for at, note in enumerate(it.notes))
     return [
         f"task {name}{rank}, {where}, {phase_text(it)}",
-        f"pc {it.pc}  {written(shell, name, it.pc)}  {place_in_file(shell, name, it.pc)}",
+        f"pc {it.pc}  {written(shell, it)}  {place_in_file(shell, it)}",
         f"{values}  data {hexadecimal(it.data)}",
         f"notes {entries}",
     ]
@@ -195,13 +196,11 @@ def where(shell: "Shell", words: Sequence[str]) -> None:
     look = shell.look()
     rows = []
     for core, name in enumerate(look.cores.running):
-        row = [f"core {core}", name or "idle", "", "", ""]
-        if name in look.tasks:
-            it = look.tasks[str(name)]
+        it, more = look.tasks.get(name or ""), ["", "", ""]
+        if it is not None:
             phase = "" if it.phase.word == "run" else f"({it.phase.text})"
-            text = f"{it.pc} {written(shell, it.name, it.pc)}".rstrip()
-            row[2:] = [text, phase, place_in_file(shell, it.name, it.pc)]
-        rows.append(row)
+            more = [next_of(shell, it), phase, place_in_file(shell, it)]
+        rows.append([f"core {core}", name or "idle", *more])
     ready = ",".join(look.cores.ready) or "-"
     shell.say("\n".join(fitted(rows, shell.width(), (2, 4, 3))))
     shell.say(f"ready {ready}  tick {look.cores.tick}  turn {look.cores.turn}  at {look.place}")
@@ -240,19 +239,17 @@ def listed(script: Sequence[Instruction], pc: int, has_lines: bool) -> Iterator[
 
 def check_name(shell: "Shell", name: str, kind: str = "") -> str:
     """The kind of the thing of this name. Raises `Unable` where there is none (of `kind`)."""
+    known = [kind] if kind else list(kinds.OF_WORD)
     if shell.target.application is None and commands.is_name(name):
         # (rdbg may know of more than has been told)
-        asked = [kind] if kind else list(kinds.OF_WORD)
-        shell.target.tell_all([f"show {each} {name}" for each in asked])
+        shell.target.tell_all([f"show {each} {name}" for each in known])
     there = shell.target.names.kinds_of(name)
     if kind in there or (there and not kind):
         return kind or there[0]
-    known = [kind] if kind else list(kinds.OF_WORD)
     near = nearest(name, [it for each in known for it in shell.target.names.of_kind(each)])
-    what = kind or "task or object"
-    if there:
-        raise Unable(f"there is no {what} '{name}': it is a {there[0]}")
-    raise Unable(f"there is no {what} '{name}'" + (f"; near it is '{near}'" if near else ""))
+    hint = f"; near it is '{near}'" if near else ""
+    hint = f": it is a {there[0]}" if there else hint
+    raise Unable(f"there is no {kind or 'task or object'} '{name}'{hint}")
 
 
 def values(shell: "Shell", words: Sequence[str]) -> List[str]:
@@ -263,16 +260,16 @@ def values(shell: "Shell", words: Sequence[str]) -> List[str]:
         edit = f"poke reg {given[1] or 'worker'} {given[2]} {given[3]}"
         raise Unable(f"`print` shows alone; `{edit}`")
     parts = [part for word in words for part in word.lstrip("$").split(".") if part]
-    wrong = next((part for part in parts if re.fullmatch("r[0-9]+", part)), None)
-    if wrong is not None and wrong not in REGISTERS:
-        raise Unable(f"there is no {wrong}: registers are r0 to r7")
-    wanted = [part for part in parts if part in FIELDS or part in REGISTERS]
+    register = next((part for part in parts if re.fullmatch("r[0-9]+", part)), None)
+    if register not in (None, *REGISTERS):
+        raise Unable(f"there is no {register}: registers are r0 to r7")
+    wanted = [part for part in parts if part in (*FIELDS, *REGISTERS)]
     names = [part for part in parts if part not in wanted]
     look = shell.look()
-    if not wanted and names:
-        return [line for name in names for line in about(shell, name)]
-    if not wanted:
+    if not parts:
         raise Unable("print what? `print r0 worker`, `print data`, `print jobs`")
+    if not wanted:
+        return [line for name in names for line in about(shell, name)]
     found = []
     for name in names or present(look.cores.running):
         check_name(shell, name, "task")
@@ -286,10 +283,8 @@ FIELDS = ("data", "pc", "phase", "notes")
 
 def field(it: replies.Task, part: str) -> str:
     """A part of a task in words."""
-    if part in REGISTERS:
-        return str(it.registers[int(part[1:])])
-    texts = {"data": hexadecimal(it.data), "pc": str(it.pc), "phase": phase_text(it)}
-    return texts[part] if part in texts else notes(it)
+    fields = (hexadecimal(it.data), str(it.pc), phase_text(it), notes(it))
+    return dict(zip((*FIELDS, *REGISTERS), (*fields, *map(str, it.registers))))[part]
 
 
 def show(shell: "Shell", words: Sequence[str]) -> None:
@@ -306,8 +301,8 @@ def about(shell: "Shell", name: str, only: str = "") -> List[str]:
         if kind == "task":
             lines += task(shell, name)
         else:
-            found = object_text((kind, name), shell.look().objects[(kind, name)])
-            lines.append(f"{found[0]}  {found[1]}  {found[2]}  waits: {found[3]}")
+            *found, waiting = object_text((kind, name), shell.look().objects[(kind, name)])
+            lines.append("  ".join([*found, f"waits: {waiting}"]))
     return lines
 
 

@@ -1,7 +1,7 @@
 """The words of sh's own: one table, for what they do, for help and for Tab."""
 import dataclasses
 import functools
-from typing import TYPE_CHECKING, Callable, Container, Dict, List, Optional, Sequence, Tuple
+from typing import TYPE_CHECKING, Callable, Container, Dict, Optional, Sequence, Tuple
 
 from rdbg import commands
 from rdbg.goals.scope import Scope
@@ -146,7 +146,7 @@ WORDS: Tuple[Word, ...] = (
         "rc [GOAL] | back to where it is so, or a watch became so | reverse-continue | GOAL!",
         GOALS,
     ),
-    word(seek.back_becomes, "rc! GOAL | back to where it became so | | GOAL!", GOALS),
+    word(seek.back_to, "rc! GOAL | back to where it became so | | GOAL!", GOALS),
     word(
         seek.carry_on,
         "continue [COUNT] | runs to a watch, a task that fails, or where nothing goes on | c cont",
@@ -178,15 +178,8 @@ WORDS: Tuple[Word, ...] = (
 )
 BACK = Word("back until GOAL", "as rc", seek.back_until)
 SHOW = Word("show NAME", "what rdbg shows of it", views.show)
-BY_NAME: Dict[str, Word] = {}
-for _word in WORDS:
-    for _name in (_word.name, *_word.short):
-        BY_NAME.setdefault(_name, _word)
-
-
-def names() -> List[str]:
-    """All words that stand first in a line of sh's own."""
-    return list(BY_NAME)
+# By each word that stands first in a line of sh's own.
+BY_NAME: Dict[str, Word] = {name: it for it in WORDS for name in (it.name, *it.short)}
 
 
 def find(
