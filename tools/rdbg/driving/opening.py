@@ -58,7 +58,7 @@ def as_read(source: Source) -> Iterator[str]:
 
 def greet(session: Session) -> None:
     """Waits until a session answers. (An empty line takes no place in the history.)"""
-    try:
+    with closed_if_wrong(session):
         reply = session.tell("")
         try:
             read(reply)
@@ -67,6 +67,13 @@ def greet(session: Session) -> None:
                 return
             raise Failure(f"the server lets nobody else in: no {refused}") from None
         raise Unreadable(reply)
+
+
+@contextlib.contextmanager
+def closed_if_wrong(session: Session) -> Iterator[None]:
+    """As long as something is done with a session: where that goes wrong, it is ended."""
+    try:
+        yield
     except BaseException:
         session.close()
         raise
@@ -84,17 +91,12 @@ def attach(port: int, source: Optional[Source], name: Optional[str] = None) -> T
             greet(session)
     finally:
         timer.cancel()
-    application = source.application if source else None
-    target = Target(session, application, None)
-    try:
-        with session.looking():
-            target.places()
-            target.tell("show cores")
-            if source is not None and application is not None:
-                compare(target, application, source.path)
-    except BaseException:
-        session.close()
-        raise
+    target = Target(session, source.application if source else None, None)
+    with closed_if_wrong(session), session.looking():
+        target.places()
+        target.tell("show cores")
+        if source is not None and source.application is not None:
+            compare(target, source.application, source.path)
     return target
 
 

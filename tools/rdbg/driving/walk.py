@@ -59,14 +59,11 @@ class Walk:
     def until(self, condition: str, count: int) -> Optional[int]:
         """Makes moves of a run's choice until a condition holds after one, so many at the most, or
         as many as there can be. Answers the place, none where it didn't hold."""
-        start, left = self.place, count
-        while left:
-            moved = self._run(f"until {condition} {{}}", left)
-            if moved is None:
-                return None
-            if moved.how == "met":
-                return moved.at
-            left = count - (self.place - start)
+        end = self.place + count
+        while self.place < end:
+            moved = self._run(f"until {condition} {{}}", end - self.place)
+            if moved is None or moved.how == "met":
+                return None if moved is None else moved.at
         return None
 
     def _run(self, form: str, count: int) -> Optional[replies.Moved]:
@@ -168,29 +165,21 @@ class Pieces:
             return self.target.tell(line)  # (which refuses it, or does it, as a whole)
         try:
             with self.target.wheel():
-                if self.target.places().undone and not self._is_surely_made(count):
+                places = self.target.places()
+                if places.undone and not (limits and fits and self._has_ticks(count)):
                     return self.target.tell(line)
-                return self._guarded(list(command.words[:-1]), count)
+                answers = self._in_pieces(command.words[:-1], count)
+                if answers[-1].startswith("no ") and len(answers) > 1:
+                    with contextlib.suppress(Refused):
+                        self.walk.goto(places.done)
+                        self.is_again = True
+                return answers[-1]
         except Refused:
             return self.target.tell(line)
 
-    def _is_surely_made(self, count: int) -> bool:
-        """Whether so many moves can't come to a wall."""
-        limits = self.target.limits
-        if limits is None or self.walk.place + count > limits.moves:
-            return False
-        tick = self.target.ask("show cores", replies.Cores).tick
-        return tick + count < commands.MOST_NUMBER
-
-    def _guarded(self, words: Sequence[str], count: int) -> str:
-        """A run in pieces; it is taken back where a piece is refused."""
-        before = self.target.places().done
-        answers = self._in_pieces(words, count)
-        if answers[-1].startswith("no ") and len(answers) > 1:
-            with contextlib.suppress(Refused):
-                self.walk.goto(before)
-                self.is_again = True
-        return answers[-1]
+    def _has_ticks(self, count: int) -> bool:
+        """Whether so many moves can't come to the last tick."""
+        return self.target.ask("show cores", replies.Cores).tick + count < commands.MOST_NUMBER
 
     def _in_pieces(self, words: Sequence[str], count: int) -> List[str]:
         """The replies to the pieces of a line, up to the first that says an end."""

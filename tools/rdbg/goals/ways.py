@@ -10,7 +10,7 @@ from rdbg import record, replies
 from rdbg.by_hand import INTERRUPT
 from rdbg.driving.target import Target, read
 from rdbg.driving.walk import Walk
-from rdbg.goals.claims import Goal, Holds, Not, Stuck, Waits
+from rdbg.goals.claims import Goal, Holds, Not, Stuck, Turns, Waits
 from rdbg.goals.conditions import Condition
 from rdbg.looks import Look, Names
 
@@ -138,19 +138,10 @@ class Search:
         end = walk.place + limit
         while walk.place < end:
             walk.interrupt.check()
-            look, here = look_at(walk.target, self.goal), walk.place
+            look = look_at(walk.target, self.goal)
             turns = None if self.goal.is_so(look) else self.goal.turns(look, earlier=False)
-            if turns is None or self._short >= TURNS:
-                place = self._scan(end)
-                if place is not None or walk.place == here:
-                    return place
-                continue
-            place = nearest(walk, turns, end - here)
-            if place is None:
-                return None
-            walk.reach(place)
-            self._went(place - here)
-            if is_so(walk.target, self.goal):
+            place, is_end = self._onwards(turns, end)
+            if place is not None or is_end:
                 return place
         return None
 
@@ -173,24 +164,24 @@ class Search:
                 is_there = is_so(walk.target, self.goal)
                 lasting = Search(walk, self.goal.goal)
                 return lasting.between(base, here) - 1 if is_there else None
-            turns = self.goal.turns(look, earlier=True)
-            if turns is None or self._short >= TURNS:
-                place = self._scan(base)
-                if place is not None:
-                    return place
-                continue
-            place = latest(walk, turns)
-            if place is None:
-                return None
-            walk.goto(place)
-            self._went(here - place)
-            if is_so(walk.target, self.goal):
+            place, is_end = self._onwards(self.goal.turns(look, earlier=True), base)
+            if place is not None or is_end:
                 return place
         return None
 
-    def _went(self, count: int) -> None:
-        """Takes note of how far it was to a place that could have been it."""
-        self._short = self._short + 1 if count < NEAR else 0
+    def _onwards(self, turns: Turns, end: int) -> Tuple[Optional[int], bool]:
+        """Goes on to where the goal may be so, at most up to a place, or back to one: the place
+        where it is so, and whether there is no further one."""
+        walk, here = self.walk, self.walk.place
+        if turns is None or self._short >= TURNS:
+            return self._scan(end), end > here and walk.place == here
+        place = nearest(walk, turns, end - here) if end > here else latest(walk, turns)
+        if place is None:
+            return None, True
+        walk.reach(place)
+        # (how often it wasn't far to a place that could have been it)
+        self._short = self._short + 1 if abs(place - here) < NEAR else 0
+        return place if is_so(walk.target, self.goal) else None, False
 
     def _scan(self, end: int) -> Optional[int]:
         """Looks at some of the places up to one, or back to one, one by one. The first of them

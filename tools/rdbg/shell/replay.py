@@ -8,7 +8,7 @@ from typing import TYPE_CHECKING, Iterator, List, Optional, Sequence, Set, Tuple
 from rdbg import commands, own_file, record, replies
 from rdbg.driving import trail
 from rdbg.driving.interrupt import Interrupted
-from rdbg.driving.opening import begin
+from rdbg.driving.opening import begin, closed_if_wrong
 from rdbg.driving.target import Limits, Target, Unable, read
 from rdbg.effects import Move
 from rdbg.failure import Failure, trying, turned
@@ -189,14 +189,11 @@ def replayed(shell: "Shell", source: Source, limits: Limits) -> None:
     same = count_same(shell, source, limits, old, names)
     with staying():
         target = begin(source, limits)
-    try:
+    with closed_if_wrong(target.session):
         watches(shell, target)
         for answer in in_chunks(shell, target, [move.line for move in old[:same]], "made again"):
             read(answer)
         difference = first_difference(shell, target, old[same:])
-    except BaseException:
-        target.session.close()
-        raise
     shell.target.session.close()
     shell.take(target, source)
     if difference is None:
