@@ -9,20 +9,22 @@ from typing import Dict, Iterable, Iterator, List, Optional, Sequence, Tuple
 
 from rdbg import commands, kinds, record
 from rdbg.application import NO_INTERRUPT, Interrupt as Handler
+from rdbg.by_hand import INTERRUPT
 from rdbg.client import ROOM_ENDED
 from rdbg.driving import trail
 from rdbg.driving.interrupt import Interrupt, Interrupted
 from rdbg.driving.pacing import TickPace
 from rdbg.driving.target import SINGLE, Target, Unable, read
 from rdbg.driving.walk import Pieces, Walk
-from rdbg.effects import Move
+from rdbg.effects import LOCAL, Move
 from rdbg.failure import Failure
 from rdbg.files.source import Source, load
 from rdbg.goals.paced import PacedWalk
 from rdbg.goals.scope import Scope
+from rdbg.instructions import form_of
 from rdbg.looks import Look, Names
 from rdbg.replies import Cores, Refused
-from rdbg.shell import displays, hints, needs, views
+from rdbg.shell import displays, hints, views
 from rdbg.shell.notices import READ_ANEW, Notices, is_remark
 from rdbg.shell.reach import Order, Reached
 from rdbg.shell.replay import Saved
@@ -337,11 +339,11 @@ class Shell:
             return None
         try:
             last = self._last
-            names = needs.names_for(self.target, command, last)
+            names = names_for(self.target, command, last)
             look = self.target.look(names)
-            if not needs.is_enough(command, names, look, last):
+            if not is_enough(command, look, last):
                 look = self.target.look()
-            self._last = needs.together(last, look)
+            self._last = together(last, look)
             return look
         except Refused:
             return None
@@ -378,7 +380,7 @@ class Shell:
         if self.target.is_own or self.target.application is None:
             return self.look()
         after = self.target.look(Names(tuple(before.tasks), tuple(before.objects)))
-        self._last = needs.together(self._last, after)
+        self._last = together(self._last, after)
         self.notice()
         return after
 
@@ -419,7 +421,7 @@ class Shell:
         else:
             running = self.target.ask("show cores", Cores).running
             look = self.target.look(Names(tuple(name for name in running if name)))
-            self._last = needs.together(self._last, look)
+            self._last = together(self._last, look)
         seats = ((core, look.tasks.get(name or "")) for core, name in enumerate(look.cores.running))
         found = [f"{it.name} {views.next_of(self, it)} (core {core})" for core, it in seats if it]
         return ", ".join(found) or "no core is busy: tick"
@@ -440,3 +442,59 @@ def parted(text: str) -> Tuple[str, List[str]]:
     whole = text.encode("utf-8", "replace").decode()
     stripped = COMMENT.split(whole[:-1] if whole.endswith("\n") else whole, 1)[0]
     return stripped, stripped.replace("\t", " ").split()
+
+
+def names_for(target: Target, command: commands.Command, last: Optional[Look]) -> Names:
+    """What a line can change, as far as what it did is told; all that is known where that isn't
+    clear. `last` is the last look, which may be old."""
+    word = command.form.word
+    if word == "tick":
+        return Names(target.names.tasks)
+    if word == "poke":
+        kind, name = kinds.OF_SYMBOL[command.symbols[2]], command.words[2]
+        return Names((name,)) if kind is kinds.TASK else Names((), ((kind.word, name),))
+    if word == INTERRUPT:
+        if command.symbols[2] != kinds.QUEUE.symbol:
+            return Names(target.names.tasks)  # (whom it wakes may displace another)
+        # (an item that it sends has its handle in a set, if the queue is a member)
+        sets = [key for key in target.names.objects if key[0] == kinds.QUEUE_SET.word]
+        return Names(target.names.tasks, ((kinds.QUEUE.word, command.words[2]), *sets))
+    found = of_step(target, int(command.words[1]), last) if word == "step" and last else None
+    return target.names if found is None else found
+
+
+def of_step(target: Target, core: int, last: Look) -> Optional[Names]:
+    """What a step of a core can change, if its task stands where it stood at the last look."""
+    task = last.cores.running[core] if core < len(last.cores.running) else None
+    if task not in last.tasks or task is None:
+        return None
+    words = (target.instruction(task, last.tasks[task].pc) or "").split()
+    if not words:
+        return None
+    form = form_of(words[0])
+    if form is None or words[0] in LOCAL:
+        return Names((task,))
+    named = [(kinds.OF_SYMBOL.get(symbol), name) for symbol, name in zip(form.symbols, words[1:])]
+    keys = [(kind.word, name) for kind, name in named if kind in kinds.OBJECTS]
+    if any(kind == kinds.QUEUE.word for kind, _ in keys):
+        keys += [key for key in target.names.objects if key[0] == kinds.QUEUE_SET.word]
+    return Names(target.names.tasks, tuple(dict.fromkeys(keys)))
+
+
+def is_enough(command: commands.Command, look: Look, last: Optional[Look]) -> bool:
+    """Whether a look at names that were chosen by an older one has what the line can change."""
+    core = int(command.words[1]) if command.form.word == "step" else len(look.cores.running)
+    if last is None or core >= len(look.cores.running):
+        return True
+    task = look.cores.running[core]
+    if task is None or task != last.cores.running[core]:
+        return task is None
+    return task in look.tasks and look.tasks[task].pc == last.tasks[task].pc
+
+
+def together(older: Optional[Look], newer: Look) -> Look:
+    """All that is known of two looks."""
+    if older is None:
+        return newer
+    tasks = {**older.tasks, **newer.tasks}
+    return dataclasses.replace(newer, tasks=tasks, objects={**older.objects, **newer.objects})
