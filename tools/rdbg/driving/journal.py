@@ -51,8 +51,7 @@ class Journal:
         return len(self._done) + len(self._undone) + 2
 
     def lines(self) -> List[str]:
-        """The lines that lead from the start to this place, with the same moves to be made again
-        and the same records."""
+        """The lines that lead here from the start, with the same moves undone and records kept."""
         runs = [*self._done, *reversed(self._undone)]
         made = [f"{FORWARD} {it.count}" if it.line == FORWARD else it.line for it in runs]
         back = [record.back(self.undone)] if self.undone else []

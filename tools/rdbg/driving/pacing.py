@@ -17,8 +17,7 @@ IS = f"a pace is M..N, M.. or ..N, where M is 0 to {MOST} and N is 1 to {MOST}, 
 
 @dataclasses.dataclass(frozen=True)
 class TickPace:
-    """From one tick to the next each busy core makes at least so many moves, and at most so many,
-    where that is bounded."""
+    """Each busy core makes so many moves between two ticks, at least and (if bounded) at most."""
 
     least: int
     most: Optional[int] = None

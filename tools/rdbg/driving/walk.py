@@ -57,8 +57,7 @@ class Walk:
         return self.place - start
 
     def until(self, condition: str, count: int) -> Optional[int]:
-        """Makes moves of a run's choice until a condition holds after one, so many at the most, or
-        as many as there can be. Answers the place, none where it didn't hold."""
+        """Runs until a condition holds after a move, at most so many on: the place, or none."""
         end = self.place + count
         while self.place < end:
             moved = self._run(f"until {condition} {{}}", end - self.place)
@@ -85,14 +84,12 @@ class Walk:
                 piece //= 2
 
     def back_until(self, condition: str) -> Optional[int]:
-        """Goes back to the last earlier place where a condition holds, and answers it; to the
-        start, and none, where there is no such place."""
+        """Goes back to where a condition held last, and answers it; else to the start, and none."""
         moved = self.target.ask(f"back until {condition}", replies.Moved)
         return None if moved.how == "start" else moved.at
 
     def goto(self, place: int) -> None:
-        """Goes to a place that there is, behind or before this one. Ctrl-C doesn't end it. Raises
-        `Unable` where no record leads there any more."""
+        """Goes to a place that is there; Ctrl-C doesn't end it. Raises `Unable` without records."""
         if place < self.target.base:
             raise Unable(self.target.trimmed(place))
         while self.place != place:
@@ -121,8 +118,7 @@ class Walk:
             self.forward(place - self.place)
 
     def settle(self, start: int, place: int) -> None:
-        """Goes to a place to which runs from `start` came, and leaves no move to be made again
-        that a run would not have left."""
+        """Goes to a place of a run from `start`, and leaves no move undone that it wouldn't."""
         if place > start and (self.place > place or self.target.places().undone):
             self.goto(min(place - 1, self.place))
         self.reach(place)

@@ -47,8 +47,7 @@ class Condition:
         return f"{self.subject} {self.operator} {self.number}"
 
     def amount(self, reply: replies.Reply) -> int:
-        """The number that is looked at, by the reply to `view`. Raises `IndexError` where there is
-        no such register or entry."""
+        """The number that is looked at, by the reply to `view`. Raises `IndexError` without one."""
         return AMOUNTS[self.kind](reply, self.index)
 
     @property

@@ -141,8 +141,7 @@ class PacedWalk(Walk):
         return None
 
     def settle(self, start: int, place: int) -> None:
-        """Goes to a place to which runs from `start` came, and leaves no move behind it that could
-        be made again: the last one is made anew."""
+        """As `Walk.settle`; the last move is made anew, so that none behind it is left undone."""
         line = self._own.get(place)
         if place > start and line is not None and (self.place > place or self.target.undone):
             self.goto(min(place - 1, self.place))

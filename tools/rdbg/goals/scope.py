@@ -45,8 +45,7 @@ class Scope:
         return None if found is None else len(found.code)
 
     def number(self, word: str, named: Optional[Mapping[str, int]] = None) -> Optional[int]:
-        """The number that a word is: digits, or what a text in lines has for it. `named` are words
-        that are numbers there besides."""
+        """The number that a word is: digits, or, of a text in lines, a const or one of `named`."""
         if self.constants is None:
             return number(word, MOST_NUMBER)
         known: Dict[str, int] = {**self.constants, **(named or {})}

@@ -184,8 +184,7 @@ class Search:
         return place if is_so(walk.target, self.goal) else None, False
 
     def _scan(self, end: int) -> Optional[int]:
-        """Looks at some of the places up to one, or back to one, one by one. The first of them
-        where the goal holds; the target ends behind the last."""
+        """The first of some of the next places, looked at one by one, where it is so, or none."""
         most = self._chunk
         self._chunk, self._short = min(2 * most, MOST_CHUNK), self._short // 2
         for place, seen in looked(self.walk, end, most, self._names.lines()):
@@ -209,8 +208,7 @@ class Search:
         return None
 
     def between(self, low: int, high: int) -> int:
-        """The first place where what lasts is so, above one where it isn't, at most one where it
-        is."""
+        """The first place above `low`, where what lasts isn't so, up to `high`, where it is."""
         while high - low > 1:
             self.walk.goto((low + high) // 2)
             if is_so(self.walk.target, self.goal):

@@ -20,8 +20,7 @@ def read(words: Sequence[str], scope: Scope) -> Goal:
 
 
 def for_search(words: Sequence[str], scope: Scope) -> Tuple[Goal, str]:
-    """The goal that these words are, and how the program that searches has it. Raises `NoGoal`,
-    also where it has no words for it."""
+    """A goal, and how the program that searches has it. Raises `NoGoal` also without words."""
     goal = read(words, scope)
     asked = goal.asked(scope.names.tasks)
     if asked is None:

@@ -53,8 +53,7 @@ class Goal:
 
 
 def read(parts: Sequence[str], source: Source, question: Question = REACH) -> Goal:
-    """The goal that these words are, of which this is asked. Raises `Failure` where they are none,
-    or the program that searches has no words for it."""
+    """The goal that these words are, of which this is asked. Raises `Failure` without one."""
     scope = Scope.of(source)
     if list(parts) == [DIFFERS]:
         # (all that come to a rest end so)

@@ -89,8 +89,7 @@ def runs_of(lines: Sequence[str], looks: Sequence[Cores], handlers: Sequence[Han
 
 
 def make(target: Target, moves: Sequence[str], handlers: Sequence[Handler]) -> Order:
-    """The order of these moves, a line each, made in a program that is at boot. Raises `Failure`
-    where one of them is refused there."""
+    """The order of these moves, made from boot. Raises `Failure` where one is refused."""
     answers = target.tell_all([it for move in moves for it in ("show cores", move)])
     if any(it.startswith("no ") for it in answers):
         raise Failure("what was found can't be made again")

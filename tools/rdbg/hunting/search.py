@@ -79,8 +79,7 @@ class Search:
         return [found] if found else []
 
     def smallest(self) -> List[Find]:
-        """The find with the fewest surprises, and of those the fewest moves, held against the
-        others: none has fewer."""
+        """The find with the fewest surprises, and of those the fewest moves: none has fewer."""
         found = self.first()
         while found and not self.is_stopped():
             surprises, moves = found[0].size

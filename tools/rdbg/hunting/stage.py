@@ -80,8 +80,7 @@ class Stage:
         return Find(order, look, tuple(views[1:]))
 
     def table(self, find: Find, is_so: Callable[[Look], bool]) -> Tuple[List[str], bool]:
-        """Who did what in an order, as `rdbg trace` says it, and whether something is so at its
-        end, when it is made once more."""
+        """Who did what in an order, as `rdbg trace` says it, and whether its end is as is said."""
         self.at_boot().tell_all(find.order.lines)
         return [*self._rows()], self.walk.place == find.order.place and is_so(self.target.look())
 

@@ -74,8 +74,7 @@ def chosen(texts: Sequence[str], application: Optional[Application]) -> Sequence
 
 
 def told(texts: Sequence[str], application: Optional[Application]) -> str:
-    """Which interrupts of those that are declared may come where none was named, or which were left
-    out; empty where that is none."""
+    """Which declared interrupts may come where none was named, or which were left out."""
     declared = application.declared() if application else []
     names = [it for it in declared if it not in map(str.strip, texts)]
     noun = "interrupt" if len(names) == 1 else "interrupts"

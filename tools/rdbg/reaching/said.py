@@ -133,8 +133,7 @@ def read(lines: Sequence[str]) -> Answer:
 
 
 def check(output: str, status: int, known: str) -> None:
-    """Raises `Failure` where a program has ended in another way than by an answer, or a refusal; it
-    says what was known until then, if that isn't empty."""
+    """Raises `Failure`, with what was `known`, where a program ended by no answer or refusal."""
     if status < 0:
         why = f"was ended by {signal.Signals(-status).name}"
     elif status not in STATUSES:
@@ -160,8 +159,7 @@ def stopped(
 
 
 def known(last: Optional[Progress], surprises: Optional[int], is_reach: bool = True) -> str:
-    """Of which orders that is known, in words; empty where it hadn't said yet how far it was, and
-    where another question than `reach` was asked."""
+    """Of which orders that is known, in words; empty where nothing was said, or not for `reach`."""
     is_said = last is not None and is_reach
     return stopped(last, surprises, "").bound.text() if is_said else ""
 

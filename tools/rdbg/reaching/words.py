@@ -124,8 +124,7 @@ class Words(NamedTuple):
 
 
 def own(word: str) -> Tuple[str, Optional[str]]:
-    """The option of what starts the program that a word is, with its value where that stands in the
-    word, too; empty where it is none."""
+    """The option of the starter's that a word is, if any, and its value where it has one."""
     if word.startswith(OUTPUT):
         value = word[len(OUTPUT) :]
         return OUTPUT, (value[1:] if value.startswith("=") else value) or None
@@ -135,8 +134,7 @@ def own(word: str) -> Tuple[str, Optional[str]]:
 
 
 def read(words: Sequence[str]) -> Words:
-    """What words ask for. Raises `Failure` where one of what starts the program is wrong; all
-    others are the program's to judge."""
+    """What words ask for. Raises `Failure` where one that isn't the program's is wrong."""
     program = [PROGRESS]
     found: Dict[str, str] = {}
     consts: List[str] = []

@@ -134,22 +134,23 @@ def of_freertos(word: str) -> str:
     return known or (f"nothing stands for {name}; {calls}" if CALLED.fullmatch(name) else "")
 
 
-# What gdb calls otherwise, or has and rdbg hasn't: a sentence for each word.
-HINTS: Dict[str, str] = {
-    "run": "the target stands at boot already: `step 0`, `until COND 1000`; back to it: `goto 0`",
+# What gdb calls otherwise, or has and rdbg hasn't: a sentence for the words that mean the same.
+OF_GDB: Dict[str, str] = {
+    "run r": "the target stands at boot already: `step 0`, `until COND 1000`; back to it: `goto 0`",
     "start": "the target stands at boot already: `step 0`, `until COND 1000`",
-    "kill": "`goto 0` goes back to boot, `quit` ends",
+    "kill k": "`goto 0` goes back to boot, `quit` ends",
     "file": "the file is given at the start: `rdbg sh FILE`; `reload` reads it again",
     "attach": "`rdbg sh --port P` attaches to `rdbg serve`",
     "detach": "`wheel give` gives the wheel back, `quit` ends",
-    "bt": "a task has no frames here: `where` says what each core does next, `moves` how it came",
-    "frame": "a task has no frames: `where`, `info worker`",
-    "finish": "there are no functions: `until! phase worker run` goes to where its call returned",
-    "advance": "`until pc worker = 3 1000` goes to instruction 3 of a task",
-    "thread": "tasks go by name: `step worker`, `info worker`, `list worker`",
-    "set": "`set echo on`, `set moves on`; edits change what the target has: `poke reg K R N`",
+    "bt backtrace": "a task has no frames here: `where` says what each core does next, `moves` how"
+    " it came",
+    "frame f": "a task has no frames: `where`, `info worker`",
+    "finish fin": "there are no functions: `until! phase worker run` goes to where its call returned",
+    "advance adv": "`until pc worker = 3 1000` goes to instruction 3 of a task",
+    "thread t": "tasks go by name: `step worker`, `info worker`, `list worker`",
+    "set set!": "`set echo on`, `set moves on`; edits change what the target has: `poke reg K R N`",
     "call": "calls are the scripts' own; `poke pc K N` sets where a task goes on",
-    "jump": "`poke pc worker 3` lets a task in phase run go on at instruction 3",
+    "jump j": "`poke pc worker 3` lets a task in phase run go on at instruction 3",
     "x": "there is no memory: `show queue Q`, `show stream B`, `info objects`",
     "rwatch": "a read isn't seen: `until changes Q` ends where something was taken or put",
     "awatch": "`until changes Q` ends where something was taken or put",
@@ -161,17 +162,11 @@ HINTS: Dict[str, str] = {
     "record": "all moves are kept, and can be taken back at any time",
     "checkpoint": "each number of moves is a place: remember it, and `goto N`",
     "restart": "`goto N` goes to any place, `goto 0` to boot",
-    "signal": "an interrupt is `isr send Q HEX` or `isr notify K I N ACTION`, in profile 2",
-    "stop": "Ctrl-C ends a run",
+    "signal handle": "an interrupt is `isr send Q HEX` or `isr notify K I N ACTION`, in profile 2",
+    "stop interrupt": "Ctrl-C ends a run",
     "shell": "the shell is outside: Ctrl-Z, or another terminal",
-    "ptype": "`info objects` says what there is",
-    "disassemble": "`list TASK` shows a script",
+    "ptype whatis": "`info objects` says what there is",
+    "disassemble disas": "`list TASK` shows a script",
+    "up down": "a task has no frames: `where`, `info TASK`",
 }
-HINTS.update(dict.fromkeys(("up", "down"), "a task has no frames: `where`, `info TASK`"))
-# Words of gdb that mean the same as one of these.
-ALIKE: Dict[str, str] = {
-    **{"r": "run", "k": "kill", "backtrace": "bt", "f": "frame", "fin": "finish"},
-    **{"adv": "advance", "t": "thread", "j": "jump", "disas": "disassemble", "set!": "set"},
-    **{"handle": "signal", "whatis": "ptype", "interrupt": "stop"},
-}
-HINTS.update({word: HINTS[other] for word, other in ALIKE.items()})
+HINTS = {word: hint for words, hint in OF_GDB.items() for word in words.split()}

@@ -33,8 +33,7 @@ def is_remark(line: str) -> bool:
 
 
 class Notices:
-    """The notices of a session. `show` prints one of what others did, or of what was asked, and
-    `moved` is told to which place others have moved the target."""
+    """The notices of a session: `show` prints one, `moved` hears where others moved the target."""
 
     def __init__(
         self, session: Session, show: Callable[[str], None], moved: Callable[[int], None]
@@ -68,8 +67,7 @@ class Notices:
             self._show(notice)
 
     def told(self, reply: str) -> Tuple[str, List[str]]:
-        """What the line that was answered so last did: in a few words, or a row each for the moves
-        of a run. Empty where nothing was told."""
+        """What the line answered so did, in words, and a row for each move of a run; else empty."""
         head, *rows = self._own or [""]
         return head.partition(f" -> {reply}")[2][len(", ") :], rows
 

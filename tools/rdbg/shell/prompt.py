@@ -29,8 +29,7 @@ ONCE = (
 
 
 def history_file() -> Optional[pathlib.Path]:
-    """Where the lines that were typed are kept: the file that RDBG_HISTORY names, none where it is
-    empty, or one in the user's folder for such things."""
+    """Where typed lines are kept: RDBG_HISTORY (if empty, nowhere), or in the user's folder."""
     named = os.environ.get("RDBG_HISTORY")
     if named is not None:
         return pathlib.Path(named) if named else None
@@ -135,8 +134,7 @@ def greet(shell: "Shell") -> None:
 
 
 def talk(shell: "Shell", begins: bool) -> None:
-    """Does what is typed at a terminal, until it ends; first, if it `begins` so, the lines of the
-    files that are for that."""
+    """Does what is typed, until it ends; first, if it `begins` so, the lines of files for that."""
     shell.is_terminal = shell.shows_moves = True
     shell.interrupt.install()
     lines = Lines(shell)

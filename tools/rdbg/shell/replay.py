@@ -32,8 +32,7 @@ class Saved:
         self._own: Set[Tuple[int, int]] = set()
 
     def check(self, path: str, is_anew: bool) -> None:
-        """Raises `Unable` where a file is there that stays as it is. `is_anew` is that it was asked
-        for to be written over."""
+        """Raises `Unable` where a file is there that stays; `is_anew`: it may be written over."""
         if os.path.exists(path):
             self._check(path, os.stat(path), is_anew)
 
@@ -117,8 +116,7 @@ def lines_of(shell: "Shell") -> List[str]:
 
 
 def save(shell: "Shell", words: Sequence[str], is_anew: bool = False) -> None:
-    """`save FILE`: the moves as lines that rdbg replays; `save! FILE`, onto a file that is
-    there."""
+    """`save FILE`: the moves as lines that rdbg replays; `save! FILE`, onto one that is there."""
     if shell.is_starting:
         raise Unable("a file that a prompt begins with saves nothing")
     if len(words) != 1:
@@ -207,8 +205,7 @@ def replayed(shell: "Shell", source: Source, limits: Limits) -> None:
 
 @contextlib.contextmanager
 def staying() -> Iterator[None]:
-    """As long as a file is read, or a program begun, anew. Where it can't be, `Unable` says that
-    the target stays as it is."""
+    """As long as something is read or begun anew; `Unable` says that the target stays as it is."""
     try:
         yield
     except Failure as failure:

@@ -38,8 +38,7 @@ def is_goal(words: Sequence[str], scope: Scope) -> bool:
 
 
 def goal_of(shell: "Shell", words: Sequence[str], becoming: bool) -> Tuple[Way, Optional[int]]:
-    """The way to the goal that these words are, and the COUNT behind them. Raises `Unable`, and
-    `Refused` where the target hasn't what it names."""
+    """The way to the goal that these words are, and its COUNT. Raises `Unable`, and `Refused`."""
     with turned(Unable, NoGoal):
         way, count = sought.way(words, shell.target, shell.scope(), becoming)
     if isinstance(way, To):
@@ -54,8 +53,7 @@ def keep_goal(shell: "Shell", way: Way) -> None:
 
 
 def check_goal(shell: "Shell", goal: Goal) -> None:
-    """Raises `Refused` where rdbg doesn't know what a goal names, and `Unable` where it is of an
-    instruction that its task doesn't have."""
+    """Raises `Refused` where a name of a goal isn't there, `Unable` where an instruction isn't."""
     for claim in goal.claims():
         condition = claim.condition if isinstance(claim, Holds) else None
         shell.asked = f"watch {condition.text}" if condition else f"until! {claim.text}"
@@ -187,8 +185,7 @@ def said(shell: "Shell", goal: Way, how: str, start: int, lines: int) -> None:
 
 
 def ending(shell: "Shell") -> str:
-    """What a target is where only ticks are left: `finished`, `asleep`, or `stuck`, where no task
-    waits and one has failed; empty elsewhere."""
+    """`finished`, `asleep`, or else `stuck`, where only ticks are left; empty elsewhere."""
     if not is_stuck(shell.target):
         return ""
     look = shell.target.look(Stuck().names(shell.target.names))

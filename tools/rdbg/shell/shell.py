@@ -24,7 +24,7 @@ from rdbg.goals.scope import Scope
 from rdbg.instructions import form_of
 from rdbg.looks import Look, Names
 from rdbg.replies import Cores, Refused
-from rdbg.shell import displays, hints, views
+from rdbg.shell import hints, views
 from rdbg.shell.notices import READ_ANEW, Notices, is_remark
 from rdbg.shell.reach import Order, Reached
 from rdbg.shell.replay import Saved
@@ -128,8 +128,7 @@ class Shell:
                 self._named = self._seen = self._last = None
 
     def may_come(self) -> Sequence[str]:
-        """The interrupts that searches let come, as words for them have it: all of the text where
-        it wasn't said which."""
+        """The words for what searches let come; none where it wasn't said which: all may."""
         if self.coming is None:
             return ()
         return [it.name for it in self.coming] or [NO_INTERRUPT]
@@ -210,8 +209,7 @@ class Shell:
         sys.stdout.flush()
 
     def do(self, text: str) -> None:
-        """Does a line: one of rdbg's as it is, or a word of sh's own; and says what is displayed
-        where that has moved the target."""
+        """Does a line, rdbg's as it is or a word of sh's, and says what is displayed behind it."""
         stripped, words = parted(text)
         if not words:
             return
@@ -221,18 +219,14 @@ class Shell:
         self.notice()
         here = self.target, self.target.place
         if self.displays and here not in (there, self._displayed):
-            displays.show(self)
+            views.displayed(self)
             self._displayed = here
         self._warn()
 
     def _do(self, stripped: str, words: Sequence[str]) -> None:
         from rdbg.shell.words import find
 
-        names = self.target.names
-        known = (*names.tasks, *(name for _, name in names.objects))
-        application = self.target.application
-        interrupts = [it.name for it in application.interrupts] if application else []
-        word = None if commands.read(stripped) else find(words, known, self.scope, interrupts)
+        word = None if commands.read(stripped) else find(self, words)
         try:
             if word is None:
                 self.command(stripped)
@@ -263,8 +257,7 @@ class Shell:
             self.say(f"the target moved meanwhile: {drift[0]} -> {drift[1]}")
 
     def command(self, text: str) -> bool:
-        """Asks rdbg a line, prints the reply, and says what the moves did. Answers whether it was
-        done."""
+        """Asks rdbg a line, says the reply and what the moves did. Answers whether it was done."""
         if len(text.encode("utf-8", "replace")) > commands.MOST_BYTES:
             self.hint("a line has at most 1024 bytes; rdbg would end the session: it wasn't sent")
             return False
@@ -445,8 +438,7 @@ def parted(text: str) -> Tuple[str, List[str]]:
 
 
 def names_for(target: Target, command: commands.Command, last: Optional[Look]) -> Names:
-    """What a line can change, as far as what it did is told; all that is known where that isn't
-    clear. `last` is the last look, which may be old."""
+    """What a line can change, as far as that is told, by an old look; all where that isn't so."""
     word = command.form.word
     if word == "tick":
         return Names(target.names.tasks)

@@ -56,8 +56,7 @@ def begin(shell: "Shell") -> None:
 
 
 def own(path: str) -> bytes:
-    """What stands in a file of the user's own. Raises `Failure` where it can't be read, or somebody
-    else may have written it."""
+    """What stands in a file of the user's own. Raises `Failure` where others may write it."""
     with trying(f"read {path}"):
         number = os.open(path, os.O_RDONLY | os.O_NONBLOCK)
         with open(number, "rb") as file:

@@ -190,8 +190,7 @@ def put_break(shell: "Shell", words: Sequence[str]) -> None:
 
 
 def at_line(shell: "Shell", file: Optional[str], line: int) -> List[Sequence[str]]:
-    """The task and the number of the first instruction at a line of the file, or behind it; of each
-    task whose script it is, where that is of several."""
+    """The task and number of the first instruction at a line or behind it, of each task there."""
     source, application = shell.source, shell.target.application
     if source is None or application is None:
         raise Unable("no file is known: `break TASK PC`")

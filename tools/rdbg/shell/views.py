@@ -1,12 +1,17 @@
-"""What there is, as tables and sentences: `info`, `where`, `list`, `print`."""
+"""What there is, as tables and sentences: `info`, `where`, `list`, `print`; and `display`, by which
+something is printed again behind each line that has moved the target."""
 import re
 from typing import TYPE_CHECKING, Callable, Dict, Iterator, List, Optional, Sequence
 
 from rdbg import commands, kinds, replies
 from rdbg.application import Instruction
 from rdbg.driving.target import Unable
+from rdbg.failure import turned
+from rdbg.goals import computed
+from rdbg.goals.reading import NoGoal
 from rdbg.looks import Key, Object, hexadecimal, holding, time_of
 from rdbg.operands import to_text
+from rdbg.replies import Refused
 from rdbg.wording import nearest
 
 if TYPE_CHECKING:
@@ -224,8 +229,7 @@ def listing(shell: "Shell", words: Sequence[str]) -> None:
 
 
 def listed(script: Sequence[Instruction], pc: int, has_lines: bool) -> Iterator[List[str]]:
-    """The rows of a script, one for each line, which may be several instructions; that of the next
-    instruction is marked."""
+    """The rows of a script, one for each line; that of the next instruction is marked."""
     for number, it in enumerate(script):
         if not it.begins:
             continue
@@ -253,8 +257,7 @@ def check_name(shell: "Shell", name: str, kind: str = "") -> str:
 
 
 def values(shell: "Shell", words: Sequence[str]) -> List[str]:
-    """A register, the data, the pc, the phase or the notes of a task, or of those on the cores; or
-    what an object has."""
+    """Parts of a task, or of those on the cores; or what an object has."""
     given = SETTING.fullmatch(" ".join(words))
     if given:
         edit = f"poke reg {given[1] or 'worker'} {given[2]} {given[3]}"
@@ -304,6 +307,63 @@ def about(shell: "Shell", name: str, only: str = "") -> List[str]:
             *found, waiting = object_text((kind, name), shell.look().objects[(kind, name)])
             lines.append("  ".join([*found, f"waits: {waiting}"]))
     return lines
+
+
+def texts(shell: "Shell", words: Sequence[str]) -> List[str]:
+    """What parts of tasks, names or an expression say, as lines."""
+    text, scope, names = " ".join(words), shell.scope(), shell.target.names
+    known = (*FIELDS, *REGISTERS, *names.tasks, *(name for _, name in names.objects))
+    parts = [part for word in words for part in word.lstrip("$").split(".")]
+    is_plain = all(part in known for part in parts) or SETTING.fullmatch(text) is not None
+    if is_plain or not computed.is_meant(text, scope):
+        return values(shell, words)
+    with turned(Unable, NoGoal, computed.Undefined):
+        found = computed.expression(text, scope)
+        target = shell.target
+        look = shell.look() if target.is_own else target.look(found.names(target.names))
+        value = found.said(look)
+    return [f"{text}: {value}" if value in computed.TRUTHS else f"{text} = {value}"]
+
+
+def tell(shell: "Shell", words: Sequence[str]) -> None:
+    """`print`."""
+    shell.say("\n".join(texts(shell, words)))
+
+
+def display(shell: "Shell", words: Sequence[str]) -> None:
+    """`display EXPR`, or all that are there."""
+    if words:
+        texts(shell, words)  # (which says what is wrong)
+        shell.displays[max(shell.displays, default=0) + 1] = " ".join(words)
+    elif not shell.displays:
+        raise Unable("nothing is displayed; `display count jobs` does from here on")
+    displayed(shell, max(shell.displays) if words else 0)
+
+
+def undisplay(shell: "Shell", words: Sequence[str]) -> None:
+    """`undisplay N ..`, or all."""
+    numbers = [int(word) for word in words if commands.is_number(word)]
+    if len(numbers) < len(words) or not {*numbers} <= {*shell.displays}:
+        there = ", ".join(map(str, shell.displays)) or "none"
+        raise Unable(f"undisplay which? There are: {there}; without a number all are dropped")
+    for number in numbers or list(shell.displays):
+        shell.displays.pop(number, None)
+
+
+def displayed(shell: "Shell", only: int = 0) -> None:
+    """Says what is displayed, or one of it."""
+    for number, text in shell.displays.items():
+        if only not in (0, number):
+            continue
+        try:
+            shell.target.afford(len(shell.target.names.lines()))
+            lines = texts(shell, text.split())
+        except Unable as unable:
+            lines = [f"{text}: {unable}"]
+        except Refused as refused:
+            lines = [f"{text}: no {refused}"]
+        for line in lines:
+            shell.say(f"{number}: {line}")
 
 
 def watches(shell: "Shell") -> None:

@@ -1,13 +1,11 @@
 """The words of sh's own: one table, for what they do, for help and for Tab."""
 import dataclasses
 import functools
-from typing import TYPE_CHECKING, Callable, Container, Dict, Optional, Sequence, Tuple
+from typing import TYPE_CHECKING, Callable, Dict, Optional, Sequence, Tuple
 
 from rdbg import commands
-from rdbg.goals.scope import Scope
-from rdbg.looks import Names
 from rdbg.reaching import asking
-from rdbg.shell import basics, displays, paces, reach, replay, seek, sourcing, steps, views
+from rdbg.shell import basics, paces, reach, replay, seek, sourcing, steps, views
 from rdbg.wording import rows
 
 if TYPE_CHECKING:
@@ -109,17 +107,17 @@ WORDS: Tuple[Word, ...] = (
     ),
     word(views.listing, "list [TASK] | a script, its place marked | l | K"),
     word(
-        displays.put,
+        views.tell,
         "print EXPR | r0 worker, worker.pc, jobs, count jobs + 1, or a goal"
         " | p output inspect | PART K",
         EXPRESSIONS,
     ),
     word(
-        displays.display,
+        views.display,
         "display [EXPR] | prints it now, and behind each line that moves the target | | PART K",
         EXPRESSIONS,
     ),
-    word(displays.undisplay, "undisplay [N ..] | displays it no more; without N all"),
+    word(views.undisplay, "undisplay [N ..] | displays it no more; without N all"),
     word(steps.step, "step TASK [COUNT] | an instruction of a task, on whichever core | | K"),
     word(steps.tick, "tick COUNT | so many ticks"),
     word(
@@ -182,31 +180,22 @@ SHOW = Word("show NAME", "what rdbg shows of it", views.show)
 BY_NAME: Dict[str, Word] = {name: it for it in WORDS for name in (it.name, *it.short)}
 
 
-def find(
-    words: Sequence[str],
-    known: Container[str] = (),
-    scope: Callable[[], Scope] = lambda: Scope(Names()),
-    interrupts: Container[str] = (),
-) -> Optional[Word]:
-    """The word of sh's own that a line begins with, where it isn't one of rdbg's lines; the words
-    `step`, `until`, `back`, `show` and `isr` are rdbg's too. `known` are the names that there are,
-    `scope` says what goals can name, and `interrupts` are the names of interrupts."""
-    first, second = words[0], words[1] if len(words) > 1 else ""
-    if first == "show":
-        return SHOW if len(words) == 2 and second in known else None
-    if first == "step":
-        has_count = len(words) == 3 and commands.is_number(second) and commands.is_count(words[2])
-        return BY_NAME["step"] if commands.is_name(second) or has_count else None
-    if first == "isr":
-        return BY_NAME["isr"] if len(words) == 2 and second in interrupts else None
-    if first == "tick":
-        return BY_NAME["tick"] if second else None
-    if first == "until":
-        is_goal = seek.is_rdbgs(words[1:]) or seek.is_goal(words[1:], scope())
-        return BY_NAME["until"] if is_goal else None
-    if first == "back":
-        is_own = second == "until" and seek.is_goal(words[2:], scope())
-        return BACK if is_own or second == "until!" else None
-    if first == "set" and second not in basics.SETTINGS:
-        return None if len(words) > 1 else BY_NAME["set"]
-    return BY_NAME.get(first)
+def find(shell: "Shell", words: Sequence[str]) -> Optional[Word]:
+    """The word of sh's own that a line begins with, where it isn't one of rdbg's lines; some words
+    are rdbg's too."""
+    first, second = words[0], "".join(words[1:2])
+    names, application = shell.target.names, shell.target.application
+    has_count = len(words) == 3 and commands.is_number(second) and commands.is_count(words[2])
+    is_own: Dict[str, Callable[[], bool]] = {
+        "show": lambda: len(words) == 2 and names.kinds_of(second) != [],
+        "step": lambda: commands.is_name(second) or has_count,
+        "isr": lambda: len(words) == 2 and bool(application and application.interrupt(second)),
+        "tick": lambda: second != "",
+        "until": lambda: seek.is_rdbgs(words[1:]) or seek.is_goal(words[1:], shell.scope()),
+        "back": lambda: second == "until!"
+        or (second == "until" and seek.is_goal(words[2:], shell.scope())),
+        "set": lambda: len(words) == 1 or second in basics.SETTINGS,
+    }
+    if first in is_own and not is_own[first]():
+        return None
+    return {**BY_NAME, "show": SHOW, "back": BACK}.get(first)
