@@ -162,7 +162,11 @@ class Pieces:
         try:
             with self.target.wheel():
                 places = self.target.places()
-                if places.undone and not (limits and fits and self._has_ticks(count)):
+                is_sure = not places.undone
+                if places.undone and limits and fits:
+                    tick = self.target.ask("show cores", replies.Cores).tick
+                    is_sure = tick + count < commands.MOST_NUMBER
+                if not is_sure:
                     return self.target.tell(line)
                 answers = self._in_pieces(command.words[:-1], count)
                 if answers[-1].startswith("no ") and len(answers) > 1:
@@ -172,10 +176,6 @@ class Pieces:
                 return answers[-1]
         except Refused:
             return self.target.tell(line)
-
-    def _has_ticks(self, count: int) -> bool:
-        """Whether so many moves can't come to the last tick."""
-        return self.target.ask("show cores", replies.Cores).tick + count < commands.MOST_NUMBER
 
     def _in_pieces(self, words: Sequence[str], count: int) -> List[str]:
         """The replies to the pieces of a line, up to the first that says an end."""

@@ -221,7 +221,9 @@ class Reader:
     def stands(self) -> Goal:
         """That a task is at an instruction."""
         task = self.named(kinds.TASK)
-        return claims.At(task, self._number(INSTRUCTION, self.scope.instructions(task), task))
+        found = self.scope.application.task(task) if self.scope.application else None
+        most = None if found is None else len(found.code)
+        return claims.At(task, self._number(INSTRUCTION, most, task))
 
     def waits(self) -> Goal:
         """That a task waits, wherever or at one place."""

@@ -39,11 +39,6 @@ class Scope:
         """How many notification entries each task has, or may have."""
         return 4 if self.application is None else self.application.notes
 
-    def instructions(self, task: str) -> Optional[int]:
-        """How many instructions the script of a task has; none where it isn't known."""
-        found = None if self.application is None else self.application.task(task)
-        return None if found is None else len(found.code)
-
     def number(self, word: str, named: Optional[Mapping[str, int]] = None) -> Optional[int]:
         """The number that a word is: digits, or, of a text in lines, a const or one of `named`."""
         if self.constants is None:

@@ -2,7 +2,7 @@
 and object. So an order that ends otherwise than another is one whose end denies one of its claims.
 """
 import re
-from typing import Dict, Iterable, Iterator, Tuple
+from typing import Dict, Iterable, Iterator
 
 from rdbg import kinds, replies
 from rdbg.application import Application, Task
@@ -41,8 +41,3 @@ def claims(look: Look, application: Application) -> Dict[str, str]:
             if amount:
                 found[f"{kind} {name}"] = [f"{amount} {name} = {AMOUNTS[amount](it, 0)}"]
     return {thing: " and ".join(said) for thing, said in found.items()}
-
-
-def denied(goal: str, others: Tuple[str, ...]) -> str:
-    """A goal with none of these claims."""
-    return " and ".join([f"( {goal} )", *(f"not ( {it} )" for it in others)])

@@ -97,17 +97,13 @@ def results(
         yield none(source, goal, answer)
 
 
-def driver() -> Values:
-    """What has made a report: rdbg, of which version, and whether its program is proved."""
-    said = version()
-    number = NUMBERED.match(said)
-    numbered = {"version": number[1]} if number else {}
-    return {"name": "rdbg", "fullName": said, **numbered, "rules": RULES}
-
-
 def text_of(said: Sequence[Values]) -> str:
-    """A report of these results."""
-    run = {"tool": {"driver": driver()}, "results": list(said), "columnKind": "unicodeCodePoints"}
+    """A report of these results, made by rdbg, of which version, and whether it is proved."""
+    whole = version()
+    number = NUMBERED.match(whole)
+    numbered = {"version": number[1]} if number else {}
+    driver = {"name": "rdbg", "fullName": whole, **numbered, "rules": RULES}
+    run = {"tool": {"driver": driver}, "results": list(said), "columnKind": "unicodeCodePoints"}
     return json.dumps({"$schema": SCHEMA, "version": VERSION, "runs": [run]}, indent=2) + "\n"
 
 

@@ -7,7 +7,7 @@ import dataclasses
 import heapq
 from typing import Callable, FrozenSet, List, Optional, Sequence, Set, Tuple
 
-from rdbg.hunting.ends import claims, denied
+from rdbg.hunting.ends import claims
 from rdbg.hunting.goals import Goal
 from rdbg.hunting.stage import Find, Stage
 from rdbg.reaching import said
@@ -137,8 +137,10 @@ class Search:
 
     def _in_cell(self, cell: Cell, find: Ask) -> Optional[Find]:
         """What is found in a cell."""
+        denied = (f"not ( {it} )" for it in sorted(cell))
+        goal = " and ".join([f"( {self.goal.asked} )", *denied]) if cell else self.goal.asked
         try:
-            return find(denied(self.goal.asked, tuple(sorted(cell))) if cell else self.goal.asked)
+            return find(goal)
         except NoQuestion as refused:
             if TOO_LONG not in str(refused) or not cell:
                 raise

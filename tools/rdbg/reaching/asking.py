@@ -89,11 +89,10 @@ class Asker:
         """The answer to a question about a goal, behind these command lines, and of orders within a
         bound; `more` are further lines of the program, before the question. Raises `NoQuestion`
         where it is refused, `Failure` where the program ends otherwise than by an answer."""
-        bounds = (("moves", bound.moves), ("surprises", bound.surprises))
         lines = [
             *more,
             *(f"line {it}" for it in begin),
-            *[f"{word} {count}" for word, count in bounds if count is not None],
+            *(f"{word} {count}" for word, count in vars(bound).items() if count is not None),
             f"{question.word} {goal}",
         ]
         words = [program(), "--progress", *self.options, "--", self.file]

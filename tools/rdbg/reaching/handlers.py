@@ -49,7 +49,8 @@ def handlers(texts: Sequence[str], application: Optional[Application]) -> List[H
     numbers: Dict[str, int] = {}
     interrupts = application.interrupts if application else ()
     others = {other.name: other for other in interrupts}
-    for text in chosen(texts, application):
+    given = [] if [*texts] == [NO_INTERRUPT] else [*texts]
+    for text in given or (application.declared() if application and not texts else ()):
         it = others.get(text.strip())
         if it is None:
             check_name(text, [*others])
@@ -64,13 +65,6 @@ def handlers(texts: Sequence[str], application: Optional[Application]) -> List[H
         found.append(named(it, numbers, others))
     ends = [it for it in interrupts if it.is_of_wait and it.name not in numbers]
     return found + [named(it, numbers, {}) for it in ends]
-
-
-def chosen(texts: Sequence[str], application: Optional[Application]) -> Sequence[str]:
-    """What these texts name: all that is declared where there is none, nothing by `none`."""
-    if [*texts] == [NO_INTERRUPT]:
-        return ()
-    return texts or (application.declared() if application else ())
 
 
 def told(texts: Sequence[str], application: Optional[Application]) -> str:
@@ -90,7 +84,7 @@ def left(handlers: Sequence[Handler], lines: Sequence[str]) -> List[Handler]:
 
 def times_of(it: Interrupt, others: Dict[str, Interrupt]) -> int:
     """How often one comes at the most: one that comes after another no more often than that."""
-    bounds = [it.times] + ([times_of(others[it.after], others)] if it.after else [])
+    bounds = [it.times, times_of(others[it.after], others) if it.after else ANY]
     return min((bound for bound in bounds if bound != ANY), default=ANY)
 
 

@@ -52,18 +52,16 @@ class Bound:
 
     def text(self) -> str:
         """It in the words of an answer."""
-        counted = ((self.moves, "moves"), (self.surprises, "surprises"))
-        bounds = [f"{count} {what}" for count, what in counted if count is not None]
+        bounds = [f"{count} {what}" for what, count in vars(self).items() if count is not None]
         return f"not within {' and '.join(bounds)}" if bounds else "never"
 
     def least(self, other: "Bound") -> "Bound":
         """What is said of these orders and of those of another bound, is said of those of both."""
+
+        def fewer(*counts: Optional[int]) -> Optional[int]:
+            return min((it for it in counts if it is not None), default=None)
+
         return Bound(fewer(self.moves, other.moves), fewer(self.surprises, other.surprises))
-
-
-def fewer(one: Optional[int], other: Optional[int]) -> Optional[int]:
-    """The lower one of two bounds; none is no bound."""
-    return min((it for it in (one, other) if it is not None), default=None)
 
 
 @dataclasses.dataclass(frozen=True)
@@ -99,18 +97,12 @@ class Answer:
         return "full" if self.bound == Bound() else f"full: {self.bound.text()}"
 
 
-def kind_of(head: str) -> Kind:
-    """What the first line of an answer says. Raises `Failure` where it is none of one."""
-    for word, kind in HEADS:
-        if re.match(rf"{word}\b", head):
-            return kind
-    raise Failure(f"'{head}' is no answer of rdreach", UNTOLD)
-
-
 def read(lines: Sequence[str]) -> Answer:
     """The answer in these lines. Raises `Failure` where there is none in them."""
     first, *rest = lines or [""]
-    kind = kind_of(first)
+    kind = next((kind for word, kind in HEADS if re.match(rf"{word}\b", first)), None)
+    if kind is None:
+        raise Failure(f"'{first}' is no answer of rdreach", UNTOLD)
     within, part = WITHIN.search(first), PART.search(first)
     limits = [None if it is None else int(it) for it in within.groups()] if within else []
     at = next((at for at, line in enumerate(rest) if COUNTS.fullmatch(line)), None)

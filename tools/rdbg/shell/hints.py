@@ -274,9 +274,16 @@ def mended(shell: "Shell", line: str) -> str:
 
 def at_fault(shell: "Shell", words: Sequence[str]) -> str:
     """What can stand where a line is first wrong."""
+    from rdbg.shell.words import BY_NAME
+
     shapes = [shape for shape in commands.SHAPES if shape.form.word == words[0]]
+    if not shapes and words[0] in GOALS:
+        first = words[0]
+        return f"`until {first}` runs there, `rc {first}` goes back there; `help {first}`"
     if not shapes:
-        return unknown_word(words[0])
+        near = nearest(words[0], [*commands.WORDS, *BY_NAME])
+        hint = f"; near it is `{near}`" if near else ""
+        return f"'{words[0]}' is no word{hint}; `help` lists them"
     if words[0] == "step":
         return "behind `step` comes a core's number, or a task's name; `s` moves as a run would"
     most = max(shape.fitting(words) for shape in shapes)
@@ -302,17 +309,6 @@ def describe(symbol: str) -> str:
         return f"`{symbol}`"
     is_plain = known.choices in (known.noun, "its name")
     return known.noun if is_plain else f"{known.noun} ({known.choices})"
-
-
-def unknown_word(first: str) -> str:
-    """What a first word may have been meant to be."""
-    from rdbg.shell.words import BY_NAME
-
-    if first in GOALS:
-        return f"`until {first}` runs there, `rc {first}` goes back there; `help {first}`"
-    near = nearest(first, [*commands.WORDS, *BY_NAME])
-    hint = f"; near it is `{near}`" if near else ""
-    return f"'{first}' is no word{hint}; `help` lists them"
 
 
 Hint = Callable[["Shell", str], str]

@@ -14,6 +14,7 @@ from rdbg.failure import Failure
 ROW = re.compile(r"# ([0-9]+(\.\.[0-9]+)?  |\.\. [0-9]+ moves )")
 # What others did, and the place behind it.
 MOVED = re.compile(r"# \w+: .* -> ok at ([0-9]{1,10})\b")
+# A line that is for a room, and no comment.
 REMARK = re.compile(
     r"# *(who|wheel|help|reload|name +\S+|say +\S.*|to +\w+: *\S.*|(moves|talk)( +[0-9]+)?)$"
 )
@@ -25,11 +26,6 @@ MOST_MOVES = 20
 BETWEEN = " | "
 # So many seconds pass until who wasn't woken is woken again.
 AGAIN = 0.05
-
-
-def is_remark(line: str) -> bool:
-    """Whether a line is for a room, and no comment."""
-    return REMARK.match(line.strip()) is not None
 
 
 class Notices:

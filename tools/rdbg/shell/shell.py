@@ -25,7 +25,7 @@ from rdbg.instructions import form_of
 from rdbg.looks import Look, Names
 from rdbg.replies import Cores, Refused
 from rdbg.shell import hints, views
-from rdbg.shell.notices import READ_ANEW, Notices, is_remark
+from rdbg.shell.notices import READ_ANEW, REMARK, Notices
 from rdbg.shell.reach import Order, Reached
 from rdbg.shell.replay import Saved
 from rdbg.wording import counted
@@ -112,26 +112,20 @@ class Shell:
 
     def _notice(self, notice: str) -> None:
         """Prints a notice of a room; its last one is said at the end of all."""
-        if READ_ANEW.match(notice):
-            self._read_anew()
+        if READ_ANEW.match(notice) and self.source is not None:
+            with contextlib.suppress(Failure):
+                source = load(self.source.path, self.source.given)
+                if source.application is not None:
+                    self.source, self.target.application = source, source.application
+                    self.target.names = Names.of(source.application)
+                    self._named = self._seen = self._last = None
         if not notice.startswith(ROOM_ENDED):
             self._wipe()
             print(notice, flush=True)
 
-    def _read_anew(self) -> None:
-        """Takes the file as it is now, where one is known."""
-        with contextlib.suppress(Failure):
-            source = load(self.source.path, self.source.given) if self.source else None
-            if source is not None and source.application is not None:
-                self.source, self.target.application = source, source.application
-                self.target.names = Names.of(source.application)
-                self._named = self._seen = self._last = None
-
     def may_come(self) -> Sequence[str]:
         """The words for what searches let come; none where it wasn't said which: all may."""
-        if self.coming is None:
-            return ()
-        return [it.name for it in self.coming] or [NO_INTERRUPT]
+        return () if self.coming is None else [it.name for it in self.coming] or [NO_INTERRUPT]
 
     def scope(self) -> Scope:
         """What goals can name."""
@@ -196,7 +190,7 @@ class Shell:
         """Does what a line asks for, which somebody has typed, or sh says to itself."""
         self.asked = ""
         self._shown = time.monotonic()
-        if self.notices.is_room and is_remark(text):
+        if self.notices.is_room and REMARK.match(text.strip()):
             self.notices.forget()
             self.target.session.remark(text.strip())
             sys.stdout.flush()
@@ -210,22 +204,13 @@ class Shell:
 
     def do(self, text: str) -> None:
         """Does a line, rdbg's as it is or a word of sh's, and says what is displayed behind it."""
+        from rdbg.shell.words import find
+
         stripped, words = parted(text)
         if not words:
             return
         self.is_refused, self.is_stopped, self.asked = False, False, ""
         there = self.target, self.target.place
-        self._do(stripped, words)
-        self.notice()
-        here = self.target, self.target.place
-        if self.displays and here not in (there, self._displayed):
-            views.displayed(self)
-            self._displayed = here
-        self._warn()
-
-    def _do(self, stripped: str, words: Sequence[str]) -> None:
-        from rdbg.shell.words import find
-
         word = None if commands.read(stripped) else find(self, words)
         try:
             if word is None:
@@ -241,6 +226,12 @@ class Shell:
             self.is_refused = True
             self.refuse(f"rdbg says: no {refused}")
             self.hint(hints.refusal(self, self.asked, refused))
+        self.notice()
+        here = self.target, self.target.place
+        if self.displays and here not in (there, self._displayed):
+            views.displayed(self)
+            self._displayed = here
+        self._warn()
 
     @contextlib.contextmanager
     def wheel(self) -> Iterator[None]:
@@ -332,14 +323,19 @@ class Shell:
             return None
         try:
             last = self._last
-            names = names_for(self.target, command, last)
-            look = self.target.look(names)
-            if not is_enough(command, look, last):
-                look = self.target.look()
-            self._last = together(last, look)
-            return look
+            look = self._part(names_for(self.target, command, last))
+            return look if is_enough(command, look, last) else self._part()
         except Refused:
             return None
+
+    def _part(self, names: Optional[Names] = None) -> Look:
+        """A look at some of what is known, of which the rest stays as it was seen last."""
+        look, last = self.target.look(names), self._last
+        self._last = look
+        if last is not None:
+            tasks, objects = {**last.tasks, **look.tasks}, {**last.objects, **look.objects}
+            self._last = dataclasses.replace(look, tasks=tasks, objects=objects)
+        return look
 
     def after(self, place: int, before: Optional[Look]) -> None:
         """Says what the moves from a place to this one did, or where one is after going back."""
@@ -368,23 +364,17 @@ class Shell:
         for text in filter(None, [effect, *rows] if self.shows_moves else []):
             self.say(text)
 
-    def _look_again(self, before: Look) -> Look:
-        """A look behind a move at what was looked at before it."""
-        if self.target.is_own or self.target.application is None:
-            return self.look()
-        after = self.target.look(Names(tuple(before.tasks), tuple(before.objects)))
-        self._last = together(self._last, after)
-        self.notice()
-        return after
-
     def tell_moves(self, place: int, here: int, before: Optional[Look]) -> None:
         """Says what the moves between two places did, the last few of many."""
         if here == place + 1 and before is not None and before.place == place:
-            after = self._look_again(before)
-            if after.place != here:
-                self.say("others have moved the target since: `moves` shows what was done")
-                return
-            self.say(trail.between(self.target, before, after).text())
+            if self.target.is_own or self.target.application is None:
+                after = self.look()
+            else:
+                after = self._part(Names(tuple(before.tasks), tuple(before.objects)))
+                self.notice()
+            others = "others have moved the target since: `moves` shows what was done"
+            is_last = after.place == here
+            self.say(trail.between(self.target, before, after).text() if is_last else others)
             return
         first = place + 1 if here - place <= MANY else here - FEW + 1
         if first > place + 1:
@@ -400,12 +390,11 @@ class Shell:
         """Says what the last move did."""
         here = self.target.place
         _, rows = self.notices.told(f"ok at {here}")
-        if rows:
-            self.say(rows[-1])
-            return
-        found, look = trail.moves(self.walk, here, here)
-        self._keep(look)
-        self.say(found[0].row())
+        if not rows:
+            found, look = trail.moves(self.walk, here, here)
+            self._keep(look)
+            rows = [found[0].row()]
+        self.say(rows[-1])
 
     def next_moves(self) -> str:
         """What each busy core would do next, in words."""
@@ -413,8 +402,7 @@ class Shell:
             look = self.look()
         else:
             running = self.target.ask("show cores", Cores).running
-            look = self.target.look(Names(tuple(name for name in running if name)))
-            self._last = together(self._last, look)
+            look = self._part(Names(tuple(name for name in running if name)))
         seats = ((core, look.tasks.get(name or "")) for core, name in enumerate(look.cores.running))
         found = [f"{it.name} {views.next_of(self, it)} (core {core})" for core, it in seats if it]
         return ", ".join(found) or "no core is busy: tick"
@@ -482,11 +470,3 @@ def is_enough(command: commands.Command, look: Look, last: Optional[Look]) -> bo
     if task is None or task != last.cores.running[core]:
         return task is None
     return task in look.tasks and look.tasks[task].pc == last.tasks[task].pc
-
-
-def together(older: Optional[Look], newer: Look) -> Look:
-    """All that is known of two looks."""
-    if older is None:
-        return newer
-    tasks = {**older.tasks, **newer.tasks}
-    return dataclasses.replace(newer, tasks=tasks, objects={**older.objects, **newer.objects})

@@ -20,6 +20,7 @@ if TYPE_CHECKING:
 # So many characters of a column are shown at the least.
 LEAST = 8
 REGISTERS = tuple(f"r{number}" for number in range(8))
+FIELDS = ("data", "pc", "phase", "notes")
 # What sets a register in C, and in gdb's `print`.
 SETTING = re.compile(r"\$?(?:(\w+)\.)?r([0-7])\s*(?:\w+\s*)?=\s*(\w+)")
 
@@ -101,11 +102,6 @@ def seat(task: replies.Task) -> str:
     return "ready" if task.phase.word in ("run", "again", "given") else "-"
 
 
-def registers(task: replies.Task) -> str:
-    """The registers that aren't 0."""
-    return ",".join(f"{it}={value}" for it, value in zip(REGISTERS, task.registers) if value) or "-"
-
-
 def notes(task: replies.Task) -> str:
     """The notification entries that aren't as at boot."""
     texts = (f"{at}={it.value}:{it.state}" for at, it in enumerate(task.notes))
@@ -117,7 +113,8 @@ def tasks(shell: "Shell") -> None:
     rows = [["task", "core", "phase", "pc", "instruction", "registers", "data", "notes"]]
     for name, it in shell.look().tasks.items():
         here = [name, seat(it), it.phase.text, str(it.pc), written(shell, it) or "-"]
-        rows.append([*here, registers(it), hexadecimal(it.data), notes(it)])
+        there = [f"{name}={value}" for name, value in zip(REGISTERS, it.registers) if value]
+        rows.append([*here, ",".join(there) or "-", hexadecimal(it.data), notes(it)])
     if shell.target.application is None:
         rows = [[*row[:4], *row[5:]] for row in rows]
     long = [rows[0].index(name) for name in LONG if name in rows[0]]
@@ -276,18 +273,11 @@ def values(shell: "Shell", words: Sequence[str]) -> List[str]:
     found = []
     for name in names or present(look.cores.running):
         check_name(shell, name, "task")
-        texts = [f"{part} = {field(look.tasks[name], part)}" for part in wanted]
-        found.append(f"{name}: {', '.join(texts)}")
+        it = look.tasks[name]
+        fields = (hexadecimal(it.data), it.pc, phase_text(it), notes(it), *it.registers)
+        texts = dict(zip((*FIELDS, *REGISTERS), fields))
+        found.append(f"{name}: {', '.join(f'{part} = {texts[part]}' for part in wanted)}")
     return found
-
-
-FIELDS = ("data", "pc", "phase", "notes")
-
-
-def field(it: replies.Task, part: str) -> str:
-    """A part of a task in words."""
-    fields = (hexadecimal(it.data), str(it.pc), phase_text(it), notes(it))
-    return dict(zip((*FIELDS, *REGISTERS), (*fields, *map(str, it.registers))))[part]
 
 
 def show(shell: "Shell", words: Sequence[str]) -> None:
