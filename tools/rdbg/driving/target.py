@@ -147,8 +147,7 @@ class Target:
         answers = self.tell_all(["show moves", *lines, "show moves"])
         first = read(answers[0])
         assert isinstance(first, replies.Moves)
-        seen = [read(it) for it in answers[1:-1]]
-        return Look.of(first.done, seen), answers[0] == answers[-1]
+        return Look.of(first.done, [read(it) for it in answers[1:-1]]), answers[0] == answers[-1]
 
     @contextlib.contextmanager
     def wheel(self) -> Iterator[None]:

@@ -162,8 +162,7 @@ class Search:
                 # (it isn't so behind the last place at which what lasts isn't so yet)
                 walk.goto(base)
                 is_there = is_so(walk.target, self.goal)
-                lasting = Search(walk, self.goal.goal)
-                return lasting.between(base, here) - 1 if is_there else None
+                return Search(walk, self.goal.goal).between(base, here) - 1 if is_there else None
             place, is_end = self._onwards(self.goal.turns(look, earlier=True), base)
             if place is not None or is_end:
                 return place

@@ -54,8 +54,7 @@ def ways(stage: Stage) -> Iterator[Tuple[Tuple[str, ...], ...]]:
     """The ways in which interrupts may come at the end, each as often as it may: their calls."""
     counts = [range(it.times + 1) for it in stage.handlers]
     for chosen in itertools.islice(itertools.product(*counts), MOST_WAYS):
-        pairs = zip(chosen, stage.handlers)
-        yield tuple(it.calls for count, it in pairs for _ in range(count))
+        yield tuple(it.calls for count, it in zip(chosen, stage.handlers) for _ in range(count))
 
 
 def rests(stage: Stage, task: str) -> bool:
@@ -214,8 +213,7 @@ class Differs:
                 self.search.none.append(answer)
                 return None
             if answer.kind is Kind.NONE:
-                at_rest = self._at_rest(name)
-                found = self.search.ask(at_rest, bound, leaving, come, keeps=False)
+                found = self.search.ask(self._at_rest(name), bound, leaving, come, keeps=False)
                 return Difference(found or self.stage.find(leaving), (name,))
         return None
 

@@ -73,8 +73,7 @@ def runs_of(lines: Sequence[str], looks: Sequence[Cores], handlers: Sequence[Han
         line = lines[at]
         if line.split()[0] == WORD:
             # (the calls of one handler, the first of them among its own)
-            fitting = (len(it.calls) for it in handlers if it.begins(lines[at:]))
-            count = max(fitting, default=1)
+            count = max((len(it.calls) for it in handlers if it.begins(lines[at:])), default=1)
             run = Run(line, count, at, tuple(lines[at : at + count]))
         else:
             core = choice(looks[at])

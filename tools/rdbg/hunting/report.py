@@ -37,8 +37,7 @@ def lines_of(goal: Goal, stage: Stage, finds: Sequence[Find]) -> List[str]:
 def found(goal: Goal, stage: Stage, finds: Sequence[Find], is_exhaustive: bool) -> Iterator[str]:
     """What is said of what was found."""
     for at, find in enumerate(finds, 1):
-        which = f" {at}" if len(finds) > 1 else ""
-        yield from one_found(goal, stage, find, which, is_exhaustive)
+        yield from one_found(goal, stage, find, f" {at}" if len(finds) > 1 else "", is_exhaustive)
 
 
 def one_found(

@@ -1,5 +1,4 @@
 """How far a search is, as its program says it in lines, and as a terminal shows it in one."""
-import contextlib
 import os
 import re
 import time
@@ -81,10 +80,14 @@ class Gauge:
 
     def _draw(self, text: str) -> None:
         """Draws a line in place of the one that is there."""
-        columns = 0
-        with contextlib.suppress(OSError):
-            columns = os.get_terminal_size(self._stream.fileno()).columns
-        most = max(1, (columns or 80) - 1)
+        most = max(1, self._width() - 1)
         cut = text[:most]
         print("\r" + cut.ljust(min(most, self._drawn)), end="", file=self._stream, flush=True)
         self._drawn = len(cut)
+
+    def _width(self) -> int:
+        """How many columns the terminal has."""
+        try:
+            return os.get_terminal_size(self._stream.fileno()).columns or 80
+        except OSError:
+            return 80

@@ -110,5 +110,4 @@ def instruction_help(word: str) -> List[str]:
     if form is None:
         return []
     stands = f" ({', '.join(form.freertos)})" if form.freertos else ""
-    text = f"in a script, {form.text}{stands}: {form.does}; r0: {form.answer}"
-    return textwrap.wrap(text, WIDTH)
+    return textwrap.wrap(f"in a script, {form.text}{stands}: {form.does}; r0: {form.answer}", WIDTH)

@@ -5,7 +5,7 @@ from typing import TYPE_CHECKING, Callable, Dict, List, Optional, Sequence, Tupl
 
 from rdbg import commands, kinds, record
 from rdbg.goals import words as goal_words
-from rdbg.goals.meant import with_operator, with_subject
+from rdbg.goals.meant import as_number, with_operator, with_subject
 from rdbg.goals.reading import NoGoal
 from rdbg.replies import Refused
 from rdbg.shell.glossary import GOALS, HINTS
@@ -145,22 +145,24 @@ def operators(shell: "Shell", words: Words) -> Optional[Tuple[Words, str]]:
     return None
 
 
+# Why other numbers are none here, by how they begin.
+NUMBERS = dict.fromkeys(("0x", "0b"), "numbers are decimal")
+NUMBERS.update(dict.fromkeys(("ma", "po"), "max is of scripts; here it is a number"))
+
+
 def numbers(shell: "Shell", words: Words) -> Optional[Tuple[Words, str]]:
     """Numbers are decimal, registers and cores have numbers."""
     found, reason = list(words), ""
     for at, word in enumerate(words):
-        if re.fullmatch(r"0x[0-9a-f]{1,8}|0b[01]{1,32}", word):
-            found[at], reason = str(int(word, 0)), "numbers are decimal"
-        elif re.fullmatch(r"[0-9]{1,3}([,_'][0-9]{3})+", word):
-            found[at], reason = re.sub(r"[,_']", "", word), "a number has digits alone"
+        number = as_number(word) if at else None
+        if number is not None:
+            found[at], reason = number, NUMBERS.get(word[:2], "a number has digits alone")
         elif re.fullmatch(r"r[0-7]", word) and "reg" in words[:at]:
             found[at], reason = word[1:], "a register is its number here"
         elif re.fullmatch(r"core_?[0-9]", word):
             found[at], reason = word[-1], "a core is its number"
         elif words[0] == "unwatch" and commands.is_watch(word):
             found[at], reason = word[1:], "a watch is its number here"
-        elif word in ("max", "portmax_delay") and at:
-            found[at], reason = str(commands.MOST_NUMBER), "max is of scripts; here it is a number"
     return found, reason
 
 

@@ -122,10 +122,9 @@ class Lines:
 
 def greet(shell: "Shell") -> None:
     """Says what there is, and how to go on."""
-    what = shell.source.path if shell.source else "the built-in application"
-    if not shell.target.is_own:
-        what = f"attached, {what}" if shell.source else "attached"
-    shell.say(f"{what}; `help` lists the words, Tab completes, Ctrl-D ends")
+    what = [shell.source.path] if shell.source else []
+    what = what or ["the built-in application"] if shell.target.is_own else ["attached", *what]
+    shell.say(f"{', '.join(what)}; `help` lists the words, Tab completes, Ctrl-D ends")
     if shell.notices.is_room:
         shell.say("`# who`, `# say TEXT` and `# wheel` are for the room")
     if shell.target.application is None:
@@ -162,17 +161,16 @@ def filter_lines(shell: "Shell", begins: bool) -> None:
     """Does each line of standard input; a room is heard between them. It begins as `talk` does."""
     if begins:
         sourcing.begin(shell)
-        if shell.is_done:
-            return
     read = sys.stdin.buffer.readline
     if shell.notices.is_room:
         number = sys.stdin.fileno()
         lines = Incoming(number, functools.partial(os.read, number))
         read = functools.partial(next_line, shell, lines)
-    for line in iter(read, b""):
-        shell.line(line.decode("utf-8", "replace"))
-        if shell.is_done:
+    while not shell.is_done:
+        line = read()
+        if not line:
             return
+        shell.line(line.decode("utf-8", "replace"))
 
 
 def next_line(shell: "Shell", lines: Incoming) -> bytes:

@@ -68,8 +68,7 @@ def tick(shell: "Shell", words: Sequence[str]) -> None:
 
 def tell_ticks(shell: "Shell", first: int, last: int) -> None:
     """Says which of these ticks woke or turned somebody."""
-    names = Names(shell.target.names.tasks)
-    found = trail.moves(shell.walk, first, last, names, shell.progress)[0]
+    found = trail.moves(shell.walk, first, last, Names(shell.target.names.tasks), shell.progress)[0]
     told = [move for move in found if move.effects]
     if len(told) > ROWS:
         shell.say(f".. {len(told) - ROWS} ticks that did something before these")
