@@ -69,10 +69,8 @@ def put(runs: List[Run], run: Run) -> None:
 def carry(runs: List[Run], others: List[Run], count: int) -> None:
     """Takes so many moves off the end of one list, and puts them at the end of another."""
     while count > 0:
-        last = runs[-1]
+        last = runs.pop()
         taken = min(count, last.count)
-        last.count -= taken
-        if not last.count:
-            runs.pop()
         put(others, Run(last.line, taken))
+        runs += [Run(last.line, last.count - taken)] if taken < last.count else []
         count -= taken

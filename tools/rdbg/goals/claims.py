@@ -27,12 +27,12 @@ class Goal:
     @property
     def text(self) -> str:
         """It in words, with a number for each name of one."""
-        return self.form.format(self)
+        return self.asked(None) or ""
 
-    def asked(self, tasks: Sequence[str]) -> Optional[str]:
+    def asked(self, tasks: Optional[Sequence[str]]) -> Optional[str]:
         """It as the program that searches has it, of an application of these tasks; none where it
-        has no words for it."""
-        return self.text
+        has no words for it. Without tasks it is in words of rdbg's own."""
+        return self.form.format(self)
 
     def claims(self) -> Iterator["Goal"]:
         """The claims that it joins."""
@@ -179,13 +179,10 @@ class Waits(OfTask):
     place: str = ""
     is_endless: bool = False
 
-    @property
-    def text(self) -> str:
-        first = "sleeps" if self.is_endless else "waits"
-        return f"{first} {self.task} {self.words}".rstrip()
-
-    def asked(self, tasks: Sequence[str]) -> Optional[str]:
-        return None if self.is_endless else self.text
+    def asked(self, tasks: Optional[Sequence[str]]) -> Optional[str]:
+        if self.is_endless and tasks is not None:
+            return None
+        return f"{'sleeps' if self.is_endless else 'waits'} {self.task} {self.words}".rstrip()
 
     def is_so(self, look: Look) -> bool:
         phase = look.tasks[self.task].phase
@@ -267,19 +264,15 @@ class Stuck(OfAll):
 
     is_asleep: bool = False
 
-    @property
-    def text(self) -> str:
-        return "asleep" if self.is_asleep else "stuck"
-
     @staticmethod
     def _waiting(look: Look, is_timed: bool = False) -> List[Task]:
         """The tasks that wait, or those of them that have a deadline."""
         found = (it for it in look.tasks.values() if it.phase.word == "wait")
         return [it for it in found if not is_timed or it.phase.deadline is not None]
 
-    def asked(self, tasks: Sequence[str]) -> str:
-        if self.is_asleep:
-            return self.text
+    def asked(self, tasks: Optional[Sequence[str]]) -> str:
+        if self.is_asleep or tasks is None:
+            return "asleep" if self.is_asleep else "stuck"
         over = " and ".join(f"(ended {name} or failed {name})" for name in tasks)
         return f"(asleep or {over})"
 
@@ -305,11 +298,7 @@ class Not(Goal):
 
     goal: Goal
 
-    @property
-    def text(self) -> str:
-        return f"not {enclosed(self.goal, self.goal.text)}"
-
-    def asked(self, tasks: Sequence[str]) -> Optional[str]:
+    def asked(self, tasks: Optional[Sequence[str]]) -> Optional[str]:
         asked = self.goal.asked(tasks)
         return None if asked is None else f"not {enclosed(self.goal, asked)}"
 
@@ -338,12 +327,7 @@ class Joined(Goal):
     def is_lasting(self) -> bool:
         return self.one.is_lasting and self.other.is_lasting
 
-    @property
-    def text(self) -> str:
-        one, other = (enclosed(it, it.text, self.word) for it in (self.one, self.other))
-        return f"{one} {self.word} {other}"
-
-    def asked(self, tasks: Sequence[str]) -> Optional[str]:
+    def asked(self, tasks: Optional[Sequence[str]]) -> Optional[str]:
         pairs = [(it, it.asked(tasks)) for it in (self.one, self.other)]
         asked = [enclosed(it, text, self.word) for it, text in pairs if text is not None]
         return f" {self.word} ".join(asked) if len(asked) == len(pairs) else None

@@ -26,9 +26,8 @@ def put(shell: "Shell", words: Sequence[str]) -> None:
     if not words:
         shell.say(f"moves {on_off[shell.shows_moves]}, echo {on_off[shell.shows_lines]}")
     elif len(words) != 2 or words[0] not in SETTINGS or words[1] not in on_off:
-        raise Unable(
-            "`set moves on|off` says what each move did, `set echo on|off` shows each line"
-        )
+        echo = "`set echo on|off` shows each line"
+        raise Unable(f"`set moves on|off` says what each move did, {echo}")
     elif words[0] == "moves":
         shell.shows_moves = words[1] == "on"
     else:

@@ -68,9 +68,8 @@ def no_task(shell: "Shell", line: str) -> str:
         return "the core is idle: `show cores`"
     look = shell.look()
     running = [f"{name} on core {core}" for core, name in enumerate(look.cores.running) if name]
-    waiting = [
-        f"{it.name} waits at {it.phase.place}" for it in look.tasks.values() if it.phase.place
-    ]
+    places = [(it.name, it.phase.place) for it in look.tasks.values() if it.phase.place]
+    waiting = [f"{name} waits at {place}" for name, place in places]
     there = ", ".join([*running, *waiting]) or "all have ended"
     return f"the core is idle: {there}" + ("" if running else "; `tick` lets time pass")
 

@@ -122,9 +122,10 @@ class Lines:
 
 def greet(shell: "Shell") -> None:
     """Says what there is, and how to go on."""
-    what = [shell.source.path] if shell.source else []
-    what = what or ["the built-in application"] if shell.target.is_own else ["attached", *what]
-    shell.say(f"{', '.join(what)}; `help` lists the words, Tab completes, Ctrl-D ends")
+    what = shell.source.path if shell.source else "the built-in application"
+    if not shell.target.is_own:
+        what = f"attached, {what}" if shell.source else "attached"
+    shell.say(f"{what}; `help` lists the words, Tab completes, Ctrl-D ends")
     if shell.notices.is_room:
         shell.say("`# who`, `# say TEXT` and `# wheel` are for the room")
     if shell.target.application is None:

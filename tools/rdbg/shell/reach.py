@@ -59,10 +59,9 @@ def asks(question: Question) -> Callable[["Shell", Sequence[str]], None]:
 def again(shell: "Shell", words: Sequence[str]) -> None:
     """`again`: the file is read anew, and asked for the same goal."""
     before = shell.reached
+    what = "what `reach`, `lost` or `doomed`"
     if words or before is None:
-        raise Unable(
-            "`again` asks what `reach`, `lost` or `doomed` asked last, of the file as it is now"
-        )
+        raise Unable(f"`again` asks {what} asked last, of the file as it is now")
     replay.reload(shell, [])
     lines = replay.lines_of(shell)
     place = before.place if len(lines) >= before.place else 0
@@ -125,12 +124,10 @@ def say(
 def play(shell: "Shell", words: Sequence[str]) -> None:
     """`play`: makes the moves of the order that was answered."""
     order = shell.order
+    which = "that `reach`, `lost` or `doomed` answered"
     if words or order is None or not order.lines:
-        raise Unable(
-            "`play` makes the moves of the order that `reach`, `lost` or `doomed` answered"
-        )
-    here = shell.target.places().done
-    if here != order.place:
+        raise Unable(f"`play` makes the moves of the order {which}")
+    if shell.target.places().done != order.place:
         raise Unable(f"the order begins at {order.place}: `goto {order.place}`, then `play`")
     with shell.wheel():
         start = shell.target.places().done

@@ -180,9 +180,8 @@ def replayed(shell: "Shell", source: Source, limits: Limits) -> None:
         raise Unable(f"the first {shell.target.base} moves were trimmed, and can't be made again")
     # (who was woken and moved is seen from tasks alone; of very many moves only who ran on which
     # core is laid side by side)
-    names = Names(shell.target.names.tasks)
-    if not shell.target.can_afford(trail.lines_for(done, names)):
-        names = Names()
+    tasks = Names(shell.target.names.tasks)
+    names = tasks if shell.target.can_afford(trail.lines_for(done, tasks)) else Names()
     old = trail.moves(shell.walk, 1, done, names, shell.progress)[0] if done else []
     same = count_same(shell, source, limits, old, names)
     with staying():
@@ -191,25 +190,20 @@ def replayed(shell: "Shell", source: Source, limits: Limits) -> None:
         watches(shell, target)
         for answer in in_chunks(shell, target, [move.line for move in old[:same]], "made again"):
             read(answer)
-        difference = first_difference(shell, target, old[same:])
+        left = old[same:]
+        was, now = first_difference(shell, target, left[0]) if left else ("", "")
     shell.target.session.close()
     shell.take(target, source)
-    if difference is None:
+    if not left:
         shell.say(f"all {done} moves are the same on {source.path}, at {target.place}")
         return
-    was, now = difference
     shell.say(f"{target.place} of {done} moves are the same on {source.path}; the next one")
-    shell.say(f"  was  {was}")
-    shell.say(f"  is   {now}")
+    shell.say(f"  was  {was}\n  is   {now}")
 
 
-@contextlib.contextmanager
-def staying() -> Iterator[None]:
+def staying() -> "contextlib.AbstractContextManager[None]":
     """As long as something is read or begun anew; `Unable` says that the target stays as it is."""
-    try:
-        yield
-    except Failure as failure:
-        raise Unable(f"{failure}; the target stays as it is") from None
+    return turned(lambda why: Unable(f"{why}; the target stays as it is"), Failure)
 
 
 def count_same(
@@ -224,8 +218,7 @@ def count_same(
         before, same = target.look(looked), 0
         for at in range(0, len(old), trail.CHUNK):
             shell.interrupt.check()
-            moves_here = old[at : at + trail.CHUNK]
-            for move, answer, after in trail.made(target, moves_here, looked):
+            for move, answer, after in trail.made(target, old[at : at + trail.CHUNK], looked):
                 if answer.startswith("no "):
                     return same
                 if outcome(trail.between(target, before, after)) != outcome(move):
@@ -235,18 +228,13 @@ def count_same(
     return same
 
 
-def first_difference(
-    shell: "Shell", target: Target, left: Sequence[Move]
-) -> Optional[Tuple[str, str]]:
-    """What the first of these moves was, and what it is on a target that is at it; none where none
-    is left. Stays before it; `redo 1` makes it then."""
-    if not left:
-        return None
-    was = trail.moves(shell.walk, left[0].place, left[0].place)[0][0]
+def first_difference(shell: "Shell", target: Target, move: Move) -> Tuple[str, str]:
+    """What a move was, and is on a target that is at it. Stays before it; `redo 1` makes it then."""
+    was = trail.moves(shell.walk, move.place, move.place)[0][0]
     before, place = target.look(), target.place
-    answer = target.tell(left[0].line)
+    answer = target.tell(move.line)
     if answer.startswith("no "):
-        return was.row(), f"{left[0].line}: {answer}"
+        return was.row(), f"{move.line}: {answer}"
     now = trail.between(target, before, target.look())
     target.ask(f"back {target.place - place}", replies.Moved)
     return was.row(), now.row()
@@ -254,9 +242,7 @@ def first_difference(
 
 def outcome(move: Move) -> Tuple[object, ...]:
     """What makes two moves the same: who did which instruction with which objects, what it was
-    answered, who was woken, and who left or took which core. Its numbers, registers and bytes may
-    differ.
-    """
+    answered, who was woken, left or took which core; not its numbers, registers and bytes."""
     words = (move.instruction or "").split()
     names = words[:1] + [it for it in words[1:] if words[0] != BYTES and not VALUE.fullmatch(it)]
     kinds = ("woke", "given", "time up", "left", "took", "turns")
@@ -271,17 +257,13 @@ def outcome(move: Move) -> Tuple[object, ...]:
 
 def watches(shell: "Shell", target: Target) -> None:
     """Makes the same watches, under the same numbers, where their names are still there."""
-    old = shell.target.watches
-    made: List[int] = []
-    for number in range(max(old, default=-1) + 1):
-        text = old.get(number, "")
+    old = dict(shell.target.watches)
+    numbers = range(max(old, default=-1) + 1)
+    for number in numbers:
         try:
-            target.ask(f"watch {text or 'tick = 0'}", replies.WatchDone)
+            target.ask(f"watch {old.get(number, 'tick = 0')}", replies.WatchDone)
         except Refused as refused:
-            shell.say(f"watch {number}, {text}, is dropped: no {refused}")
-            text = ""
+            shell.say(f"watch {number}, {old.pop(number, '')}, is dropped: no {refused}")
             target.ask("watch tick = 0", replies.WatchDone)
-        if not text:
-            made.append(number)
-    for number in made:
+    for number in sorted({*numbers} - {*old}):
         target.ask(f"unwatch {number}", replies.WatchDone)

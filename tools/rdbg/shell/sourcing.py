@@ -63,7 +63,6 @@ def own(path: str) -> bytes:
             there = os.fstat(number)
             is_own = there.st_uid == os.geteuid() and not there.st_mode & stat.S_IWOTH
             if not is_own or not stat.S_ISREG(there.st_mode):
-                raise Failure(
-                    f"{path} isn't read: it is to be a file of yours that not all may write"
-                )
+                why = "it is to be a file of yours that not all may write"
+                raise Failure(f"{path} isn't read: {why}")
             return file.read()

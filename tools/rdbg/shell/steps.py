@@ -54,9 +54,8 @@ def tick(shell: "Shell", words: Sequence[str]) -> None:
         reply, left = "", int(words[0])
         while left and not reply.startswith("no "):
             shell.interrupt.check()
-            answers = shell.target.tell_all(["tick"] * min(left, TICKS))
-            left -= len(answers)
-            reply = answers[-1]
+            *others, reply = shell.target.tell_all(["tick"] * min(left, TICKS))
+            left -= len(others) + 1
         here = shell.target.place
         shell.answer(reply)
         shell.hint_on("tick", reply)
@@ -94,22 +93,20 @@ def why_on_none(shell: "Shell", it: replies.Task) -> str:
     """Why a task is on no core, and who is."""
     pairs = enumerate(shell.target.ask("show cores", replies.Cores).running)
     busy = [f"{name} on core {core}" for core, name in pairs if name]
-    running = ", ".join(busy) or "no core is busy"
-    if it.phase.word in ("run", "again", "given"):
-        return f"it is ready; {running}"
-    if it.phase.word == "wait":
-        return f"it {phase_text(it)}; {running}"
-    return f"it has {phase_text(it)}"
+    if it.phase.word in ("ended", "failed"):
+        return f"it has {phase_text(it)}"
+    why = phase_text(it) if it.phase.word == "wait" else "is ready"
+    return f"it {why}; {', '.join(busy) or 'no core is busy'}"
 
 
 def forward(shell: "Shell", words: Sequence[str]) -> None:
     """`s [COUNT]`: moves of a run's choice; `s TASK` is `step TASK`."""
     if words and words[0] in shell.target.names.tasks:
         step(shell, words)
-        return
-    if len(words) > 1 or not all(commands.is_count(word) for word in words):
+    elif words[1:] or not all(map(commands.is_count, words)):
         raise Unable("`s` is a move as a run chooses it, `s 5` five; `step worker` is a task's own")
-    shell.command(" ".join(["forward", *(words or ["1"])]))
+    else:
+        shell.command(" ".join(["forward", *(words or ["1"])]))
 
 
 def back(shell: "Shell", words: Sequence[str]) -> None:
@@ -133,8 +130,8 @@ def goto(shell: "Shell", words: Sequence[str]) -> None:
         raise Unable(shell.target.trimmed(place))
     if place == there.done:
         shell.say(f"at {place} already")
-        return
-    shell.command(record.way(there.done, place))
+    else:
+        shell.command(record.way(there.done, place))
 
 
 def break_at(shell: "Shell", words: Sequence[str]) -> None:
@@ -169,21 +166,19 @@ def check_goal(shell: "Shell", words: Sequence[str]) -> None:
 
 def put_break(shell: "Shell", words: Sequence[str]) -> None:
     """A watch at `TASK PC`, or of a condition."""
-    is_made = False
-    parts = [part for word in words for part in word.split(":") if part]
+    if not words:
+        raise Unable("break where? `break worker 2`, or a condition, `break count jobs > 0`")
+    parts, condition = [part for word in words for part in word.split(":") if part], " ".join(words)
     if len(parts) == 2 and commands.is_name(parts[0]) and commands.is_number(parts[1]):
         check_instruction(shell, parts[0], int(parts[1]))
-        is_made = shell.command(f"watch pc {parts[0]} = {parts[1]}")
+        condition = f"pc {parts[0]} = {parts[1]}"
     elif len(parts) == 1 and parts[0] in shell.target.names.tasks:
         raise Unable(f"at which instruction? `list {parts[0]}` numbers them, `break {parts[0]} 2`")
-    elif words:
+    else:
         if not seek.is_rdbgs(words):
             check_goal(shell, words)
         seek.check_instructions(shell, conditions.read(words))
-        is_made = shell.command(f"watch {' '.join(words)}")
-    else:
-        raise Unable("break where? `break worker 2`, or a condition, `break count jobs > 0`")
-    if is_made and not shell.told_of_breaks:
+    if shell.command(f"watch {condition}") and not shell.told_of_breaks:
         shell.told_of_breaks = True
         shell.say("`continue` runs to where a watch becomes so, `rc` goes back to where one did")
 
