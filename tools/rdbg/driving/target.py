@@ -2,18 +2,7 @@
 import contextlib
 import dataclasses
 import functools
-from typing import (
-    Callable,
-    Dict,
-    Iterable,
-    Iterator,
-    List,
-    Optional,
-    Sequence,
-    Tuple,
-    Type,
-    TypeVar,
-)
+from typing import Callable, Dict, Iterable, Iterator, List, Optional, Tuple, Type, TypeVar
 
 from rdbg import commands, kinds, record, replies
 from rdbg.application import Application
@@ -241,7 +230,7 @@ class Target:
 
 def named_in(it: replies.Reply) -> Names:
     """The names that a reply says."""
-    tasks: Sequence[Optional[str]] = ()
+    tasks: Iterable[Optional[str]] = ()
     objects = [key_of(it)] if isinstance(it, OBJECTS) else []
     if isinstance(it, replies.Cores):
         tasks = (*it.running, *it.ready)

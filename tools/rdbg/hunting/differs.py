@@ -14,10 +14,9 @@ from typing import Dict, Iterator, List, Optional, Sequence, Set, Tuple
 
 from rdbg.driving.target import read
 from rdbg.goals.ways import To
-from rdbg.hunting.ends import claims
 from rdbg.hunting.goals import STUCK, is_stuck
 from rdbg.hunting.orders import FORWARD, TICK, Order, choice
-from rdbg.hunting.search import STOPS, Search
+from rdbg.hunting.search import STOPS, Search, claims
 from rdbg.hunting.stage import Find, Stage
 from rdbg.reaching.said import Answer, Bound, Kind
 from rdbg.replies import Cores

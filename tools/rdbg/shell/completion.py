@@ -4,7 +4,7 @@ from typing import TYPE_CHECKING, Dict, Iterable, List, Sequence
 
 from rdbg import commands, kinds
 from rdbg.goals import reading, sought
-from rdbg.shell import basics, glossary, seek, views, words
+from rdbg.shell import glossary, seek, views, words
 
 if TYPE_CHECKING:
     from rdbg.shell.shell import Shell
@@ -73,7 +73,7 @@ def of_symbol(shell: "Shell", symbol: str, begun: str) -> List[str]:
         "OBJECT": objects,
         "PART": [*tasks, *views.REGISTERS, *views.FIELDS, *objects],
         "INFO": [*tasks, *views.INFO_WORDS, *objects],
-        "HELP": [*forms, *words.BY_NAME, "history", *basics.SETTINGS, *glossary.WORDS],
+        "HELP": [*forms, *words.BY_NAME, "history", *words.SETTINGS, *glossary.WORDS],
     }
     if symbol == "FILE":
         return glob.glob(f"{glob.escape(begun)}*")

@@ -4,13 +4,15 @@ import functools
 from typing import TYPE_CHECKING, Callable, Dict, Optional, Sequence, Tuple
 
 from rdbg import commands
+from rdbg.driving.target import Unable
 from rdbg.reaching import asking
-from rdbg.shell import basics, paces, reach, replay, seek, sourcing, steps, views
+from rdbg.shell import glossary, paces, reach, replay, seek, sourcing, steps, views
 from rdbg.wording import rows
 
 if TYPE_CHECKING:
     from rdbg.shell.shell import Shell
 
+SETTINGS = ("moves", "echo")
 Do = Callable[["Shell", Sequence[str]], None]
 
 
@@ -98,6 +100,25 @@ def word(run: Do, row: str, more: str = "") -> Word:
     return Word(form, does, run, short, behind, more)
 
 
+def leave(shell: "Shell", words: Sequence[str]) -> None:
+    """`quit`."""
+    shell.is_done = True
+
+
+def put(shell: "Shell", words: Sequence[str]) -> None:
+    """`set moves|echo on|off`."""
+    on_off = ("off", "on")
+    if not words:
+        shell.say(f"moves {on_off[shell.shows_moves]}, echo {on_off[shell.shows_lines]}")
+    elif len(words) != 2 or words[0] not in SETTINGS or words[1] not in on_off:
+        echo = "`set echo on|off` shows each line"
+        raise Unable(f"`set moves on|off` says what each move did, {echo}")
+    elif words[0] == "moves":
+        shell.shows_moves = words[1] == "on"
+    else:
+        shell.shows_lines = words[1] == "on"
+
+
 WORDS: Tuple[Word, ...] = (
     word(views.where, "where | each core's task, its instruction and line | w"),
     word(
@@ -168,11 +189,11 @@ WORDS: Tuple[Word, ...] = (
     word(reach.play, "play | the moves of the order that was answered last"),
     word(reach.again, "again | reload, and what was asked last", AGAIN),
     word(
-        basics.put,
+        put,
         "set moves|echo on|off | say what moves did; show lines to rdbg | | moves|echo on|off",
     ),
-    word(basics.help_on, "help [WORD] | this, or more on a word | h ? | HELP"),
-    word(basics.leave, "quit | ends, as Ctrl-D does | q exit"),
+    word(glossary.help_on, "help [WORD] | this, or more on a word | h ? | HELP"),
+    word(leave, "quit | ends, as Ctrl-D does | q exit"),
 )
 BACK = Word("back until GOAL", "as rc", seek.back_until)
 SHOW = Word("show NAME", "what rdbg shows of it", views.show)
@@ -194,7 +215,7 @@ def find(shell: "Shell", words: Sequence[str]) -> Optional[Word]:
         "until": lambda: seek.is_rdbgs(words[1:]) or seek.is_goal(words[1:], shell.scope()),
         "back": lambda: second == "until!"
         or (second == "until" and seek.is_goal(words[2:], shell.scope())),
-        "set": lambda: len(words) == 1 or second in basics.SETTINGS,
+        "set": lambda: len(words) == 1 or second in SETTINGS,
     }
     if first in is_own and not is_own[first]():
         return None
