@@ -1,6 +1,6 @@
 """Runs at a pace: made of `step` and `tick`, and of interrupts that come by themselves."""
 import dataclasses
-from typing import Dict, Optional, Sequence, Tuple
+from typing import Dict, Mapping, Optional, Sequence, Tuple
 
 from rdbg import replies
 from rdbg.application import ANY, Interrupt
@@ -32,7 +32,7 @@ class State:
     one that has begun still has, and whether a tick has passed since they were last looked at."""
 
     clock: Clock = Clock()
-    came: Tuple[Tuple[str, Came], ...] = ()
+    came: Mapping[str, Came] = dataclasses.field(default_factory=dict)
     left: Tuple[str, ...] = ()
     is_new_tick: bool = False
 
@@ -84,15 +84,14 @@ class PacedWalk(Walk):
     def _with_interrupt(self, state: State, tick: int) -> State:
         """The state with the lines of the first interrupt that may come now. Where none may, none
         is looked for until the next tick."""
-        came = dict(state.came)
         for it in self.interrupts:
-            before = came.get(it.name, Came())
+            before = state.came.get(it.name, Came())
             is_left = it.times == ANY or before.times < it.times
             is_apart = not before.times or tick >= before.tick + max(1, it.apart)
-            other = came.get(it.after, Came()) if it.after else None
+            other = state.came.get(it.after, Came()) if it.after else None
             if is_left and is_apart and (other is None or before.times < other.times):
-                came[it.name] = Came(before.times + 1, tick)
-                return dataclasses.replace(state, came=tuple(came.items()), left=it.lines())
+                came = {**state.came, it.name: Came(before.times + 1, tick)}
+                return dataclasses.replace(state, came=came, left=it.lines())
         return dataclasses.replace(state, is_new_tick=False)
 
     def _one(self) -> bool:

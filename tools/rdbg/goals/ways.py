@@ -22,11 +22,10 @@ FIRST_CHUNK, MOST_CHUNK = 8, 256
 NEAR, TURNS = 8, 4
 # The first of several goals is looked for within so many moves, and then within so many times more.
 FIRST_WINDOW, WIDER = 64, 8
+Place = Optional[int]
 
 
-def first_of(
-    walk: Walk, finds: Sequence[Callable[[int], Optional[int]]], limit: int
-) -> Tuple[Optional[int], int]:
+def first_of(walk: Walk, finds: Sequence[Callable[[int], Place]], limit: int) -> Tuple[Place, int]:
     """The first place of so many moves that one of these finds, and which. Stays where it is."""
     start, left, which = walk.place, limit, -1
     found: Optional[int] = None
@@ -40,7 +39,7 @@ def first_of(
     return found, which
 
 
-def last_of(walk: Walk, finds: Sequence[Callable[[], Optional[int]]]) -> Tuple[Optional[int], int]:
+def last_of(walk: Walk, finds: Sequence[Callable[[], Place]]) -> Tuple[Place, int]:
     """The last earlier place that one of these finds, and which. Stays where it is."""
     start, which = walk.place, -1
     found: Optional[int] = None
@@ -85,9 +84,7 @@ def looked(
         yield start + (step + 1 if is_later else -step - 1), [read(each) for each in seen]
 
 
-def otherwise(
-    walk: Walk, end: int, view: str, of: Callable[[replies.Reply], object]
-) -> Optional[int]:
+def otherwise(walk: Walk, end: int, view: str, of: Callable[[replies.Reply], object]) -> Place:
     """The first place up or back to one where a line doesn't show what it does here."""
     here, chunk = of(read(walk.target.tell(view))), FIRST_CHUNK
     while True:

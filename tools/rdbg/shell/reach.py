@@ -93,9 +93,7 @@ def asked(
     return answer, more
 
 
-def say(
-    shell: "Shell", question: Question, answer: Answer, more: Sequence[str], place: int
-) -> None:
+def say(shell: "Shell", question: Question, answer: Answer, more: List[str], place: int) -> None:
     """Says an answer, and the order in it, which begins at a place; of a goal that was lost, by
     which move, and the order begins before that. `more` is said behind it."""
     shell.say(answer.head())

@@ -383,8 +383,7 @@ def info(shell: "Shell", words: Sequence[str]) -> None:
         TABLES[word](shell)
     elif word == "registers":
         shell.say("\n".join(values(shell, [*REGISTERS, *words[1:]])))
-    elif word == "line":
-        where(shell, [])
+
     elif kind and len(words) == 2:
         shell.say("\n".join(about(shell, words[1], kind)))
     elif kind:
@@ -399,7 +398,7 @@ TABLES: Dict[str, Callable[["Shell"], None]] = {
     **dict.fromkeys(("tasks", "threads"), tasks),
     **dict.fromkeys(("objects", kinds.QUEUE.key), objects),
     **dict.fromkeys(("watches", "break", "breakpoints", "watchpoints"), watches),
-    "cores": lambda shell: where(shell, []),
+    **dict.fromkeys(("cores", "line"), lambda shell: where(shell, [])),
     "history": history,
 }
 INFO_WORDS = ("tasks", "objects", "watches", "history", "registers")
