@@ -5,7 +5,7 @@ is to end it has made a move. The program's `forward` makes one instruction of e
 tick; a run at a pace makes more, by lines `step` and `tick`."""
 import dataclasses
 import re
-from typing import Mapping, Optional, Sequence, Tuple
+from typing import Mapping, NamedTuple, Optional, Sequence, Tuple
 
 from rdbg.replies import Cores
 
@@ -15,8 +15,7 @@ NONE = "none"
 IS = f"a pace is M..N, M.. or ..N, where M is 0 to {MOST} and N is 1 to {MOST}, and at least M"
 
 
-@dataclasses.dataclass(frozen=True)
-class TickPace:
+class TickPace(NamedTuple):
     """Each busy core makes so many moves between two ticks, at least and (if bounded) at most."""
 
     least: int

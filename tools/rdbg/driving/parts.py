@@ -1,6 +1,5 @@
 """Moves that were made, with the look behind each."""
-import dataclasses
-from typing import List, Optional, Sequence, Tuple
+from typing import List, NamedTuple, Optional, Sequence, Tuple
 
 from rdbg import commands
 from rdbg.driving import trail
@@ -16,24 +15,21 @@ from rdbg.looks import Look
 AT_A_PORT = 1_000
 
 
-@dataclasses.dataclass(frozen=True)
-class Told:
+class Told(NamedTuple):
     """A line that was accepted and is no view, and how many moves were done behind it."""
 
     text: str
     place: int
 
 
-@dataclasses.dataclass(frozen=True)
-class Trim:
+class Trim(NamedTuple):
     """A trim that was made, and how many moves were done then."""
 
     place: int
     line: str
 
 
-@dataclasses.dataclass(frozen=True)
-class Part:
+class Part(NamedTuple):
     """Moves in order, the look before the first of them, and the look behind each."""
 
     before: Look

@@ -1,10 +1,9 @@
 """Numbers and truths that are computed of what there is: amounts in the words of conditions, `count
 jobs + 1`, and short, `jobs.count`, `worker.r0`, joined by the operators of C, of which those that
 compare bind least. Numbers are whole, of any size."""
-import dataclasses
 import operator
 import re
-from typing import Callable, Dict, List, Sequence, Tuple
+from typing import Callable, Dict, List, NamedTuple, Sequence, Tuple
 
 from rdbg import kinds
 from rdbg.goals import claims, reading
@@ -73,8 +72,7 @@ def joined(join: Callable[[int, int], int], one: Number, other: Number) -> Numbe
     return lambda look: join(one(look), other(look))
 
 
-@dataclasses.dataclass(frozen=True)
-class Expression:
+class Expression(NamedTuple):
     """An expression: what it is about, and what it says at a look: a number, or whether a goal or a
     comparison holds. That raises `Undefined` where it has none there."""
 

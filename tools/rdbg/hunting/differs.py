@@ -6,10 +6,9 @@ differs behind which one of them can't come to rest as it does there any more, w
 
 Interrupts come to `forward`'s own order where nothing else is left to do, each as often as it may;
 so that one came is no difference by itself."""
-import dataclasses
 import itertools
 import re
-from typing import Dict, Iterator, List, Optional, Sequence, Set, Tuple
+from typing import Dict, Iterator, List, NamedTuple, Optional, Sequence, Set, Tuple
 
 
 from rdbg.driving.target import read
@@ -31,8 +30,7 @@ TIMES = re.compile(r"((?:wait:\w+:\w+|again):)(\d+)\b")
 AWAKE = ("run", "again", "given")
 
 
-@dataclasses.dataclass(frozen=True)
-class Own:
+class Own(NamedTuple):
     """`forward`'s own order, what it comes to in each way in which interrupts come at its end, and
     the tasks that are at rest there, where not all is."""
 
@@ -41,8 +39,7 @@ class Own:
     resting: Tuple[str, ...]
 
 
-@dataclasses.dataclass(frozen=True)
-class Difference:
+class Difference(NamedTuple):
     """An order that differs, and the tasks that are compared; none: all is."""
 
     find: Find

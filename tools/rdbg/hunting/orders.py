@@ -3,7 +3,7 @@
 A surprise is a move that `forward` wouldn't make next, where the moves of one core in a row, all
 ahead of it, count as one; an interrupt is one, whatever it calls."""
 import dataclasses
-from typing import List, Optional, Sequence, Tuple
+from typing import List, NamedTuple, Optional, Sequence, Tuple
 
 from rdbg.driving.target import Target, read
 from rdbg.failure import Failure
@@ -15,8 +15,7 @@ from rdbg.wording import counted
 TICK = "tick"
 
 
-@dataclasses.dataclass(frozen=True)
-class Order:
+class Order(NamedTuple):
     """An order, by the lines that make it from boot, and by those of its moves; what is told of it,
     the surprises; how many moves it has, an interrupt as one; and how many the program has made
     then, each call of an interrupt as one."""

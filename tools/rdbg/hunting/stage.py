@@ -1,6 +1,5 @@
 """A program of a hunt's own, in which what is found is made again, and looked at."""
-import dataclasses
-from typing import Callable, Iterator, List, Optional, Sequence, Tuple
+from typing import Callable, Iterator, List, NamedTuple, Optional, Sequence, Tuple
 
 from rdbg import commands
 from rdbg.driving.interrupt import Interrupt
@@ -20,8 +19,7 @@ MOST_ROWS = 60
 LEFT = 100_000
 
 
-@dataclasses.dataclass(frozen=True)
-class Find:
+class Find(NamedTuple):
     """An order, and what there is at its end, as a look and as the program's views."""
 
     order: Order

@@ -1,7 +1,6 @@
 """`reach`, `lost`, `doomed` and `again`: what can still come from here, and at which move it was
 lost, asked of the program that searches."""
-import dataclasses
-from typing import TYPE_CHECKING, Callable, List, Sequence, Tuple
+from typing import TYPE_CHECKING, Callable, List, NamedTuple, Sequence, Tuple
 
 from rdbg.driving import trail
 from rdbg.driving.target import Unable
@@ -19,8 +18,7 @@ if TYPE_CHECKING:
     from rdbg.shell.shell import Shell
 
 
-@dataclasses.dataclass(frozen=True)
-class Reached:
+class Reached(NamedTuple):
     """What was asked: of a goal, as it was typed, at a place; and what was answered."""
 
     question: Question
@@ -29,8 +27,7 @@ class Reached:
     said: str
 
 
-@dataclasses.dataclass(frozen=True)
-class Order:
+class Order(NamedTuple):
     """The lines of an order that was answered, and the place where it begins."""
 
     place: int
@@ -69,7 +66,7 @@ def again(shell: "Shell", words: Sequence[str]) -> None:
     where = f"from {place} on" if place else "from boot on"
     shell.say(f"{before.goal}, {where}: it was {before.said}, and is {answer.head()}")
     say(shell, before.question, answer, more, place)
-    shell.reached = dataclasses.replace(before, place=place, said=answer.head())
+    shell.reached = before._replace(place=place, said=answer.head())
 
 
 def asked(
