@@ -1,6 +1,6 @@
 """Runs at a pace: made of `step` and `tick`, and of interrupts that come by themselves."""
 import dataclasses
-from typing import Dict, Mapping, Optional, Sequence, Tuple
+from typing import Dict, Mapping, NamedTuple, Optional, Sequence, Tuple
 
 from rdbg import replies
 from rdbg.application import ANY, Interrupt
@@ -18,8 +18,7 @@ NEW = ("step", "tick", *BY_HAND, *RUNS)
 LINES = 4
 
 
-@dataclasses.dataclass(frozen=True)
-class Came:
+class Came(NamedTuple):
     """How often an interrupt has come, and at which tick last."""
 
     times: int = 0

@@ -1,6 +1,5 @@
 """Goals of a hunt: how the search is asked for one, and what shows that it is met."""
-import dataclasses
-from typing import List, Optional, Sequence
+from typing import List, NamedTuple, Optional, Sequence
 
 from rdbg.failure import of_words, turned
 from rdbg.files.source import Source
@@ -19,8 +18,7 @@ def is_stuck(look: Look) -> bool:
     return STUCK.is_so(look)
 
 
-@dataclasses.dataclass(frozen=True)
-class Goal:
+class Goal(NamedTuple):
     """A goal, as it is told, and as the program that searches is asked for it; what it says of a
     place, none of two orders; and whether it holds behind what is found."""
 

@@ -2,8 +2,7 @@
 
 A handler is its calls, one behind the other with nothing between them. It may come once at any
 place; who names it twice has it come up to twice."""
-import dataclasses
-from typing import List, Sequence, Tuple
+from typing import List, NamedTuple, Sequence, Tuple
 
 from rdbg import commands, kinds
 from rdbg.application import MOST_TIMES, NO_INTERRUPT, Application
@@ -17,8 +16,7 @@ PROFILE = 2
 FORMS = "send Q HEX, or notify K I N ACTION; more calls of one handler with ; between them"
 
 
-@dataclasses.dataclass(frozen=True)
-class Handler:
+class Handler(NamedTuple):
     """A handler, by the lines of its calls, how often it may come in one order, and when, as the
     program that searches has it, where a text says that. One that is endless comes any number of
     times where it is searched; where its times are counted one by one, so many."""

@@ -85,7 +85,7 @@ class Search:
     def interrupts(self, come: Sequence[Tuple[str, ...]] = ()) -> List[str]:
         """The lines that let those interrupts come that are left where these have come."""
         left = ((it, it.times - [*come].count(it.calls)) for it in self.stage.handlers)
-        return [dataclasses.replace(it, times=times).line() for it, times in left if times > 0]
+        return [it._replace(times=times).line() for it, times in left if times > 0]
 
     def ask(
         self,

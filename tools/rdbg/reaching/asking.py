@@ -1,5 +1,4 @@
 """Questions to the program that searches, each answered by one that is started for it."""
-import dataclasses
 import os
 import tempfile
 import time
@@ -70,8 +69,7 @@ def program() -> str:
     return os.environ.get(PROGRAM) or built_by_wrapper(NAME)
 
 
-@dataclasses.dataclass(frozen=True)
-class Asker:
+class Asker(NamedTuple):
     """An application's file, options of the program that is asked, and when the time is up."""
 
     file: str

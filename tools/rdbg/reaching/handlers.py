@@ -1,6 +1,5 @@
 """Interrupts as the search takes them: those of a text by name, others by their calls."""
-import dataclasses
-from typing import Container, Dict, List, Optional, Sequence, Tuple
+from typing import Container, Dict, List, NamedTuple, Optional, Sequence, Tuple
 
 from rdbg.application import ANY, NO_INTERRUPT, Application, Interrupt
 from rdbg.failure import Failure
@@ -10,8 +9,7 @@ OPTION, WORD, BETWEEN = "--isr", "isr", "; "
 TIMES, EVER, AFTER = "times", "any", "after"
 
 
-@dataclasses.dataclass(frozen=True)
-class Handler:
+class Handler(NamedTuple):
     """An interrupt that may come: its calls, as they are typed, and when it comes, by the names
     that the program's options have, of one that is given by name."""
 
