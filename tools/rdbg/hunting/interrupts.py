@@ -43,10 +43,9 @@ class Handler(NamedTuple):
 
 def handlers(texts: Sequence[str], application: Application) -> Tuple[Handler, ...]:
     """The handlers that are named, or all, with how often each may come. Raises `Failure`."""
-    if texts and [*texts] != [NO_INTERRUPT] and application.profile < PROFILE:
-        raise Failure(
-            f"NoIsr: {OPTION} needs profile {PROFILE}, and the file has {application.profile}", 2
-        )
+    profile = application.profile
+    if texts and [*texts] != [NO_INTERRUPT] and profile < PROFILE:
+        raise Failure(f"NoIsr: {OPTION} needs profile {PROFILE}, and the file has {profile}", 2)
     found: List[Handler] = []
     # (those that the text names stand first: `after` has their numbers, and others may be joined)
     in_order = sorted(texts, key=lambda it: application.interrupt(it.strip()) is None)

@@ -22,18 +22,13 @@ def candidates(shell: "Shell", before: Sequence[str], begun: str) -> List[str]:
 def symbols(before: Sequence[str]) -> List[str]:
     """What can stand behind these words."""
     found = commands.following(before) if before[0] in commands.WORDS else []
-    word = words.BY_NAME.get(before[0])
-    return found + (own(word, before[1:]) if word else [])
-
-
-def own(word: words.Word, behind: Sequence[str]) -> List[str]:
-    """What can stand behind a word of sh's own and the words behind it."""
-    first = word.behind[0] if word.behind else ""
+    behind, own = before[1:], words.BY_NAME.get(before[0])
+    first = own.behind[0] if own and own.behind else ""
     if first.startswith("GOAL"):
-        return goal(behind, first == "GOAL!")
+        return found + goal(behind, first == "GOAL!")
     if first == "BREAK":
-        return ["K", *condition(behind)] if not behind else condition(behind)
-    return list(word.behind[len(behind) : len(behind) + 1])
+        return found + ([] if behind else ["K"]) + condition(behind)
+    return [*found, *(own.behind[len(behind) : len(behind) + 1] if own else ())]
 
 
 def goal(behind: Sequence[str], with_conditions: bool) -> List[str]:

@@ -1,7 +1,7 @@
 """Words that go to a goal: `until`, `until!`, `rc`, `rc!` and `continue`."""
 import contextlib
 import textwrap
-from typing import TYPE_CHECKING, List, Optional, Sequence, Tuple
+from typing import TYPE_CHECKING, Iterator, Optional, Sequence, Tuple
 
 from rdbg import commands, record
 from rdbg.driving.interrupt import Interrupted
@@ -21,7 +21,6 @@ if TYPE_CHECKING:
     from rdbg.shell.shell import Shell
 
 DEFAULT_COUNT = 10_000
-
 WIDTH = 96
 # A goal that is no condition begins with one of these.
 FIRST = (*reading.OF_TASKS, *reading.ALONE, *reading.OF_MOVES, reading.NOT, reading.OPEN)
@@ -83,9 +82,7 @@ def run_to(shell: "Shell", words: Sequence[str], becoming: bool = True) -> None:
 def forwards(shell: "Shell", goal: Way, count: int) -> None:
     """Goes to the first place where a goal is met, or makes so many moves."""
     walk, lines = shell.walk, shell.target.lines
-    with shell.wheel():
-        learn_all(shell)
-        start = shell.target.places().done
+    with from_here(shell) as start:
         lasts = isinstance(goal, To) and goal.becoming and goal.goal.is_lasting
         already = lasts and goal.is_so(shell.target)
         if already or not can_change(shell, goal):
@@ -116,9 +113,7 @@ def forwards(shell: "Shell", goal: Way, count: int) -> None:
 def backwards(shell: "Shell", goal: Way) -> None:
     """Goes back to the last earlier place where a goal is met, or stays."""
     walk, lines = shell.walk, shell.target.lines
-    with shell.wheel():
-        learn_all(shell)
-        start = shell.target.places().done
+    with from_here(shell) as start:
         try:
             place = goal.last(walk)
             walk.goto(start if place is None else place)
@@ -225,15 +220,18 @@ def never_waits(shell: "Shell", name: str) -> bool:
     )
 
 
-def learn_all(shell: "Shell") -> None:
-    """Learns the tasks, where no file is known: at the start each is on a core or ready."""
-    if shell.target.application is not None or shell.knows_tasks:
-        return
-    here = shell.target.places().done
-    shell.walk.goto(shell.target.base)
-    shell.target.tell("show cores")
-    shell.walk.goto(here)
-    shell.knows_tasks = True
+@contextlib.contextmanager
+def from_here(shell: "Shell") -> Iterator[int]:
+    """As long as nobody else may move the target: the place where it is, and all tasks are known,
+    of which each is on a core or ready at the start."""
+    with shell.wheel():
+        if shell.target.application is None and not shell.knows_tasks:
+            here = shell.target.places().done
+            shell.walk.goto(shell.target.base)
+            shell.target.tell("show cores")
+            shell.walk.goto(here)
+            shell.knows_tasks = True
+        yield shell.target.places().done
 
 
 def until(shell: "Shell", words: Sequence[str]) -> None:

@@ -310,12 +310,10 @@ class Shell:
 
     def before(self, command: Optional[commands.Command]) -> Optional[Look]:
         """What to look at before a move, to say what it did."""
-        if command is None or not command.form.moves:
+        if command is None or not command.form.moves or self.notices.is_room:
             return None
         if self.target.is_own:
             return self._seen if self.shows_moves and self._is_known() else None
-        if self.notices.is_room:
-            return None
         is_single = command.form.word in SINGLE or command.count() == 1
         if not self.shows_moves or not is_single or command.form.word == record.BACK:
             if self.is_terminal or self.shows_moves:

@@ -1,7 +1,7 @@
 """The words of sh's own: one table, for what they do, for help and for Tab."""
-import dataclasses
+
 import functools
-from typing import TYPE_CHECKING, Callable, Dict, Optional, Sequence, Tuple
+from typing import TYPE_CHECKING, Callable, Dict, NamedTuple, Optional, Sequence, Tuple
 
 from rdbg import commands
 from rdbg.driving.target import Unable
@@ -16,8 +16,7 @@ SETTINGS = ("moves", "echo")
 Do = Callable[["Shell", Sequence[str]], None]
 
 
-@dataclasses.dataclass(frozen=True)
-class Word:
+class Word(NamedTuple):
     """A word of sh's own: its form, what it does, the words that are short for it, and what can
     stand behind it, for Tab (symbols as in rdbg's forms, `|` between words)."""
 
