@@ -33,14 +33,11 @@ def begin(source: Optional[Source], limits: Limits, named: str = "") -> Target:
     """A program of its own with an application as it was read, or the built-in one; another program
     than that of `./rdbg` where one is named. Raises `Failure` where it can't be started, or refuses
     the application."""
-    if source is None:
-        session = Session.run(None, limits.words(), named)
-        greet(session)
-        return Target(session, builtin(), limits)
-    with as_read(source) as path:
+    with contextlib.ExitStack() as kept:
+        path = kept.enter_context(as_read(source)) if source else None
         session = Session.run(path, limits.words(), named)
         greet(session)  # (once it has answered it has read the file)
-    return Target(session, source.application, limits)
+    return Target(session, source.application if source else builtin(), limits)
 
 
 @contextlib.contextmanager

@@ -22,7 +22,6 @@ RESERVE = 1_000
 # A look is taken anew so many times at the most.
 AGAIN = 5
 Value = TypeVar("Value")
-
 # Many looks have the same replies, and many lines are the same: each is read once.
 read = functools.lru_cache(maxsize=16_384)(replies.read)
 read_line = functools.lru_cache(maxsize=4_096)(commands.read)

@@ -191,9 +191,8 @@ class Waits(OfTask):
         return self.place in ("", phase.place)
 
     def turns(self, look: Look, earlier: bool) -> Turns:
-        if look.tasks[self.task].phase.word == "wait":
-            return self.others(look, earlier)
-        return [self.phase("wait")]
+        is_waiting = look.tasks[self.task].phase.word == "wait"
+        return self.others(look, earlier) if is_waiting else [self.phase("wait")]
 
 
 @dataclasses.dataclass(frozen=True)

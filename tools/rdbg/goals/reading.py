@@ -178,11 +178,11 @@ class Reader:
             return self._condition(word)
         if word in OF_MOVES:
             raise self._wanted(OF_A_MOVE)
-        if commands.is_watch(word) and int(word[1:]) in self.scope.watches:
-            condition = read_condition(self.scope.watches[int(word[1:])].split())
-            if condition is not None:
-                return claims.Holds(condition)
-        raise self._wanted(CLAIM)
+        text = self.scope.watches.get(int(word[1:]), "") if commands.is_watch(word) else ""
+        condition = read_condition(text.split())
+        if condition is None:
+            raise self._wanted(CLAIM)
+        return claims.Holds(condition)
 
     def _amount(self, word: str) -> Condition:
         """What stands before an operator."""

@@ -13,7 +13,6 @@ if TYPE_CHECKING:
     from rdbg.shell.shell import Shell
 
 WIDTH = 96
-
 PHASES: Dict[str, str] = {
     "run": "the task goes on with its next instruction, on a core or ready for one",
     "wait": "the task waits in a call: wait:PLACE:DEADLINE, as wait:recv:jobs:10, until tick 10 at"

@@ -162,8 +162,7 @@ def gave_up(shell: "Shell", ended: Exception, start: int) -> None:
 
 def said(shell: "Shell", goal: Way, how: str, start: int, lines: int) -> None:
     """Says where a goal was met, or that it wasn't, and how many lines that took."""
-    asked = shell.target.lines - lines
-    by = f"({counted(asked, 'line')} asked)"
+    by = f"({counted(shell.target.lines - lines, 'line')} asked)"
     here = shell.target.place
     none = f"'{goal.text}' wasn't met" if goal.text else "no watch, failed or stuck was met"
     if how == "met":

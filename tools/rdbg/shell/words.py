@@ -43,7 +43,6 @@ GOALS = (
     "`(22 lines asked)`: so many lines of rdbg's it took to find the place.\n"
     "A run goes one order of many: one that doesn't meet a goal says nothing of the others."
 )
-
 SAVE = (
     "`./rdbg run --app FILE < found.commands` comes to this place and state; a new program\n"
     "tries it at once. A file that is there and wasn't saved by this prompt stays: `save! FILE`\n"
@@ -63,7 +62,6 @@ RELOAD = (
     "makes that one. Watches are kept. Where the file is wrong, or after Ctrl-C, the target\n"
     "stays as it is."
 )
-
 QUESTION = (
     "GOAL is one of places, as of `until`; without one it is the goal before, of until, rc or\n"
     "such a question.\n"
@@ -75,7 +73,6 @@ AGAIN = (
     "`reach`, `lost` or `doomed` asked last is asked again, from the same place, or from boot\n"
     "where the moves up to it aren't the same any more."
 )
-
 EXPRESSIONS = (
     "EXPR is a part of a task (r0 to r7, pc, data, phase, notes), by itself of the tasks on the\n"
     "cores; a name; a goal, which holds or fails; or is computed: amounts as in conditions\n"
@@ -88,7 +85,6 @@ SOURCE = (
     ".rdbginit of your home and that of the application's folder are done so, where they are\n"
     "yours; they write no file. `--nx` leaves them out."
 )
-
 SAVE_ANEW = functools.partial(replay.save, is_anew=True)
 
 
