@@ -138,8 +138,7 @@ class Pieces:
     def tell(self, command: commands.Command, line: str) -> str:
         """The reply to a line that is one of rdbg's commands, as one line would have it. Raises
         `Interrupted` where Ctrl-C came between two pieces: the moves made until then are made."""
-        count = command.count()
-        word = command.form.word
+        count, word = command.count(), command.form.word
         self.is_again = False
         if count is None or count <= self.walk.pace.piece:
             return self.target.tell(line)
@@ -155,27 +154,24 @@ class Pieces:
         """A run; in one piece where moves were taken back that a run refused as a whole leaves."""
         limits = self.target.limits
         fits = limits is None or self.walk.place + count <= limits.moves
-        if not self.target.can_afford(2 * count // LEAST_PIECE) or (
-            command.form.word == "forward" and not fits
-        ):
+        is_whole = command.form.word == "forward" and not fits
+        if is_whole or not self.target.can_afford(2 * count // LEAST_PIECE):
             return self.target.tell(line)  # (which refuses it, or does it, as a whole)
-        try:
-            with self.target.wheel():
-                places = self.target.places()
-                is_sure = not places.undone
-                if places.undone and limits and fits:
-                    tick = self.target.ask("show cores", replies.Cores).tick
-                    is_sure = tick + count < commands.MOST_NUMBER
-                if not is_sure:
-                    return self.target.tell(line)
-                answers = self._in_pieces(command.words[:-1], count)
-                if answers[-1].startswith("no ") and len(answers) > 1:
-                    with contextlib.suppress(Refused):
-                        self.walk.goto(places.done)
-                        self.is_again = True
-                return answers[-1]
-        except Refused:
-            return self.target.tell(line)
+        with contextlib.suppress(Refused), self.target.wheel():
+            places = self.target.places()
+            is_sure = not places.undone
+            if places.undone and limits and fits:
+                tick = self.target.ask("show cores", replies.Cores).tick
+                is_sure = tick + count < commands.MOST_NUMBER
+            if not is_sure:
+                return self.target.tell(line)
+            answers = self._in_pieces(command.words[:-1], count)
+            if answers[-1].startswith("no ") and len(answers) > 1:
+                with contextlib.suppress(Refused):
+                    self.walk.goto(places.done)
+                    self.is_again = True
+            return answers[-1]
+        return self.target.tell(line)
 
     def _in_pieces(self, words: Sequence[str], count: int) -> List[str]:
         """The replies to the pieces of a line, up to the first that says an end."""
