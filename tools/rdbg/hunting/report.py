@@ -78,9 +78,8 @@ def not_come_to(answer: Answer, application: Application) -> Iterator[str]:
     """The instructions that no order came to, if there are any."""
     missed = [(application.task(name), numbers) for name, numbers in answer.missed]
     left = [f"{it.name} {pc}: {it.code[pc].told}" for it, numbers in missed if it for pc in numbers]
-    if not left:
-        return
-    yield f"no order came to {counted(len(left), 'instruction')}:"
+    if left:
+        yield f"no order came to {counted(len(left), 'instruction')}:"
     for at in range(0, min(len(left), MOST_NAMED), IN_A_LINE):
         yield f"  {'; '.join(left[at : at + IN_A_LINE])}"
     if len(left) > MOST_NAMED:

@@ -137,11 +137,9 @@ class Shell:
     def progress(self, made: int, of: int, done: str) -> None:
         """Shows at a terminal how far something long is: it stands in one line, and goes away."""
         now = time.monotonic()
-        if not self.is_terminal or now < self._shown + MOMENT:
-            return
-        self._shown = now
-        print(f"\r# {made} of {of} {done}\x1b[K\r", end="", flush=True)
-        self._is_showing = True
+        if self.is_terminal and now >= self._shown + MOMENT:
+            self._shown, self._is_showing = now, True
+            print(f"\r# {made} of {of} {done}\x1b[K\r", end="", flush=True)
 
     def _wipe(self) -> None:
         """Wipes what shows how far something is."""
@@ -196,11 +194,10 @@ class Shell:
             sys.stdout.flush()
             return
         stripped, words = parted(text)
-        if not words:
-            return
-        with self.notices.doing(stripped if is_typed else ""):
-            self.do(text)
-        sys.stdout.flush()
+        if words:
+            with self.notices.doing(stripped if is_typed else ""):
+                self.do(text)
+            sys.stdout.flush()
 
     def do(self, text: str) -> None:
         """Does a line, rdbg's as it is or a word of sh's, and says what is displayed behind it."""

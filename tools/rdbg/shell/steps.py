@@ -158,10 +158,9 @@ def break_once(shell: "Shell", words: Sequence[str]) -> None:
 
 def check_goal(shell: "Shell", words: Sequence[str]) -> None:
     """Raises `Unable` where words are no goal, with what would be right."""
-    if words[0] in reading.OF_MOVES:
-        return
-    with turned(Unable, NoGoal):
-        goal_words.read(words, shell.scope())
+    if words[0] not in reading.OF_MOVES:
+        with turned(Unable, NoGoal):
+            goal_words.read(words, shell.scope())
 
 
 def put_break(shell: "Shell", words: Sequence[str]) -> None:

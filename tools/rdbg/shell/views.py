@@ -342,9 +342,8 @@ def undisplay(shell: "Shell", words: Sequence[str]) -> None:
 
 def displayed(shell: "Shell", only: int = 0) -> None:
     """Says what is displayed, or one of it."""
-    for number, text in shell.displays.items():
-        if only not in (0, number):
-            continue
+    shown = {only: shell.displays[only]} if only else shell.displays
+    for number, text in shown.items():
         try:
             shell.target.afford(len(shell.target.names.lines()))
             lines = texts(shell, text.split())
