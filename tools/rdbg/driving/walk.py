@@ -42,7 +42,7 @@ class Walk:
     def __init__(self, target: Target, interrupt: Interrupt) -> None:
         self.target, self.interrupt = target, interrupt
         self.pace = Pace()
-        self.wall = ""
+        self.wall, self.is_again = "", False
 
     @property
     def place(self) -> int:
@@ -123,37 +123,28 @@ class Walk:
             self.goto(min(place - 1, self.place))
         self.reach(place)
 
-
-class Pieces:
-    """Long lines of rdbg, asked in pieces.
-
-    A run in pieces gives what one line would: where a later piece is refused, what the earlier ones
-    made is taken back, and the refusal is the answer. What then differs from one line is `is_again`
-    alone: that these moves can be made again."""
-
-    def __init__(self, walk: Walk) -> None:
-        self.walk, self.target = walk, walk.target
-        self.is_again = False
-
     def tell(self, command: commands.Command, line: str) -> str:
-        """The reply to a line that is one of rdbg's commands, as one line would have it. Raises
-        `Interrupted` where Ctrl-C came between two pieces: the moves made until then are made."""
+        """The reply to a line that is one of rdbg's commands, asked in pieces where it is long, as
+        one line would have it: where a later piece of a run is refused, what the earlier ones made
+        is taken back, and the refusal is the answer; `is_again` alone differs, that these moves can
+        be made again. Raises `Interrupted` where Ctrl-C came between two pieces: the moves made
+        until then are made."""
         count, word = command.count(), command.form.word
         self.is_again = False
-        if count is None or count <= self.walk.pace.piece:
+        if count is None or count <= self.pace.piece:
             return self.target.tell(line)
         if word in ("forward", "until"):
-            return self._run(command, count, line)
+            return self._run_as_one(command, count, line)
         places = self.target.places()
         there_are = places.kept if word == record.BACK else places.undone
         if not self.target.is_own or count > there_are:
             return self.target.tell(line)
         return self._in_pieces([word], count)[-1]
 
-    def _run(self, command: commands.Command, count: int, line: str) -> str:
+    def _run_as_one(self, command: commands.Command, count: int, line: str) -> str:
         """A run; in one piece where moves were taken back that a run refused as a whole leaves."""
         limits = self.target.limits
-        fits = limits is None or self.walk.place + count <= limits.moves
+        fits = limits is None or self.place + count <= limits.moves
         is_whole = command.form.word == "forward" and not fits
         if is_whole or not self.target.can_afford(2 * count // LEAST_PIECE):
             return self.target.tell(line)  # (which refuses it, or does it, as a whole)
@@ -168,7 +159,7 @@ class Pieces:
             answers = self._in_pieces(command.words[:-1], count)
             if answers[-1].startswith("no ") and len(answers) > 1:
                 with contextlib.suppress(Refused):
-                    self.walk.goto(places.done)
+                    self.goto(places.done)
                     self.is_again = True
             return answers[-1]
         return self.target.tell(line)
@@ -179,10 +170,10 @@ class Pieces:
         left = count
         while left:
             if answers:
-                self.walk.interrupt.check()
-            piece = self.walk.pace.begin(left)
+                self.interrupt.check()
+            piece = self.pace.begin(left)
             answers.append(self.target.tell(" ".join([*words, str(piece)])))
-            self.walk.pace.end(piece)
+            self.pace.end(piece)
             left -= piece
             if answers[-1].startswith("no ") or answers[-1].endswith(" met"):
                 break

@@ -62,9 +62,8 @@ class NoGoal(Failure):
         self, words: Sequence[str], at: Optional[int], wanted: str, more: str = ""
     ) -> None:
         self.words, self.at, self.wanted = words, at, wanted
-        where = "it ends too early: " if at is None else ""
-        if at is not None and at >= 0:
-            where = f"word {at + 1}, '{words[at]}': "
+        word = f"word {at + 1}, '{words[at]}': " if at is not None and at >= 0 else ""
+        where = "it ends too early: " if at is None else word
         super().__init__(f"{where}{wanted}{more}", 2)
 
 

@@ -15,7 +15,7 @@ from rdbg.driving import trail
 from rdbg.driving.interrupt import Interrupt, Interrupted
 from rdbg.driving.pacing import TickPace
 from rdbg.driving.target import SINGLE, Target, Unable, read
-from rdbg.driving.walk import Pieces, Walk
+from rdbg.driving.walk import Walk
 from rdbg.effects import LOCAL, Move
 from rdbg.failure import Failure
 from rdbg.files.source import Source, load
@@ -74,7 +74,7 @@ class Shell:
     def take(self, target: Target, source: Optional[Source]) -> None:
         """Goes on with this target and its file."""
         self.target, self.source = target, source
-        self.pieces = Pieces(Walk(target, self.interrupt))
+        self.pieces = Walk(target, self.interrupt)
         self.walk = self.walking(target)
         self.knows_tasks = False
         self._named: Optional[Scope] = None
