@@ -1,5 +1,5 @@
 """Moves that were made, with the look behind each."""
-from typing import List, NamedTuple, Optional, Sequence, Tuple
+from typing import NamedTuple, Optional, Sequence, Tuple
 
 from rdbg import commands
 from rdbg.driving import trail

@@ -12,8 +12,9 @@ from typing import Dict, Iterator, List, NamedTuple, Optional, Sequence, Set, Tu
 
 
 from rdbg.driving.target import read
-from rdbg.goals.ways import To
-from rdbg.hunting.goals import STUCK, is_stuck
+from rdbg.goals.conditions import Condition
+from rdbg.goals.ways import To, latest
+from rdbg.hunting.goals import STUCK
 from rdbg.hunting.orders import FORWARD, TICK, Order, choice
 from rdbg.hunting.search import STOPS, Search, claims
 from rdbg.hunting.stage import Find, Stage
@@ -60,13 +61,8 @@ def rests(stage: Stage, task: str) -> bool:
         return True
     if it.phase.word != "wait" or it.phase.deadline is not None:
         return False
-    here = stage.walk.place
-    for phase in AWAKE:
-        last = stage.walk.back_until(f"phase {task} {phase}")
-        stage.walk.goto(here)
-        if last is not None and last > here // 2:
-            return False
-    return True
+    last = latest(stage.walk, [Condition("phase", task, phase=word) for word in AWAKE])
+    return last is None or last <= stage.walk.place // 2
 
 
 class Differs:
@@ -81,7 +77,7 @@ class Differs:
     def _own(self) -> Own:
         """`forward`'s own order."""
         whole = self._run(())
-        tasks = () if is_stuck(whole.look) else self.stage.names.tasks
+        tasks = () if STUCK.is_so(whole.look) else self.stage.names.tasks
         resting = tuple(it for it in tasks if rests(self.stage, it))
         ends = tuple(self._run(way) for way in ways(self.stage))
         self._ends.update(it.views for it in ends)
@@ -100,7 +96,7 @@ class Differs:
     def _to_rest(self) -> List[str]:
         """Goes on as `forward` does until all rests, or so many moves are made: the lines of it."""
         walk, start = self.stage.walk, self.stage.walk.place
-        if is_stuck(walk.target.look()):
+        if STUCK.is_so(walk.target.look()):
             return []
         met = To(STUCK, becoming=False).next(walk, self._moves)
         if met is None:
@@ -114,7 +110,7 @@ class Differs:
         """So many that differ, at the most; those with fewer surprises first."""
         if self.own.resting:
             return self._by_leaving(wanted)[:wanted]
-        if not is_stuck(self.own.find.look):
+        if not STUCK.is_so(self.own.find.look):
             why = f"nothing is at rest in forward's order of {self._moves} moves: name a goal"
             self.search.none.append(Answer(Kind.UNTOLD, why=why))
             return []

@@ -8,14 +8,9 @@ from rdbg.goals.scope import Scope
 from rdbg.looks import Look, Names
 from rdbg.reaching.asking import REACH, Question
 
-# The goal that is said of two orders.
+# The goal that is said of two orders, and that only ticks are left.
 DIFFERS = "differs"
 STUCK = claims.Stuck()
-
-
-def is_stuck(look: Look) -> bool:
-    """Whether only ticks are left."""
-    return STUCK.is_so(look)
 
 
 class Goal(NamedTuple):

@@ -3,7 +3,7 @@ import contextlib
 import os
 import re
 import stat
-from typing import TYPE_CHECKING, Iterator, List, Optional, Sequence, Set, Tuple
+from typing import TYPE_CHECKING, List, Sequence, Set, Tuple
 
 from rdbg import commands, own_file, record, replies
 from rdbg.driving import trail
