@@ -62,8 +62,7 @@ class Interrupt:
     def at_prompt(self) -> Iterator[List[str]]:
         """As long as a line is typed, which comes into the list: until it is there Ctrl-C raises
         `KeyboardInterrupt`, and `wake` raises `Woken`."""
-        self._count = 0
-        self._typed = []
+        self._count, self._typed = 0, []
         try:
             yield self._typed
         finally:

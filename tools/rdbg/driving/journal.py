@@ -51,8 +51,7 @@ class Journal:
         return len(self._done) + len(self._undone) + 2
 
     def lines(self) -> List[str]:
-        """The lines that lead from the start to this place, with the same moves to be made again
-        and the same records."""
+        """The lines that lead here from the start, with the same moves undone and records kept."""
         runs = [*self._done, *reversed(self._undone)]
         made = [f"{FORWARD} {it.count}" if it.line == FORWARD else it.line for it in runs]
         back = [record.back(self.undone)] if self.undone else []
@@ -70,10 +69,8 @@ def put(runs: List[Run], run: Run) -> None:
 def carry(runs: List[Run], others: List[Run], count: int) -> None:
     """Takes so many moves off the end of one list, and puts them at the end of another."""
     while count > 0:
-        last = runs[-1]
+        last = runs.pop()
         taken = min(count, last.count)
-        last.count -= taken
-        if not last.count:
-            runs.pop()
         put(others, Run(last.line, taken))
+        runs += [Run(last.line, last.count - taken)] if taken < last.count else []
         count -= taken

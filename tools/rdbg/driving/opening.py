@@ -33,14 +33,11 @@ def begin(source: Optional[Source], limits: Limits, named: str = "") -> Target:
     """A program of its own with an application as it was read, or the built-in one; another program
     than that of `./rdbg` where one is named. Raises `Failure` where it can't be started, or refuses
     the application."""
-    if source is None:
-        session = Session.run(None, limits.words(), named)
-        greet(session)
-        return Target(session, builtin(), limits)
-    with as_read(source) as path:
+    with contextlib.ExitStack() as kept:
+        path = kept.enter_context(as_read(source)) if source else None
         session = Session.run(path, limits.words(), named)
         greet(session)  # (once it has answered it has read the file)
-    return Target(session, source.application, limits)
+    return Target(session, source.application if source else builtin(), limits)
 
 
 @contextlib.contextmanager
@@ -58,7 +55,7 @@ def as_read(source: Source) -> Iterator[str]:
 
 def greet(session: Session) -> None:
     """Waits until a session answers. (An empty line takes no place in the history.)"""
-    try:
+    with closed_if_wrong(session):
         reply = session.tell("")
         try:
             read(reply)
@@ -67,6 +64,13 @@ def greet(session: Session) -> None:
                 return
             raise Failure(f"the server lets nobody else in: no {refused}") from None
         raise Unreadable(reply)
+
+
+@contextlib.contextmanager
+def closed_if_wrong(session: Session) -> Iterator[None]:
+    """As long as something is done with a session: where that goes wrong, it is ended."""
+    try:
+        yield
     except BaseException:
         session.close()
         raise
@@ -84,17 +88,12 @@ def attach(port: int, source: Optional[Source], name: Optional[str] = None) -> T
             greet(session)
     finally:
         timer.cancel()
-    application = source.application if source else None
-    target = Target(session, application, None)
-    try:
-        with session.looking():
-            target.places()
-            target.tell("show cores")
-            if source is not None and application is not None:
-                compare(target, application, source.path)
-    except BaseException:
-        session.close()
-        raise
+    target = Target(session, source.application if source else None, None)
+    with closed_if_wrong(session), session.looking():
+        target.places()
+        target.tell("show cores")
+        if source is not None and source.application is not None:
+            compare(target, source.application, source.path)
     return target
 
 

@@ -5,7 +5,7 @@ is to end it has made a move. The program's `forward` makes one instruction of e
 tick; a run at a pace makes more, by lines `step` and `tick`."""
 import dataclasses
 import re
-from typing import Dict, Optional, Sequence, Tuple
+from typing import Mapping, NamedTuple, Optional, Sequence, Tuple
 
 from rdbg.replies import Cores
 
@@ -15,10 +15,8 @@ NONE = "none"
 IS = f"a pace is M..N, M.. or ..N, where M is 0 to {MOST} and N is 1 to {MOST}, and at least M"
 
 
-@dataclasses.dataclass(frozen=True)
-class TickPace:
-    """From one tick to the next each busy core makes at least so many moves, and at most so many,
-    where that is bounded."""
+class TickPace(NamedTuple):
+    """Each busy core makes so many moves between two ticks, at least and (if bounded) at most."""
 
     least: int
     most: Optional[int] = None
@@ -54,24 +52,20 @@ class Clock:
     """What is known at a place of the moves since the last tick: how many each core has made, and
     which task was there when that was looked at."""
 
-    made: Tuple[Tuple[int, int], ...] = ()
-    tasks: Tuple[Optional[str], ...] = ()
+    made: Mapping[int, int] = dataclasses.field(default_factory=dict)
+    tasks: Sequence[Optional[str]] = ()
 
     def moved(self, core: int) -> "Clock":
         """Behind a move of a core."""
-        made: Dict[int, int] = dict(self.made)
-        made[core] = made.get(core, 0) + 1
-        return dataclasses.replace(self, made=tuple(made.items()))
+        return Clock({**self.made, core: self.made.get(core, 0) + 1}, self.tasks)
 
     def seen(self, running: Sequence[Optional[str]]) -> "Clock":
         """Where these tasks are on the cores: of one that has come since, the moves begin anew."""
-        made = dict(self.made)
-        for core, (was, now) in enumerate(zip(self.tasks, running)):
-            if was != now:
-                made[core] = 0
-        return Clock(tuple(made.items()), tuple(running))
+        pairs = enumerate(zip(self.tasks, running))
+        return Clock(
+            {**self.made, **{core: 0 for core, (was, now) in pairs if was != now}}, running
+        )
 
     def of(self, cores: int) -> Tuple[int, ...]:
         """How many moves each of so many cores has made."""
-        made = dict(self.made)
-        return tuple(made.get(core, 0) for core in range(cores))
+        return tuple(self.made.get(core, 0) for core in range(cores))

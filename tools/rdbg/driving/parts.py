@@ -1,6 +1,5 @@
 """Moves that were made, with the look behind each."""
-import dataclasses
-from typing import List, Optional, Sequence, Tuple
+from typing import NamedTuple, Optional, Sequence, Tuple
 
 from rdbg import commands
 from rdbg.driving import trail
@@ -16,24 +15,21 @@ from rdbg.looks import Look
 AT_A_PORT = 1_000
 
 
-@dataclasses.dataclass(frozen=True)
-class Told:
+class Told(NamedTuple):
     """A line that was accepted and is no view, and how many moves were done behind it."""
 
     text: str
     place: int
 
 
-@dataclasses.dataclass(frozen=True)
-class Trim:
+class Trim(NamedTuple):
     """A trim that was made, and how many moves were done then."""
 
     place: int
     line: str
 
 
-@dataclasses.dataclass(frozen=True)
-class Part:
+class Part(NamedTuple):
     """Moves in order, the look before the first of them, and the look behind each."""
 
     before: Look
@@ -52,14 +48,11 @@ def walk_through(walk: Walk, first: int, last: int) -> Part:
     """The same; it ends at the last place."""
     target = walk.target
     walk.goto(first - 1)
-    before = target.look()
-    moves: List[Move] = []
-    looks: List[Look] = []
+    before, looks = target.look(), []
     while walk.place < last:
-        for look in trail.again(target, min(trail.CHUNK, last - walk.place), target.names):
-            moves.append(trail.between(target, looks[-1] if looks else before, look))
-            looks.append(look)
-    return Part(before, tuple(moves), tuple(looks))
+        looks += trail.again(target, min(trail.CHUNK, last - walk.place), target.names)
+    pairs = zip([before, *looks], looks)
+    return Part(before, tuple(trail.between(target, *it) for it in pairs), tuple(looks))
 
 
 def move_to(source: Optional[Source], lines: Sequence[str], place: int) -> Move:

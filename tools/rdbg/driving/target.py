@@ -8,7 +8,7 @@ from rdbg import commands, kinds, record, replies
 from rdbg.application import Application
 from rdbg.by_hand import INTERRUPT, ByHand
 from rdbg.client import Session
-from rdbg.looks import OBJECTS, Key, Look, Names, key_of
+from rdbg.looks import OBJECTS, Look, Names, key_of
 from rdbg.replies import Refused, Unreadable
 
 # Refusals of lines that have no place in the history.
@@ -22,8 +22,6 @@ RESERVE = 1_000
 # A look is taken anew so many times at the most.
 AGAIN = 5
 Value = TypeVar("Value")
-# What a look is made of, which tells of names where the application isn't known.
-SEEN = (replies.Task, *OBJECTS, replies.Cores)
 # Many looks have the same replies, and many lines are the same: each is read once.
 read = functools.lru_cache(maxsize=16_384)(replies.read)
 read_line = functools.lru_cache(maxsize=4_096)(commands.read)
@@ -112,9 +110,8 @@ class Target:
 
     def afford(self, lines: int) -> None:
         """Raises `Unable` where so many lines would leave too little of the history."""
-        left = self.left()
-        if left is not None and left < lines + RESERVE:
-            raise Unable(f"that takes {lines} places of the history, and {left} are left")
+        if not self.can_afford(lines):
+            raise Unable(f"that takes {lines} places of the history, and {self.left()} are left")
 
     def can_afford(self, lines: int) -> bool:
         """Whether so many lines leave enough of the history."""
@@ -138,8 +135,7 @@ class Target:
         answers = self.tell_all(["show moves", *lines, "show moves"])
         first = read(answers[0])
         assert isinstance(first, replies.Moves)
-        seen = [read(it) for it in answers[1:-1]]
-        return Look.of(first.done, seen), answers[0] == answers[-1]
+        return Look.of(first.done, [read(it) for it in answers[1:-1]]), answers[0] == answers[-1]
 
     @contextlib.contextmanager
     def wheel(self) -> Iterator[None]:
@@ -181,10 +177,11 @@ class Target:
             return
         if command.form.answers and not isinstance(value, command.form.answers):
             raise Unreadable(reply)
-        if isinstance(value, SEEN):
-            if self.application is None:
-                self._learn(value)
-        elif isinstance(value, replies.Moved) and command.form.word == record.TRIM:
+        if self.application is None:
+            names = Names.all((self.names, named_in(value)))
+            # (it is the same one as long as there is no new name)
+            self.names = self.names if names == self.names else names
+        if isinstance(value, replies.Moved) and command.form.word == record.TRIM:
             self._drifted(value.at)
             self.place = value.at
             self.base = max(self.base, value.at - int(command.words[1]))
@@ -229,34 +226,24 @@ class Target:
             self.by_hand[at] = ByHand(" ".join(command.words), moved.answer)
         self.place = at
 
-    def _learn(self, value: replies.Reply) -> None:
-        """Keeps the names that a reply says."""
-        if isinstance(value, replies.Cores):
-            self._add([name for name in (*value.running, *value.ready) if name])
-        elif isinstance(value, replies.Task):
-            self._add([value.name])
-            place, _, name = (value.phase.place or "").partition(":")
-            if place in kinds.OF_PLACE:
-                self._add([], (kinds.OF_PLACE[place].word, name))
-        elif isinstance(value, OBJECTS):
-            self._add(waiting_at(value), key_of(value))
-            if isinstance(value, replies.Queue) and value.member_of:
-                self._add([], (kinds.QUEUE_SET.word, value.member_of))
 
-    def _add(self, tasks: Iterable[str], *objects: Key) -> None:
-        """Adds names to those that are known."""
-        new = [name for name in dict.fromkeys(tasks) if name not in self.names.tasks]
-        others = [key for key in objects if key not in self.names.objects]
-        if new or others:
-            self.names = Names((*self.names.tasks, *new), (*self.names.objects, *others))
-
-
-def waiting_at(it: replies.Reply) -> List[str]:
-    """The tasks that wait at an object."""
-    if isinstance(it, replies.Queue):
-        return [*it.receivers, *it.senders]
-    if isinstance(it, replies.QueueSet):
-        return list(it.waiters)
-    if isinstance(it, (replies.Stream, replies.Messages)):
-        return [name for name in (it.reader, it.writer) if name]
-    return [wish.task for wish in it.waiters] if isinstance(it, replies.Group) else []
+def named_in(it: replies.Reply) -> Names:
+    """The names that a reply says."""
+    tasks: Iterable[Optional[str]] = ()
+    objects = [key_of(it)] if isinstance(it, OBJECTS) else []
+    if isinstance(it, replies.Cores):
+        tasks = (*it.running, *it.ready)
+    elif isinstance(it, replies.Task):
+        place, _, name = (it.phase.place or "").partition(":")
+        tasks = (it.name,)
+        objects = [(kinds.OF_PLACE[place].word, name)] if place in kinds.OF_PLACE else []
+    elif isinstance(it, replies.Queue):
+        tasks = (*it.receivers, *it.senders)
+        objects += [(kinds.QUEUE_SET.word, it.member_of)] if it.member_of else []
+    elif isinstance(it, replies.QueueSet):
+        tasks = it.waiters
+    elif isinstance(it, (replies.Stream, replies.Messages)):
+        tasks = (it.reader, it.writer)
+    elif isinstance(it, replies.Group):
+        tasks = [wish.task for wish in it.waiters]
+    return Names(tuple(name for name in tasks if name), tuple(objects))

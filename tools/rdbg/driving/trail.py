@@ -1,9 +1,10 @@
 """The moves that were made, as values: found by going back and making them again, with looks."""
 import dataclasses
+from itertools import groupby
 from typing import Callable, Iterator, List, Optional, Sequence, Tuple
 
 from rdbg import record, replies
-from rdbg.application import Application
+from rdbg.application import Application, Instruction
 from rdbg.by_hand import could_be
 from rdbg.driving.target import Target, read
 from rdbg.driving.walk import Walk
@@ -23,11 +24,16 @@ def between(target: Target, before: Look, after: Look) -> Move:
     return written(target.application, move_between(before, after, target.instruction, known))
 
 
+def instruction_of(application: Optional[Application], move: Move) -> Optional[Instruction]:
+    """The instruction of a move, where a task made it and its script is known."""
+    if application is None or move.task is None or move.pc is None:
+        return None
+    return application.instruction(move.task, move.pc)
+
+
 def written(application: Optional[Application], move: Move) -> Move:
     """A move whose instruction is as it is written in the file."""
-    if application is None or move.task is None or move.pc is None:
-        return move
-    found = application.instruction(move.task, move.pc)
+    found = instruction_of(application, move)
     return dataclasses.replace(move, written=found.told) if found else move
 
 
@@ -67,18 +73,13 @@ def rows(found: Sequence[Move]) -> List[str]:
     """Moves in a line each; ticks in a row that did nothing else stand in one."""
     width = max((len(str(move.place)) for move in found), default=0)
     shown: List[str] = []
-    at = 0
-    while at < len(found):
-        end = at
-        while end < len(found) and found[end].kind == "tick" and not found[end].effects:
-            end += 1
-        if end > at + 1:
-            first, last = found[at], found[end - 1]
-            shown.append(f"{first.place}..{last.place}  {end - at} ticks, up to tick {last.tick}")
-            at = end
+    for is_plain, several in groupby(found, lambda it: it.kind == "tick" and not it.effects):
+        first, *others = several
+        if is_plain and others:
+            ticks = f"{1 + len(others)} ticks, up to tick {others[-1].tick}"
+            shown.append(f"{first.place}..{others[-1].place}  {ticks}")
         else:
-            shown.append(found[at].row(width))
-            at += 1
+            shown += [it.row(width) for it in (first, *others)]
     return shown
 
 
@@ -96,11 +97,10 @@ def made(target: Target, moves: Sequence[Move], names: Names) -> Iterator[Tuple[
 def again(target: Target, count: int, names: Names) -> List[Look]:
     """The looks at the next places, after each move that is made again."""
     lines = [record.again(), *names.lines()]
-    answers = target.tell_all(lines * count)
+    seen = list(map(read, target.tell_all(lines * count)))
     looks = []
-    for at in range(0, len(answers), len(lines)):
-        moved = read(answers[at])
+    for at in range(0, len(seen), len(lines)):
+        moved = seen[at]
         assert isinstance(moved, replies.Moved)
-        seen = [read(answer) for answer in answers[at + 1 : at + len(lines)]]
-        looks.append(Look.of(moved.at, seen))
+        looks.append(Look.of(moved.at, seen[at + 1 : at + len(lines)]))
     return looks

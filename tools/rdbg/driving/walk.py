@@ -42,7 +42,7 @@ class Walk:
     def __init__(self, target: Target, interrupt: Interrupt) -> None:
         self.target, self.interrupt = target, interrupt
         self.pace = Pace()
-        self.wall = ""
+        self.wall, self.is_again = "", False
 
     @property
     def place(self) -> int:
@@ -57,16 +57,12 @@ class Walk:
         return self.place - start
 
     def until(self, condition: str, count: int) -> Optional[int]:
-        """Makes moves of a run's choice until a condition holds after one, so many at the most, or
-        as many as there can be. Answers the place, none where it didn't hold."""
-        start, left = self.place, count
-        while left:
-            moved = self._run(f"until {condition} {{}}", left)
-            if moved is None:
-                return None
-            if moved.how == "met":
-                return moved.at
-            left = count - (self.place - start)
+        """Runs until a condition holds after a move, at most so many on: the place, or none."""
+        end = self.place + count
+        while self.place < end:
+            moved = self._run(f"until {condition} {{}}", end - self.place)
+            if moved is None or moved.how == "met":
+                return None if moved is None else moved.at
         return None
 
     def _run(self, form: str, count: int) -> Optional[replies.Moved]:
@@ -88,14 +84,12 @@ class Walk:
                 piece //= 2
 
     def back_until(self, condition: str) -> Optional[int]:
-        """Goes back to the last earlier place where a condition holds, and answers it; to the
-        start, and none, where there is no such place."""
+        """Goes back to where a condition held last, and answers it; else to the start, and none."""
         moved = self.target.ask(f"back until {condition}", replies.Moved)
         return None if moved.how == "start" else moved.at
 
     def goto(self, place: int) -> None:
-        """Goes to a place that there is, behind or before this one. Ctrl-C doesn't end it. Raises
-        `Unable` where no record leads there any more."""
+        """Goes to a place that is there; Ctrl-C doesn't end it. Raises `Unable` without records."""
         if place < self.target.base:
             raise Unable(self.target.trimmed(place))
         while self.place != place:
@@ -124,73 +118,51 @@ class Walk:
             self.forward(place - self.place)
 
     def settle(self, start: int, place: int) -> None:
-        """Goes to a place to which runs from `start` came, and leaves no move to be made again
-        that a run would not have left."""
+        """Goes to a place of a run from `start`, and leaves no move undone that it wouldn't."""
         if place > start and (self.place > place or self.target.places().undone):
             self.goto(min(place - 1, self.place))
         self.reach(place)
 
-
-class Pieces:
-    """Long lines of rdbg, asked in pieces.
-
-    A run in pieces gives what one line would: where a later piece is refused, what the earlier ones
-    made is taken back, and the refusal is the answer. What then differs from one line is `is_again`
-    alone: that these moves can be made again."""
-
-    def __init__(self, walk: Walk) -> None:
-        self.walk, self.target = walk, walk.target
-        self.is_again = False
-
     def tell(self, command: commands.Command, line: str) -> str:
-        """The reply to a line that is one of rdbg's commands, as one line would have it. Raises
-        `Interrupted` where Ctrl-C came between two pieces: the moves made until then are made."""
-        count = command.count()
-        word = command.form.word
+        """The reply to a line that is one of rdbg's commands, asked in pieces where it is long, as
+        one line would have it: where a later piece of a run is refused, what the earlier ones made
+        is taken back, and the refusal is the answer; `is_again` alone differs, that these moves can
+        be made again. Raises `Interrupted` where Ctrl-C came between two pieces: the moves made
+        until then are made."""
+        count, word = command.count(), command.form.word
         self.is_again = False
-        if count is None or count <= self.walk.pace.piece:
+        if count is None or count <= self.pace.piece:
             return self.target.tell(line)
         if word in ("forward", "until"):
-            return self._run(command, count, line)
+            return self._run_as_one(command, count, line)
         places = self.target.places()
         there_are = places.kept if word == record.BACK else places.undone
         if not self.target.is_own or count > there_are:
             return self.target.tell(line)
         return self._in_pieces([word], count)[-1]
 
-    def _run(self, command: commands.Command, count: int, line: str) -> str:
+    def _run_as_one(self, command: commands.Command, count: int, line: str) -> str:
         """A run; in one piece where moves were taken back that a run refused as a whole leaves."""
         limits = self.target.limits
-        fits = limits is None or self.walk.place + count <= limits.moves
-        if not self.target.can_afford(2 * count // LEAST_PIECE) or (
-            command.form.word == "forward" and not fits
-        ):
+        fits = limits is None or self.place + count <= limits.moves
+        is_whole = command.form.word == "forward" and not fits
+        if is_whole or not self.target.can_afford(2 * count // LEAST_PIECE):
             return self.target.tell(line)  # (which refuses it, or does it, as a whole)
-        try:
-            with self.target.wheel():
-                if self.target.places().undone and not self._is_surely_made(count):
-                    return self.target.tell(line)
-                return self._guarded(list(command.words[:-1]), count)
-        except Refused:
-            return self.target.tell(line)
-
-    def _is_surely_made(self, count: int) -> bool:
-        """Whether so many moves can't come to a wall."""
-        limits = self.target.limits
-        if limits is None or self.walk.place + count > limits.moves:
-            return False
-        tick = self.target.ask("show cores", replies.Cores).tick
-        return tick + count < commands.MOST_NUMBER
-
-    def _guarded(self, words: Sequence[str], count: int) -> str:
-        """A run in pieces; it is taken back where a piece is refused."""
-        before = self.target.places().done
-        answers = self._in_pieces(words, count)
-        if answers[-1].startswith("no ") and len(answers) > 1:
-            with contextlib.suppress(Refused):
-                self.walk.goto(before)
-                self.is_again = True
-        return answers[-1]
+        with contextlib.suppress(Refused), self.target.wheel():
+            places = self.target.places()
+            is_sure = not places.undone
+            if places.undone and limits and fits:
+                tick = self.target.ask("show cores", replies.Cores).tick
+                is_sure = tick + count < commands.MOST_NUMBER
+            if not is_sure:
+                return self.target.tell(line)
+            answers = self._in_pieces(command.words[:-1], count)
+            if answers[-1].startswith("no ") and len(answers) > 1:
+                with contextlib.suppress(Refused):
+                    self.goto(places.done)
+                    self.is_again = True
+            return answers[-1]
+        return self.target.tell(line)
 
     def _in_pieces(self, words: Sequence[str], count: int) -> List[str]:
         """The replies to the pieces of a line, up to the first that says an end."""
@@ -198,10 +170,10 @@ class Pieces:
         left = count
         while left:
             if answers:
-                self.walk.interrupt.check()
-            piece = self.walk.pace.begin(left)
+                self.interrupt.check()
+            piece = self.pace.begin(left)
             answers.append(self.target.tell(" ".join([*words, str(piece)])))
-            self.walk.pace.end(piece)
+            self.pace.end(piece)
             left -= piece
             if answers[-1].startswith("no ") or answers[-1].endswith(" met"):
                 break

@@ -24,36 +24,27 @@ class Changes(Way):
 
     def __init__(self, target: Target, kind: str, name: str) -> None:
         self.kind, self.name, self.view = kind, name, f"show {kind} {name}"
+        self.amount = kinds.OF_WORD[kind].amount
         self.text = f"changes {name}"
         self.target = target
-        self.hides = self._hides()
+        # Whether a move of a script can change it and leave how much it holds.
+        words, application = HIDING.get(kind), target.application
+        self.hides = words != ()
+        if application is not None and words is not None:
+            texts = (it.words() for task in application.tasks for it in task.code)
+            self.hides = any(text[0] in words and text[1] == name for text in texts)
 
-    def _hides(self) -> bool:
-        """Whether a move of a script can change it and leave how much it holds."""
-        words = HIDING.get(self.kind)
-        application = self.target.application
-        if application is None or words is None:
-            return words != ()
-        texts = (it.words() for task in application.tasks for it in task.code)
-        return any(text[0] in words and text[1] == self.name for text in texts)
-
-    def _amounts(self, content: Object) -> List[Condition]:
-        """The conditions of which one holds wherever there is more or less in it."""
-        amount = kinds.OF_WORD[self.kind].amount
-        if not amount:
-            return []
-        number = AMOUNTS[amount](content, 0)
-        return Condition(amount, self.name, number=number).others(earlier=False)
-
-    def _look(self, walk: Walk) -> Object:
-        return self._known(read(walk.target.tell(self.view)))
+    def _amounts(self, walk: Walk) -> List[Condition]:
+        """The conditions of which one holds wherever there is more or less in it than here."""
+        content, amount = self._known(read(walk.target.tell(self.view))), self.amount
+        number = AMOUNTS[amount](content, 0) if amount else 0
+        return Condition(amount, self.name, number=number).others(False) if amount else []
 
     def next(self, walk: Walk, limit: int) -> Optional[int]:
         start = walk.place
-        found = nearest(walk, self._amounts(self._look(walk)), limit)
-        if not self.hides:
-            return found
-        scanned = self._scan(walk, start + limit if found is None else found - 1)
+        found = nearest(walk, self._amounts(walk), limit)
+        end = start + limit if found is None else found - 1
+        scanned = self._scan(walk, end) if self.hides else None
         return found if scanned is None else scanned
 
     def _scan(self, walk: Walk, end: int) -> Optional[int]:
@@ -69,15 +60,12 @@ class Changes(Way):
         if walk.place == 0:
             return None
         walk.goto(walk.place - 1)
-        place, content = walk.place, self._look(walk)
-        amounts = self._amounts(content)
-        other = latest(walk, amounts) if amounts else None
+        place, other = walk.place, latest(walk, self._amounts(walk))
         first = 0 if other is None else other + 1
-        if self.hides or self._was_edited(first, place):
-            scanned = self._scan(walk, first)
-            if scanned is not None:
-                return scanned + 1
-        return None if other is None else other + 1
+        is_hidden = self.hides or self._was_edited(first, place)
+        scanned = self._scan(walk, first) if is_hidden else None
+        found = other if scanned is None else scanned
+        return None if found is None else found + 1
 
     def _was_edited(self, first: int, last: int) -> bool:
         """Whether an edit between these places may have changed it and left its amount."""

@@ -1,7 +1,7 @@
 """What goals claim of a place, and how claims are joined: each is judged by a look, and says by
 which conditions of rdbg's own it could become otherwise."""
 import dataclasses
-from typing import Iterator, List, Optional, Sequence
+from typing import Iterable, Iterator, List, Optional, Sequence
 
 from rdbg import kinds
 from rdbg.goals.conditions import OPERATORS, Condition
@@ -15,7 +15,9 @@ OVER = ("ended", "failed")
 
 
 class Goal:
-    """A goal: a claim, or some that are joined."""
+    """A goal: a claim, or some that are joined; `form` is its text, of its own fields."""
+
+    form = ""
 
     @property
     def is_lasting(self) -> bool:
@@ -25,12 +27,12 @@ class Goal:
     @property
     def text(self) -> str:
         """It in words, with a number for each name of one."""
-        raise NotImplementedError
+        return self.asked(None) or ""
 
-    def asked(self, tasks: Sequence[str]) -> Optional[str]:
+    def asked(self, tasks: Optional[Sequence[str]]) -> Optional[str]:
         """It as the program that searches has it, of an application of these tasks; none where it
-        has no words for it."""
-        return self.text
+        has no words for it. Without tasks it is in words of rdbg's own."""
+        return self.form.format(self)
 
     def claims(self) -> Iterator["Goal"]:
         """The claims that it joins."""
@@ -49,11 +51,6 @@ class Goal:
         isn't as here. None where no conditions say that, and no condition where there is no such
         place."""
         raise NotImplementedError
-
-
-def tasks_named(*names: str) -> Names:
-    """These tasks, each once."""
-    return Names(tuple(dict.fromkeys(names)))
 
 
 def reply_of(condition: Condition, look: Look) -> Reply:
@@ -75,10 +72,7 @@ class Holds(Goal):
     """A condition of the language holds."""
 
     condition: Condition
-
-    @property
-    def text(self) -> str:
-        return self.condition.text
+    form = "{0.condition.text}"
 
     @property
     def is_lasting(self) -> bool:
@@ -88,7 +82,7 @@ class Holds(Goal):
         kind = kinds.OF_AMOUNT.get(self.condition.kind)
         if kind is not None:
             return Names((), ((kind.word, self.condition.name),))
-        return tasks_named(self.condition.name) if self.condition.name else Names()
+        return Names((self.condition.name,) if self.condition.name else ())
 
     def is_so(self, look: Look) -> bool:
         return self.condition.holds(reply_of(self.condition, look))
@@ -105,10 +99,7 @@ class Masked(Goal):
     mask: int
     operator: str
     number: int
-
-    @property
-    def text(self) -> str:
-        return f"{self.amount.subject} & {self.mask} {self.operator} {self.number}"
+    form = "{0.amount.subject} & {0.mask} {0.operator} {0.number}"
 
     def names(self, there: Names) -> Names:
         return Holds(self.amount).names(there)
@@ -128,13 +119,10 @@ class Among(Goal):
     one: Condition
     operator: str
     other: Condition
-
-    @property
-    def text(self) -> str:
-        return f"{self.one.subject} {self.operator} {self.other.subject}"
+    form = "{0.one.subject} {0.operator} {0.other.subject}"
 
     def names(self, there: Names) -> Names:
-        return tasks_named(self.one.name, self.other.name)
+        return Names.all(Holds(it).names(there) for it in (self.one, self.other))
 
     def is_so(self, look: Look) -> bool:
         one, other = (it.amount(reply_of(it, look)) for it in (self.one, self.other))
@@ -151,7 +139,7 @@ class OfTask(Goal):
     task: str
 
     def names(self, there: Names) -> Names:
-        return tasks_named(self.task)
+        return Names((self.task,))
 
     def phase(self, word: str) -> Condition:
         """The condition that the task is in a phase."""
@@ -167,10 +155,7 @@ class At(OfTask):
     """A task has an instruction to do, or waits in it."""
 
     pc: int
-
-    @property
-    def text(self) -> str:
-        return f"at {self.task} {self.pc}"
+    form = "at {0.task} {0.pc}"
 
     def is_so(self, look: Look) -> bool:
         task = look.tasks[self.task]
@@ -194,13 +179,10 @@ class Waits(OfTask):
     place: str = ""
     is_endless: bool = False
 
-    @property
-    def text(self) -> str:
-        first = "sleeps" if self.is_endless else "waits"
-        return f"{first} {self.task} {self.words}".rstrip()
-
-    def asked(self, tasks: Sequence[str]) -> Optional[str]:
-        return None if self.is_endless else self.text
+    def asked(self, tasks: Optional[Sequence[str]]) -> Optional[str]:
+        if self.is_endless and tasks is not None:
+            return None
+        return f"{'sleeps' if self.is_endless else 'waits'} {self.task} {self.words}".rstrip()
 
     def is_so(self, look: Look) -> bool:
         phase = look.tasks[self.task].phase
@@ -209,18 +191,15 @@ class Waits(OfTask):
         return self.place in ("", phase.place)
 
     def turns(self, look: Look, earlier: bool) -> Turns:
-        if look.tasks[self.task].phase.word == "wait":
-            return self.others(look, earlier)
-        return [self.phase("wait")]
+        is_waiting = look.tasks[self.task].phase.word == "wait"
+        return self.others(look, earlier) if is_waiting else [self.phase("wait")]
 
 
 @dataclasses.dataclass(frozen=True)
 class Runs(OfTask):
     """A task is on a core."""
 
-    @property
-    def text(self) -> str:
-        return f"runs {self.task}"
+    form = "runs {0.task}"
 
     def is_so(self, look: Look) -> bool:
         return self.task in look.cores.running
@@ -239,7 +218,7 @@ class OfAll(Goal):
         return Names(there.tasks)
 
 
-def others_of(tasks: Sequence[Task], earlier: bool) -> List[Condition]:
+def others_of(tasks: Iterable[Task], earlier: bool) -> List[Condition]:
     """Conditions of which one holds where the phase of one of some tasks is first another one."""
     phases = (Condition("phase", it.name, phase=it.phase.word) for it in tasks)
     return [other for phase in phases for other in phase.others(earlier)]
@@ -249,7 +228,7 @@ def others_of(tasks: Sequence[Task], earlier: bool) -> List[Condition]:
 class SomeFailed(OfAll):
     """Some task has failed."""
 
-    text = "failed"
+    form = "failed"
 
     def is_so(self, look: Look) -> bool:
         return any(it.phase.word == "failed" for it in look.tasks.values())
@@ -265,7 +244,7 @@ class SomeFailed(OfAll):
 class Finished(OfAll):
     """All tasks have ended."""
 
-    text = "finished"
+    form = "finished"
 
     def is_so(self, look: Look) -> bool:
         return all(it.phase.word == "ended" for it in look.tasks.values())
@@ -273,7 +252,7 @@ class Finished(OfAll):
     def turns(self, look: Look, earlier: bool) -> Turns:
         left = [it.name for it in look.tasks.values() if it.phase.word != "ended"]
         if not left:
-            return others_of(list(look.tasks.values()), earlier)
+            return others_of(look.tasks.values(), earlier)
         return [Condition("phase", left[0], phase="ended")]
 
 
@@ -284,30 +263,29 @@ class Stuck(OfAll):
 
     is_asleep: bool = False
 
-    @property
-    def text(self) -> str:
-        return "asleep" if self.is_asleep else "stuck"
+    @staticmethod
+    def _waiting(look: Look, is_timed: bool = False) -> List[Task]:
+        """The tasks that wait, or those of them that have a deadline."""
+        found = (it for it in look.tasks.values() if it.phase.word == "wait")
+        return [it for it in found if not is_timed or it.phase.deadline is not None]
 
-    def asked(self, tasks: Sequence[str]) -> str:
-        if self.is_asleep:
-            return self.text
+    def asked(self, tasks: Optional[Sequence[str]]) -> str:
+        if self.is_asleep or tasks is None:
+            return "asleep" if self.is_asleep else "stuck"
         over = " and ".join(f"(ended {name} or failed {name})" for name in tasks)
         return f"(asleep or {over})"
 
     def is_so(self, look: Look) -> bool:
-        waiting = [it for it in look.tasks.values() if it.phase.word == "wait"]
-        if any(look.cores.running) or any(it.phase.deadline is not None for it in waiting):
+        if any(look.cores.running) or self._waiting(look, is_timed=True):
             return False
-        return bool(waiting) or not self.is_asleep
+        return bool(self._waiting(look)) or not self.is_asleep
 
     def turns(self, look: Look, earlier: bool) -> Turns:
-        waiting = [it for it in look.tasks.values() if it.phase.word == "wait"]
         busy = next(filter(None, look.cores.running), None)
         if busy is not None:
             return [Condition("phase", busy, phase=word) for word in ("wait", *OVER)]
-        if any(it.phase.deadline is not None for it in waiting):
-            return others_of([it for it in waiting if it.phase.deadline is not None], earlier)
-        return others_of(waiting or list(look.tasks.values()), earlier)
+        waiting = self._waiting(look, is_timed=True) or self._waiting(look)
+        return others_of(waiting or look.tasks.values(), earlier)
 
 
 ASLEEP = Stuck(is_asleep=True)
@@ -319,11 +297,7 @@ class Not(Goal):
 
     goal: Goal
 
-    @property
-    def text(self) -> str:
-        return f"not {enclosed(self.goal, self.goal.text)}"
-
-    def asked(self, tasks: Sequence[str]) -> Optional[str]:
+    def asked(self, tasks: Optional[Sequence[str]]) -> Optional[str]:
         asked = self.goal.asked(tasks)
         return None if asked is None else f"not {enclosed(self.goal, asked)}"
 
@@ -352,17 +326,10 @@ class Joined(Goal):
     def is_lasting(self) -> bool:
         return self.one.is_lasting and self.other.is_lasting
 
-    @property
-    def text(self) -> str:
-        one, other = (enclosed(it, it.text, self.word) for it in (self.one, self.other))
-        return f"{one} {self.word} {other}"
-
-    def asked(self, tasks: Sequence[str]) -> Optional[str]:
-        one, other = self.one.asked(tasks), self.other.asked(tasks)
-        if one is None or other is None:
-            return None
-        asked = (enclosed(self.one, one, self.word), enclosed(self.other, other, self.word))
-        return f" {self.word} ".join(asked)
+    def asked(self, tasks: Optional[Sequence[str]]) -> Optional[str]:
+        pairs = [(it, it.asked(tasks)) for it in (self.one, self.other)]
+        asked = [enclosed(it, text, self.word) for it, text in pairs if text is not None]
+        return f" {self.word} ".join(asked) if len(asked) == len(pairs) else None
 
     def claims(self) -> Iterator[Goal]:
         yield from self.one.claims()
@@ -377,14 +344,13 @@ class Joined(Goal):
 
     def turns(self, look: Look, earlier: bool) -> Turns:
         # (of `and` all that isn't so has to become so; of `or` all that is so has to end)
-        is_or = self.word == "or"
-        has_to_turn = [it for it in (self.one, self.other) if it.is_so(look) == is_or]
-        if self.is_so(look) == is_or:
-            found = [it.turns(look, earlier) for it in has_to_turn]
-            known = [it for it in found if it is not None]
+        both, is_or = (self.one, self.other), self.word == "or"
+        is_all = self.is_so(look) == is_or
+        found = [it.turns(look, earlier) for it in both if not is_all or it.is_so(look) == is_or]
+        known = [it for it in found if it is not None]
+        if is_all:
             return min(known, key=len) if known else None
-        one, other = self.one.turns(look, earlier), self.other.turns(look, earlier)
-        return None if one is None or other is None else [*one, *other]
+        return [turn for it in known for turn in it] if len(known) == len(found) else None
 
 
 def enclosed(goal: Goal, text: str, word: str = "") -> str:

@@ -1,15 +1,14 @@
 """Numbers and truths that are computed of what there is: amounts in the words of conditions, `count
 jobs + 1`, and short, `jobs.count`, `worker.r0`, joined by the operators of C, of which those that
 compare bind least. Numbers are whole, of any size."""
-import dataclasses
 import operator
 import re
-from typing import Callable, Dict, List, Sequence, Tuple
+from typing import Callable, Dict, List, NamedTuple, Sequence, Tuple
 
 from rdbg import kinds
 from rdbg.goals import claims, reading
 from rdbg.goals.claims import Goal, Holds
-from rdbg.goals.conditions import OPERATORS
+from rdbg.goals.conditions import OPERATORS, Compare
 from rdbg.goals.meant import with_meant
 from rdbg.goals.reading import CLOSE, OPEN, NoGoal, Reader
 from rdbg.goals.scope import Scope, part_of
@@ -47,7 +46,7 @@ def shifted(one: int, other: int) -> int:
 
 
 # From those that bind least on.
-COMPARING: Dict[str, Callable[[int, int], bool]] = {
+COMPARING: Dict[str, Compare] = {
     **OPERATORS,
     "==": operator.eq,
     "!=": operator.ne,
@@ -73,8 +72,7 @@ def joined(join: Callable[[int, int], int], one: Number, other: Number) -> Numbe
     return lambda look: join(one(look), other(look))
 
 
-@dataclasses.dataclass(frozen=True)
-class Expression:
+class Expression(NamedTuple):
     """An expression: what it is about, and what it says at a look: a number, or whether a goal or a
     comparison holds. That raises `Undefined` where it has none there."""
 
@@ -89,6 +87,8 @@ class Expression:
 class Computer(Reader):
     """Reads the words of an expression, and keeps what it is about."""
 
+    what = "expression"
+
     def __init__(self, words: Sequence[str], scope: Scope) -> None:
         super().__init__(words, scope)
         self.about: List[Goal] = []
@@ -101,9 +101,6 @@ class Computer(Reader):
         if self.at < len(self.words):
             raise NoGoal(self.words, self.at, BEHIND)
         return found
-
-    def _too_long(self) -> NoGoal:
-        return NoGoal(self.words, -1, "the expression is too long")
 
     def _sign(self, signs: Sequence[str]) -> str:
         """The one of some signs that comes next, which is read then; or none."""
@@ -118,11 +115,9 @@ class Computer(Reader):
         if level == len(LEVELS):
             return self._atom(depth)
         found = self._level(level + 1, depth)
-        while True:
-            sign = self._sign(tuple(LEVELS[level]))
-            if not sign:
-                return found
+        for sign in iter(lambda: self._sign(tuple(LEVELS[level])), ""):
             found = joined(LEVELS[level][sign], found, self._level(level + 1, depth))
+        return found
 
     def _atom(self, depth: int) -> Number:
         if depth >= MOST_DEEP:

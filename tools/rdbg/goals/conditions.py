@@ -5,6 +5,7 @@ from typing import Callable, Dict, List, Optional, Sequence, Tuple, cast
 
 from rdbg import commands, kinds, replies
 
+Compare = Callable[[int, int], bool]
 # The phases from which a task can have come into a phase, and those into which it can go. An edit
 # changes none.
 BEFORE: Dict[str, Tuple[str, ...]] = {
@@ -46,8 +47,7 @@ class Condition:
         return f"{self.subject} {self.operator} {self.number}"
 
     def amount(self, reply: replies.Reply) -> int:
-        """The number that is looked at, by the reply to `view`. Raises `IndexError` where there is
-        no such register or entry."""
+        """The number that is looked at, by the reply to `view`. Raises `IndexError` without one."""
         return AMOUNTS[self.kind](reply, self.index)
 
     @property
@@ -86,11 +86,7 @@ VIEWS: Dict[str, str] = {
     **dict.fromkeys(("reg", "pc", "note", "phase"), "show task {}"),
     "tick": "show cores",
 }
-OPERATORS: Dict[str, Callable[[int, int], bool]] = {
-    "=": operator.eq,
-    "<": operator.lt,
-    ">": operator.gt,
-}
+OPERATORS: Dict[str, Compare] = {"=": operator.eq, "<": operator.lt, ">": operator.gt}
 AMOUNTS: Dict[str, Callable[[replies.Reply, int], int]] = {
     "count": lambda it, _: cast(replies.Queue, it).count,
     "bytes": lambda it, _: cast(replies.Stream, it).held,
@@ -105,15 +101,10 @@ AMOUNTS: Dict[str, Callable[[replies.Reply, int], int]] = {
 
 def read(words: Sequence[str]) -> Optional[Condition]:
     """The condition that these words are, or none."""
-    for form in commands.CONDITIONS:
-        symbols = form.symbols
-        if len(symbols) != len(words):
-            continue
-        if not all(commands.fits(symbol, word) for symbol, word in zip(symbols, words)):
-            continue
-        if form.word == "phase":
-            return Condition("phase", words[1], phase=words[2])
-        name = "" if form.word == "tick" else words[1]
-        index = int(words[2]) if form.word in INDEXED else 0
-        return Condition(words[0], name, index, words[-2], int(words[-1]))
-    return None
+    if commands.read(f"watch {' '.join(words)}") is None:
+        return None
+    if words[0] == "phase":
+        return Condition("phase", words[1], phase=words[2])
+    name = "" if words[0] == "tick" else words[1]
+    index = int(words[2]) if words[0] in INDEXED else 0
+    return Condition(words[0], name, index, words[-2], int(words[-1]))

@@ -20,21 +20,13 @@ def with_meant(wrong: NoGoal, scope: Scope) -> NoGoal:
     """The same refusal, which says what would be right, too."""
     found = mended(wrong, scope)
     more = f"; `{' '.join(found)}` would be right" if found else there_are(wrong, scope)
-    return Meant(wrong, more) if more else wrong
-
-
-class Meant(NoGoal):
-    """A refusal with what would be right."""
-
-    def __init__(self, wrong: NoGoal, more: str) -> None:
-        super().__init__(wrong.words, wrong.at, wrong.wanted)
-        self.args = (f"{wrong}{more}",)
+    return NoGoal(wrong.words, wrong.at, wrong.wanted, more)
 
 
 def there_are(wrong: NoGoal, scope: Scope) -> str:
     """Which names there are where one is wanted, or which labels."""
-    kind = next((word for word, what in reading.NAME.items() if what == wrong.wanted), None)
     labels = labels_at(wrong.words, wrong.at, wrong.wanted, scope)
+    kind = reading.KIND_OF.get(wrong.wanted)
     names = labels if kind is None else scope.names.of_kind(kind)
     shown = ", ".join(names[:MOST_SAID]) + (", .." if len(names) > MOST_SAID else "")
     if labels:
@@ -57,9 +49,9 @@ def mended(wrong: NoGoal, scope: Scope) -> Optional[List[str]]:
     for _ in range(MOST_MENDED):
         if wrong.at is None or wrong.at < 0:
             return None
-        if wrong.wanted == reading.JOIN and words[wrong.at :] == words[-1:] != words:
-            if commands.is_count(words[-1]):
-                return words[:-1]  # (it is how many moves a run makes)
+        is_last = words[wrong.at :] == words[-1:] != words
+        if wrong.wanted == reading.JOIN and is_last and commands.is_count(words[-1]):
+            return words[:-1]  # (it is how many moves a run makes)
         found = repaired(words, wrong.at, wrong.wanted, scope)
         if found is None or found == words:
             return None
@@ -76,37 +68,35 @@ def repaired(words: List[str], at: int, wanted: str, scope: Scope) -> Optional[L
     """The words with the wrong one mended."""
     word = words[at]
     bare = QUOTES.sub("", word)
-    if bare != word:
-        return [*words[:at], *([bare] if bare else []), *words[at + 1 :]]
-    if APART.search(word) and not APART.fullmatch(word):
-        return [*words[:at], *(it for it in APART.split(word) if it), *words[at + 1 :]]
-    if word in OTHERS and wanted in (reading.CLAIM, reading.JOIN):
-        return [*words[:at], OTHERS[word], *words[at + 1 :]]
-    if wanted == reading.CLAIM:
-        found = with_subject(words, at, scope.names)
-        meant = near(words[at].lower(), (*reading.CLAIMS, *reading.JOINING))
-        return found or (None if meant is None else [*words[:at], meant, *words[at + 1 :]])
-    if wanted == reading.COMPARISON:
-        return as_comparison(words, at)
     labels = labels_at(words, at, wanted, scope)
-    other = near(word, labels) if labels else single(word, wanted, scope)
+    of_name = with_subject(words, at, scope.names) if wanted == reading.CLAIM else None
+    if bare != word:
+        other: Optional[str] = bare
+    elif APART.search(word) and not APART.fullmatch(word):
+        other = " ".join(APART.split(word))
+    elif word in OTHERS and wanted in (reading.CLAIM, reading.JOIN):
+        other = OTHERS[word]
+    elif wanted == reading.COMPARISON or of_name:
+        return of_name or as_comparison(words, at)
+    else:
+        other = near(word, labels) if labels else single(word, wanted, scope)
     return None if other is None else [*words[:at], *other.split(), *words[at + 1 :]]
 
 
 def single(word: str, wanted: str, scope: Scope) -> Optional[str]:
     """What stands in place of one word."""
     small = word.lower()
-    if wanted == reading.PHASE and word == "=":
-        return ""
+    if wanted == reading.CLAIM:
+        return near(small, (*reading.CLAIMS, *reading.JOINING))
     if wanted == reading.NUMBER:
         return as_number(small)
     if wanted == reading.REGISTER:
         return small[1:] if re.fullmatch("r[0-7]", small) else None
     if wanted == reading.PHASE:
-        return nearest(small, commands.PHASES)
+        return "" if word == "=" else nearest(small, commands.PHASES)
     if wanted == reading.PLACE:
         return nearest(small, (*reading.PLACES, *reading.SIDES, reading.NOTE))
-    kind = next((it for it, what in reading.NAME.items() if what == wanted), None)
+    kind = reading.KIND_OF.get(wanted)
     return None if kind is None else near(small, scope.names.of_kind(kind))
 
 
@@ -129,14 +119,14 @@ def with_subject(words: List[str], at: int, names: Names) -> Optional[List[str]]
     """Words in which a name stands for a claim of it, with what it lacks before it."""
     word, behind = words[at].lower(), (words[at + 1] if at + 1 < len(words) else "")
     for kind in names.kinds_of(word):
-        amount = kinds.OF_WORD[kind].amount
+        amount, is_task = kinds.OF_WORD[kind].amount, kind == kinds.TASK.word
         if amount and behind[:1] in ("=", "<", ">", "!", "&"):
             return [*words[:at], amount, word, *words[at + 1 :]]
-        if kind == kinds.TASK.word and behind in commands.PHASES:
+        if is_task and behind in commands.PHASES:
             return [*words[:at], "phase", word, *words[at + 1 :]]
-        if kind == kinds.TASK.word and behind in ("pc", "phase", *reading.OF_TASKS):
+        if is_task and behind in ("pc", "phase", *reading.OF_TASKS):
             return [*words[:at], behind, word, *words[at + 2 :]]
-        if kind == kinds.TASK.word and re.fullmatch("r[0-7]", behind):
+        if is_task and re.fullmatch("r[0-7]", behind):
             return [*words[:at], "reg", word, behind[1:], *words[at + 2 :]]
     return None
 

@@ -1,6 +1,6 @@
 """Runs at a pace: made of `step` and `tick`, and of interrupts that come by themselves."""
 import dataclasses
-from typing import Dict, Optional, Sequence, Tuple
+from typing import Dict, Mapping, NamedTuple, Optional, Sequence, Tuple
 
 from rdbg import replies
 from rdbg.application import ANY, Interrupt
@@ -18,8 +18,7 @@ NEW = ("step", "tick", *BY_HAND, *RUNS)
 LINES = 4
 
 
-@dataclasses.dataclass(frozen=True)
-class Came:
+class Came(NamedTuple):
     """How often an interrupt has come, and at which tick last."""
 
     times: int = 0
@@ -32,7 +31,7 @@ class State:
     one that has begun still has, and whether a tick has passed since they were last looked at."""
 
     clock: Clock = Clock()
-    came: Tuple[Tuple[str, Came], ...] = ()
+    came: Mapping[str, Came] = dataclasses.field(default_factory=dict)
     left: Tuple[str, ...] = ()
     is_new_tick: bool = False
 
@@ -57,48 +56,41 @@ class PacedWalk(Walk):
 
     def _seen(self, line: str, reply: str, before: int) -> None:
         """Takes note of moves, whoever makes them."""
-        word = line.split(" ", 1)[0]
+        word, *others = line.split(" ")
         if not reply.startswith("ok at ") or word not in NEW:
             return
         state = self._states.get(before, State())
         self._states = {at: it for at, it in self._states.items() if at <= before}
         self._own = {at: it for at, it in self._own.items() if at <= before}
-        if word == "step":
-            clock = state.clock.moved(int(line.split(" ")[1]))
-            state = dataclasses.replace(state, clock=clock)
-        elif word == "tick":
-            state = dataclasses.replace(state, clock=Clock(), is_new_tick=True)
-        elif word in RUNS:
-            state = dataclasses.replace(state, clock=Clock())
-        self._states[self.target.place] = state
+        clock = state.clock.moved(int(others[0])) if word == "step" else state.clock
+        self._states[self.target.place] = dataclasses.replace(
+            state,
+            clock=Clock() if word in ("tick", *RUNS) else clock,
+            is_new_tick=state.is_new_tick or word == "tick",
+        )
 
     def _next(self) -> str:
         """The line of the next move."""
-        place = self.place
-        state = self._states.get(place, State())
+        state = self._states.get(self.place, State())
         cores = self.target.ask("show cores", Cores)
         if state.is_new_tick and not state.left:
             state = self._with_interrupt(state, cores.tick)
         clock = state.clock.seen(cores.running)
-        if state.left:
-            line, left = state.left[0], state.left[1:]
-        else:
-            line, left = self.tick_pace.line(cores, clock.of(len(cores.running))), ()
-        self._states[place] = dataclasses.replace(state, clock=clock, left=left)
+        line, *left = state.left or [self.tick_pace.line(cores, clock.of(len(cores.running)))]
+        self._states[self.place] = dataclasses.replace(state, clock=clock, left=tuple(left))
         return line
 
     def _with_interrupt(self, state: State, tick: int) -> State:
         """The state with the lines of the first interrupt that may come now. Where none may, none
         is looked for until the next tick."""
-        came = dict(state.came)
         for it in self.interrupts:
-            before = came.get(it.name, Came())
+            before = state.came.get(it.name, Came())
             is_left = it.times == ANY or before.times < it.times
             is_apart = not before.times or tick >= before.tick + max(1, it.apart)
-            other = came.get(it.after, Came()) if it.after else None
+            other = state.came.get(it.after, Came()) if it.after else None
             if is_left and is_apart and (other is None or before.times < other.times):
-                came[it.name] = Came(before.times + 1, tick)
-                return dataclasses.replace(state, came=tuple(came.items()), left=it.lines())
+                came = {**state.came, it.name: Came(before.times + 1, tick)}
+                return dataclasses.replace(state, came=came, left=it.lines())
         return dataclasses.replace(state, is_new_tick=False)
 
     def _one(self) -> bool:
@@ -147,8 +139,7 @@ class PacedWalk(Walk):
         return None
 
     def settle(self, start: int, place: int) -> None:
-        """Goes to a place to which runs from `start` came, and leaves no move behind it that could
-        be made again: the last one is made anew."""
+        """As `Walk.settle`; the last move is made anew, so that none behind it is left undone."""
         line = self._own.get(place)
         if place > start and line is not None and (self.place > place or self.target.undone):
             self.goto(min(place - 1, self.place))

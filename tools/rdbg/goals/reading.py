@@ -2,7 +2,7 @@
 binds most and the last least, and by parentheses, each of which is a word. What is refused is told
 as the program that searches tells it."""
 import re
-from typing import Callable, Dict, List, Mapping, Optional, Sequence, Tuple
+from typing import Callable, Dict, List, Optional, Sequence, Tuple
 
 from rdbg import commands, kinds
 from rdbg.failure import Failure
@@ -28,6 +28,7 @@ JOIN = "'and', 'or', ')' or the end is wanted there"
 NAME: Dict[str, str] = {
     it.word: f"the name of {with_article(it.noun)} is wanted there" for it in kinds.ALL
 }
+KIND_OF: Dict[str, str] = {wanted: kind for kind, wanted in NAME.items()}
 OF_A_MOVE = "this is said of a move, and stands by itself where a run is to go: until!, rc!"
 EITHER = "a stream buffer and a message buffer have this name: say sread, swrite, mread or mwrite"
 # Claims, and what joins them, are so many at the most.
@@ -54,18 +55,16 @@ NOTE = "note"
 
 
 class NoGoal(Failure):
-    """Why words are no goal: which of them is wrong, none at the end, and what is wanted there."""
+    """Why words are no goal: which of them is wrong, none at the end (where that is below 0, all of
+    them), what is wanted there, and what more there is to say."""
 
-    def __init__(self, words: Sequence[str], at: Optional[int], wanted: str) -> None:
+    def __init__(
+        self, words: Sequence[str], at: Optional[int], wanted: str, more: str = ""
+    ) -> None:
         self.words, self.at, self.wanted = words, at, wanted
-        super().__init__(said(words, at, wanted), 2)
-
-
-def said(words: Sequence[str], at: Optional[int], wanted: str) -> str:
-    """Why words are no goal, in a sentence."""
-    if at is None:
-        return f"it ends too early: {wanted}"
-    return f"word {at + 1}, '{words[at]}': {wanted}" if at >= 0 else wanted
+        word = f"word {at + 1}, '{words[at]}': " if at is not None and at >= 0 else ""
+        where = "it ends too early: " if at is None else word
+        super().__init__(f"{where}{wanted}{more}", 2)
 
 
 def words_of(text: str) -> List[str]:
@@ -75,6 +74,8 @@ def words_of(text: str) -> List[str]:
 
 class Reader:
     """Reads the words of a goal one after another."""
+
+    what = "goal"
 
     def __init__(self, words: Sequence[str], scope: Scope) -> None:
         self.words, self.scope, self.at = words, scope, 0
@@ -90,17 +91,15 @@ class Reader:
             raise self._wanted(JOIN)
         return found
 
-    def _formula(self, depth: int = 0) -> Goal:
-        found = self._conjunction(depth)
-        while self._takes(OR):
-            found = self._counted(claims.Joined(OR, found, self._conjunction(depth)))
+    def _formula(self, depth: int = 0, word: str = OR) -> Goal:
+        found = self._joined(depth, word)
+        while self._takes(word):
+            found = self._counted(claims.Joined(word, found, self._joined(depth, word)))
         return found
 
-    def _conjunction(self, depth: int) -> Goal:
-        found = self._single(depth)
-        while self._takes(AND):
-            found = self._counted(claims.Joined(AND, found, self._single(depth)))
-        return found
+    def _joined(self, depth: int, word: str) -> Goal:
+        """What stands on a side of this word."""
+        return self._formula(depth, AND) if word == OR else self._single(depth)
 
     def _single(self, depth: int) -> Goal:
         if depth >= MOST:
@@ -124,7 +123,7 @@ class Reader:
         return goal
 
     def _too_long(self) -> NoGoal:
-        return NoGoal(self.words, -1, "the goal is too long")
+        return NoGoal(self.words, -1, f"the {self.what} is too long")
 
     def _takes(self, word: str) -> bool:
         """Whether this word comes next; it is read then."""
@@ -147,14 +146,8 @@ class Reader:
         """Whether the next word belongs to the claim that is being read."""
         return self.at < len(self.words) and self.words[self.at] not in (AND, OR, CLOSE)
 
-    def _number(self, named: Optional[Mapping[str, int]] = None) -> int:
-        value = self.scope.number(self._next(NUMBER), named)
-        if value is None:
-            raise self._wanted(NUMBER)
-        return value
-
-    def _below(self, most: Optional[int], what: str, task: str = "") -> int:
-        """A number below a bound."""
+    def _number(self, what: str = NUMBER, most: Optional[int] = None, task: str = "") -> int:
+        """A number, or a label of a task, below a bound."""
         value = self.scope.number(self._next(what), self.scope.labels.get(task))
         if value is None or (most is not None and value >= most):
             raise self._wanted(what)
@@ -168,9 +161,10 @@ class Reader:
             raise self._wanted(NAME[kind.word])
         return word
 
-    def _comparison(self) -> str:
-        if self._next(COMPARISON) not in commands.OPERATORS:
-            raise self._wanted(COMPARISON)
+    def _among(self, words: Sequence[str], what: str) -> str:
+        """One of these words."""
+        if self._next(what) not in words:
+            raise self._wanted(what)
         return self.words[self.at - 1]
 
     def _claim(self) -> Goal:
@@ -183,11 +177,11 @@ class Reader:
             return self._condition(word)
         if word in OF_MOVES:
             raise self._wanted(OF_A_MOVE)
-        if commands.is_watch(word) and int(word[1:]) in self.scope.watches:
-            condition = read_condition(self.scope.watches[int(word[1:])].split())
-            if condition is not None:
-                return claims.Holds(condition)
-        raise self._wanted(CLAIM)
+        text = self.scope.watches.get(int(word[1:]), "") if commands.is_watch(word) else ""
+        condition = read_condition(text.split())
+        if condition is None:
+            raise self._wanted(CLAIM)
+        return claims.Holds(condition)
 
     def _amount(self, word: str) -> Condition:
         """What stands before an operator."""
@@ -197,24 +191,22 @@ class Reader:
         if word == "tick":
             return Condition(word)
         task = self.named(kinds.TASK)
-        bounds = {"reg": (REGISTERS, REGISTER), NOTE: (self.scope.entries, INDEX)}
-        return Condition(word, task, self._below(*bounds[word]) if word in bounds else 0)
+        bounds = {"reg": (REGISTER, REGISTERS), NOTE: (INDEX, self.scope.entries)}
+        return Condition(word, task, self._number(*bounds[word]) if word in bounds else 0)
 
     def _condition(self, word: str) -> Goal:
         if word == "phase":
             task = self.named(kinds.TASK)
-            if self._next(PHASE) not in commands.PHASES:
-                raise self._wanted(PHASE)
-            return claims.Holds(Condition(word, task, phase=self.words[self.at - 1]))
-        amount = self._amount(word)
+            return claims.Holds(Condition(word, task, phase=self._among(commands.PHASES, PHASE)))
+        amount, mask = self._amount(word), -1
         if word in ("bits", "reg", NOTE) and self._takes("&"):
             mask = self._number()
-            return claims.Masked(amount, mask, self._comparison(), self._number())
-        operator = self._comparison()
+        operator = self._among(commands.OPERATORS, COMPARISON)
+        if mask >= 0:
+            return claims.Masked(amount, mask, operator, self._number())
         if word == "reg" and self._takes(word):
             return claims.Among(amount, operator, self._amount(word))
-        labels = self.scope.labels.get(amount.name) if word == "pc" else None
-        number = self._number(labels)
+        number = self._number(task=amount.name if word == "pc" else "")
         return claims.Holds(Condition(word, amount.name, amount.index, operator, number))
 
     def in_phase(self, word: str) -> Goal:
@@ -225,18 +217,12 @@ class Reader:
         """That this task has failed, or some task."""
         return self.in_phase("failed") if self._is_at_operand() else claims.SomeFailed()
 
-    def runs(self) -> Goal:
-        """That a task is on a core."""
-        return claims.Runs(self.named(kinds.TASK))
-
-    def sleeps(self) -> Goal:
-        """That a task waits without a deadline."""
-        return claims.Waits(self.named(kinds.TASK), is_endless=True)
-
     def stands(self) -> Goal:
         """That a task is at an instruction."""
         task = self.named(kinds.TASK)
-        return claims.At(task, self._below(self.scope.instructions(task), INSTRUCTION, task))
+        found = self.scope.application.task(task) if self.scope.application else None
+        most = None if found is None else len(found.code)
+        return claims.At(task, self._number(INSTRUCTION, most, task))
 
     def waits(self) -> Goal:
         """That a task waits, wherever or at one place."""
@@ -250,7 +236,7 @@ class Reader:
     def _place(self, word: str) -> str:
         """The place that begins with this word, as a phase has it."""
         if word == NOTE:
-            return f"{NOTE}:{self._below(self.scope.entries, INDEX)}"
+            return f"{NOTE}:{self._number(INDEX, self.scope.entries)}"
         if word in SIDES:
             word = SIDES[word][self._is_message()]
         if word not in PLACES:
@@ -260,21 +246,19 @@ class Reader:
 
     def _is_message(self) -> bool:
         """Whether the next word is the name of a message buffer, and of no stream buffer."""
-        word = self.words[self.at] if self.at < len(self.words) else ""
-        is_stream = word in self.scope.names.of_kind(kinds.STREAM.word)
-        is_message = word in self.scope.names.of_kind(kinds.MESSAGE.word)
-        if is_stream and is_message:
+        there = self.scope.names.kinds_of("".join(self.words[self.at : self.at + 1]))
+        if {kinds.STREAM.word, kinds.MESSAGE.word} <= {*there}:
             self.at += 1
             raise self._wanted(EITHER)
-        return is_message
+        return kinds.MESSAGE.word in there
 
 
 # The claims of tasks that are no conditions, by their first word.
 OF_TASKS: Dict[str, Callable[[Reader], Goal]] = {
     "at": Reader.stands,
     "waits": Reader.waits,
-    "sleeps": Reader.sleeps,
-    "runs": Reader.runs,
+    "sleeps": lambda reader: claims.Waits(reader.named(kinds.TASK), is_endless=True),
+    "runs": lambda reader: claims.Runs(reader.named(kinds.TASK)),
     "ended": lambda reader: reader.in_phase("ended"),
     "failed": Reader.failed,
 }

@@ -1,7 +1,9 @@
 """What a goal can name: tasks and objects, entries and instructions, and of a text in lines its
 labels and constants."""
 import dataclasses
-from typing import Dict, Mapping, Optional, Sequence
+import functools
+import operator
+from typing import Dict, Mapping, Optional
 
 from rdbg.application import Application
 from rdbg.commands import MOST_NUMBER
@@ -28,29 +30,23 @@ class Scope:
     def of(cls, source: Optional[Source], application: Optional[Application] = None) -> "Scope":
         """What a file has; the application is another where there is no file."""
         found = application if source is None else source.application
-        named = None if source is None else source.named()
         names = Names() if found is None else Names.of(found)
-        if named is None:
-            return cls(names, found)
-        return cls(names, found, named.constants, named.labels)
+        named = None if source is None else source.named()
+        return cls(names, found, named.constants, named.labels) if named else cls(names, found)
 
     @property
     def entries(self) -> int:
         """How many notification entries each task has, or may have."""
         return 4 if self.application is None else self.application.notes
 
-    def instructions(self, task: str) -> Optional[int]:
-        """How many instructions the script of a task has; none where it isn't known."""
-        found = None if self.application is None else self.application.task(task)
-        return None if found is None else len(found.code)
-
     def number(self, word: str, named: Optional[Mapping[str, int]] = None) -> Optional[int]:
-        """The number that a word is: digits, or what a text in lines has for it. `named` are words
-        that are numbers there besides."""
+        """The number that a word is: digits, or, of a text in lines, a const or one of `named`."""
         if self.constants is None:
             return number(word, MOST_NUMBER)
         known: Dict[str, int] = {**self.constants, **(named or {})}
-        return joined([part_of(part, known) for part in word.split("|")])
+        parts = [part_of(part, known) for part in word.split("|")]
+        found = [it for it in parts if it is not None]
+        return functools.reduce(operator.or_, found) if len(found) == len(parts) else None
 
 
 def part_of(word: str, known: Mapping[str, int]) -> Optional[int]:
@@ -61,13 +57,3 @@ def part_of(word: str, known: Mapping[str, int]) -> Optional[int]:
     if 0 < len(digits) <= 8 and all(sign in "0123456789abcdefABCDEF" for sign in digits):
         return int(digits, 16)
     return number(word, MOST_NUMBER)
-
-
-def joined(parts: Sequence[Optional[int]]) -> Optional[int]:
-    """Numbers as one that has the bits of all."""
-    value = 0
-    for part in parts:
-        if part is None:
-            return None
-        value |= part
-    return value

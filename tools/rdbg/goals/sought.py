@@ -19,15 +19,13 @@ def way(
     words: Sequence[str], target: Target, scope: Scope, becoming: bool
 ) -> Tuple[Way, Optional[int]]:
     """The way to what these words name, and the COUNT behind them, if any. Raises `NoGoal`."""
-    if words and words[0] in reading.OF_MOVES:
-        found, at = of_move(words, target, scope)
-        if at == len(words):
-            return found, None
-        if at == len(words) - 1 and commands.is_count(words[at]):
-            return found, int(words[at])
+    if not words or words[0] not in reading.OF_MOVES:
+        goal, count = counted(words, scope)
+        return To(goal, becoming), count
+    found, at = of_move(words, target, scope)
+    if words[at + 1 :] or not all(map(commands.is_count, words[at:])):
         raise NoGoal(words, at, "a COUNT or the end is wanted there")
-    goal, count = counted(words, scope)
-    return To(goal, becoming), count
+    return found, int(words[at]) if words[at:] else None
 
 
 def of_move(words: Sequence[str], target: Target, scope: Scope) -> Tuple[Way, int]:

@@ -3,13 +3,14 @@
 A goal is found by small runs and looks between. A way says the place of the very move, and may
 leave the target anywhere that a run from where it began came through."""
 import dataclasses
+from functools import partial
 from typing import Callable, Iterator, List, Optional, Sequence, Tuple
 
 from rdbg import record, replies
 from rdbg.by_hand import INTERRUPT
 from rdbg.driving.target import Target, read
 from rdbg.driving.walk import Walk
-from rdbg.goals.claims import Goal, Holds, Not, Stuck, Waits
+from rdbg.goals.claims import Goal, Holds, Not, Stuck, Turns, Waits
 from rdbg.goals.conditions import Condition
 from rdbg.looks import Look, Names
 
@@ -21,37 +22,48 @@ FIRST_CHUNK, MOST_CHUNK = 8, 256
 NEAR, TURNS = 8, 4
 # The first of several goals is looked for within so many moves, and then within so many times more.
 FIRST_WINDOW, WIDER = 64, 8
+Place = Optional[int]
+
+
+def first_of(walk: Walk, finds: Sequence[Callable[[int], Place]], limit: int) -> Tuple[Place, int]:
+    """The first place of so many moves that one of these finds, and which. Stays where it is."""
+    start, left, which = walk.place, limit, -1
+    found: Optional[int] = None
+    for at, find in enumerate(finds):
+        if left < 1:
+            break
+        place = find(left)
+        if place is not None:
+            found, left, which = place, place - start - 1, at
+        walk.reach(start)
+    return found, which
+
+
+def last_of(walk: Walk, finds: Sequence[Callable[[], Place]]) -> Tuple[Place, int]:
+    """The last earlier place that one of these finds, and which. Stays where it is."""
+    start, which = walk.place, -1
+    found: Optional[int] = None
+    for at, find in enumerate(finds):
+        place = find()
+        if place is not None and (found is None or place > found):
+            found, which = place, at
+        walk.goto(start)
+    return found, which
 
 
 def nearest(walk: Walk, conditions: Sequence[Condition], limit: int) -> Optional[int]:
     """The first place of a run where one of these conditions holds. Stays where it is."""
-    start, left = walk.place, limit
-    found: Optional[int] = None
-    for condition in conditions:
-        if left < 1:
-            break
-        met = walk.until(condition.text, left)
-        if met is not None:
-            found, left = met, met - start - 1
-        walk.reach(start)
-    return found
+    return first_of(walk, [partial(walk.until, it.text) for it in conditions], limit)[0]
 
 
 def latest(walk: Walk, conditions: Sequence[Condition]) -> Optional[int]:
     """The last earlier place where one of these conditions holds. Stays where it is."""
-    start = walk.place
-    met: List[int] = []
-    for condition in conditions:
-        place = walk.back_until(condition.text)
-        if place is not None:
-            met.append(place)
-        walk.goto(start)
-    return max(met) if met else None
+    return last_of(walk, [partial(walk.back_until, it.text) for it in conditions])[0]
 
 
-def look_at(walk: Walk, goal: Goal) -> Look:
+def look_at(target: Target, goal: Goal) -> Look:
     """A look at what a goal speaks of."""
-    return walk.target.look(goal.names(walk.target.names))
+    return target.look(goal.names(target.names))
 
 
 def looked(
@@ -72,9 +84,7 @@ def looked(
         yield start + (step + 1 if is_later else -step - 1), [read(each) for each in seen]
 
 
-def otherwise(
-    walk: Walk, end: int, view: str, of: Callable[[replies.Reply], object]
-) -> Optional[int]:
+def otherwise(walk: Walk, end: int, view: str, of: Callable[[replies.Reply], object]) -> Place:
     """The first place up or back to one where a line doesn't show what it does here."""
     here, chunk = of(read(walk.target.tell(view))), FIRST_CHUNK
     while True:
@@ -95,7 +105,7 @@ def is_so(target: Target, goal: Goal) -> bool:
     # (mostly it is seen by one line that something goes on)
     if isinstance(goal, Stuck) and any(target.ask("show cores", replies.Cores).running):
         return False
-    return goal.is_so(target.look(goal.names(target.names)))
+    return goal.is_so(look_at(target, goal))
 
 
 def is_stuck(target: Target) -> bool:
@@ -125,19 +135,10 @@ class Search:
         end = walk.place + limit
         while walk.place < end:
             walk.interrupt.check()
-            look, here = look_at(walk, self.goal), walk.place
+            look = look_at(walk.target, self.goal)
             turns = None if self.goal.is_so(look) else self.goal.turns(look, earlier=False)
-            if turns is None or self._short >= TURNS:
-                place = self._scan(end)
-                if place is not None or walk.place == here:
-                    return place
-                continue
-            place = nearest(walk, turns, end - here)
-            if place is None:
-                return None
-            walk.reach(place)
-            self._went(place - here)
-            if is_so(walk.target, self.goal):
+            place, is_end = self._onwards(turns, end)
+            if place is not None or is_end:
                 return place
         return None
 
@@ -149,35 +150,37 @@ class Search:
         while walk.place > base:
             walk.interrupt.check()
             walk.goto(walk.place - 1)
-            look, here = look_at(walk, self.goal), walk.place
+            look, here = look_at(walk.target, self.goal), walk.place
             if self.goal.is_so(look):
                 return here
             if self.goal.is_lasting and only_runs(walk.target):
                 return None
             if isinstance(self.goal, Not) and self.goal.goal.is_lasting and only_runs(walk.target):
-                return self._before(base, here)
-            turns = self.goal.turns(look, earlier=True)
-            if turns is None or self._short >= TURNS:
-                place = self._scan(base)
-                if place is not None:
-                    return place
-                continue
-            place = latest(walk, turns)
-            if place is None:
-                return None
-            walk.goto(place)
-            self._went(here - place)
-            if is_so(walk.target, self.goal):
+                # (it isn't so behind the last place at which what lasts isn't so yet)
+                walk.goto(base)
+                is_there = is_so(walk.target, self.goal)
+                return Search(walk, self.goal.goal).between(base, here) - 1 if is_there else None
+            place, is_end = self._onwards(self.goal.turns(look, earlier=True), base)
+            if place is not None or is_end:
                 return place
         return None
 
-    def _went(self, count: int) -> None:
-        """Takes note of how far it was to a place that could have been it."""
-        self._short = self._short + 1 if count < NEAR else 0
+    def _onwards(self, turns: Turns, end: int) -> Tuple[Optional[int], bool]:
+        """Goes on to where the goal may be so, at most up to a place, or back to one: the place
+        where it is so, and whether there is no further one."""
+        walk, here = self.walk, self.walk.place
+        if turns is None or self._short >= TURNS:
+            return self._scan(end), end > here and walk.place == here
+        place = nearest(walk, turns, end - here) if end > here else latest(walk, turns)
+        if place is None:
+            return None, True
+        walk.reach(place)
+        # (how often it wasn't far to a place that could have been it)
+        self._short = self._short + 1 if abs(place - here) < NEAR else 0
+        return place if is_so(walk.target, self.goal) else None, False
 
     def _scan(self, end: int) -> Optional[int]:
-        """Looks at some of the places up to one, or back to one, one by one. The first of them
-        where the goal holds; the target ends behind the last."""
+        """The first of some of the next places, looked at one by one, where it is so, or none."""
         most = self._chunk
         self._chunk, self._short = min(2 * most, MOST_CHUNK), self._short // 2
         for place, seen in looked(self.walk, end, most, self._names.lines()):
@@ -201,8 +204,7 @@ class Search:
         return None
 
     def between(self, low: int, high: int) -> int:
-        """The first place where what lasts is so, above one where it isn't, at most one where it
-        is."""
+        """The first place above `low`, where what lasts isn't so, up to `high`, where it is."""
         while high - low > 1:
             self.walk.goto((low + high) // 2)
             if is_so(self.walk.target, self.goal):
@@ -210,14 +212,6 @@ class Search:
             else:
                 low = self.walk.place
         return high
-
-    def _before(self, low: int, high: int) -> Optional[int]:
-        """The last place from `low` up to `high`, where what lasts is so, at which it isn't."""
-        self.walk.goto(low)
-        if not is_so(self.walk.target, self.goal):
-            return None
-        assert isinstance(self.goal, Not)
-        return Search(self.walk, self.goal.goal).between(low, high) - 1
 
 
 def only_runs(target: Target) -> bool:
@@ -290,31 +284,16 @@ class AnyOf(Way):
         while True:
             here = walk.place
             left = limit - (here - start)
-            found = self._first(walk, min(window, left))
+            finds = [partial(it.next, walk) for it in self.ways]
+            found, which = first_of(walk, finds, min(window, left))
             if found is not None or left <= window or walk.wall:
-                return found
+                return self._met(found, which)
             walk.reach(here + window)
             window *= WIDER
 
-    def _first(self, walk: Walk, limit: int) -> Optional[int]:
-        """The first place of so many moves. Stays where it is."""
-        start, left = walk.place, limit
-        found: Optional[int] = None
-        for way in self.ways:
-            if left < 1:
-                break
-            place = way.next(walk, left)
-            if place is not None:
-                found, left, self.met = place, place - start - 1, way
-            walk.reach(start)
-        return found
-
     def last(self, walk: Walk) -> Optional[int]:
-        start = walk.place
-        found: Optional[int] = None
-        for way in self.ways:
-            place = way.last(walk)
-            if place is not None and (found is None or place > found):
-                found, self.met = place, way
-            walk.goto(start)
-        return found
+        return self._met(*last_of(walk, [partial(it.last, walk) for it in self.ways]))
+
+    def _met(self, place: Optional[int], which: int) -> Optional[int]:
+        self.met = self.met if place is None else self.ways[which]
+        return place

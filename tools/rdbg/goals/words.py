@@ -20,8 +20,7 @@ def read(words: Sequence[str], scope: Scope) -> Goal:
 
 
 def for_search(words: Sequence[str], scope: Scope) -> Tuple[Goal, str]:
-    """The goal that these words are, and how the program that searches has it. Raises `NoGoal`,
-    also where it has no words for it."""
+    """A goal, and how the program that searches has it. Raises `NoGoal` also without words."""
     goal = read(words, scope)
     asked = goal.asked(scope.names.tasks)
     if asked is None:
@@ -34,8 +33,7 @@ def counted(words: Sequence[str], scope: Scope) -> Tuple[Goal, Optional[int]]:
     try:
         return plain(words, scope), None
     except NoGoal as wrong:
-        is_last = wrong.at is not None and wrong.at == len(wrong.words) - 1
-        if is_last and len(words) > 1 and commands.is_count(words[-1]):
+        if wrong.at == len(wrong.words) - 1 and words[1:] and commands.is_count(words[-1]):
             with contextlib.suppress(NoGoal):
                 return plain(words[:-1], scope), int(words[-1])
     return read(words, scope), None

@@ -6,18 +6,17 @@ differs behind which one of them can't come to rest as it does there any more, w
 
 Interrupts come to `forward`'s own order where nothing else is left to do, each as often as it may;
 so that one came is no difference by itself."""
-import dataclasses
 import itertools
 import re
-from typing import Dict, Iterator, List, Optional, Sequence, Set, Tuple
+from typing import Dict, Iterator, List, NamedTuple, Optional, Sequence, Set, Tuple
 
-from rdbg.application import Task
+
 from rdbg.driving.target import read
-from rdbg.goals.ways import To
-from rdbg.hunting.ends import claims
-from rdbg.hunting.goals import STUCK, is_stuck
+from rdbg.goals.conditions import Condition
+from rdbg.goals.ways import To, latest
+from rdbg.hunting.goals import STUCK
 from rdbg.hunting.orders import FORWARD, TICK, Order, choice
-from rdbg.hunting.search import Search
+from rdbg.hunting.search import STOPS, Search, claims
 from rdbg.hunting.stage import Find, Stage
 from rdbg.reaching.said import Answer, Bound, Kind
 from rdbg.replies import Cores
@@ -32,8 +31,7 @@ TIMES = re.compile(r"((?:wait:\w+:\w+|again):)(\d+)\b")
 AWAKE = ("run", "again", "given")
 
 
-@dataclasses.dataclass(frozen=True)
-class Own:
+class Own(NamedTuple):
     """`forward`'s own order, what it comes to in each way in which interrupts come at its end, and
     the tasks that are at rest there, where not all is."""
 
@@ -42,8 +40,7 @@ class Own:
     resting: Tuple[str, ...]
 
 
-@dataclasses.dataclass(frozen=True)
-class Difference:
+class Difference(NamedTuple):
     """An order that differs, and the tasks that are compared; none: all is."""
 
     find: Find
@@ -54,8 +51,7 @@ def ways(stage: Stage) -> Iterator[Tuple[Tuple[str, ...], ...]]:
     """The ways in which interrupts may come at the end, each as often as it may: their calls."""
     counts = [range(it.times + 1) for it in stage.handlers]
     for chosen in itertools.islice(itertools.product(*counts), MOST_WAYS):
-        pairs = zip(chosen, stage.handlers)
-        yield tuple(it.calls for count, it in pairs for _ in range(count))
+        yield tuple(it.calls for count, it in zip(chosen, stage.handlers) for _ in range(count))
 
 
 def rests(stage: Stage, task: str) -> bool:
@@ -65,13 +61,8 @@ def rests(stage: Stage, task: str) -> bool:
         return True
     if it.phase.word != "wait" or it.phase.deadline is not None:
         return False
-    here = stage.walk.place
-    for phase in AWAKE:
-        last = stage.walk.back_until(f"phase {task} {phase}")
-        stage.walk.goto(here)
-        if last is not None and last > here // 2:
-            return False
-    return True
+    last = latest(stage.walk, [Condition("phase", task, phase=word) for word in AWAKE])
+    return last is None or last <= stage.walk.place // 2
 
 
 class Differs:
@@ -86,11 +77,11 @@ class Differs:
     def _own(self) -> Own:
         """`forward`'s own order."""
         whole = self._run(())
-        tasks = () if is_stuck(whole.look) else self.stage.names.tasks
+        tasks = () if STUCK.is_so(whole.look) else self.stage.names.tasks
         resting = tuple(it for it in tasks if rests(self.stage, it))
-        ends = [self._run(way) for way in ways(self.stage)]
-        self._ends = {it.views for it in ends}
-        return Own(whole, tuple(ends), resting)
+        ends = tuple(self._run(way) for way in ways(self.stage))
+        self._ends.update(it.views for it in ends)
+        return Own(whole, ends, resting)
 
     def _run(self, way: Sequence[Tuple[str, ...]]) -> Find:
         """What `forward` comes to, with these interrupts behind it, each where all rests again."""
@@ -105,7 +96,7 @@ class Differs:
     def _to_rest(self) -> List[str]:
         """Goes on as `forward` does until all rests, or so many moves are made: the lines of it."""
         walk, start = self.stage.walk, self.stage.walk.place
-        if is_stuck(walk.target.look()):
+        if STUCK.is_so(walk.target.look()):
             return []
         met = To(STUCK, becoming=False).next(walk, self._moves)
         if met is None:
@@ -119,7 +110,7 @@ class Differs:
         """So many that differ, at the most; those with fewer surprises first."""
         if self.own.resting:
             return self._by_leaving(wanted)[:wanted]
-        if not is_stuck(self.own.find.look):
+        if not STUCK.is_so(self.own.find.look):
             why = f"nothing is at rest in forward's order of {self._moves} moves: name a goal"
             self.search.none.append(Answer(Kind.UNTOLD, why=why))
             return []
@@ -185,11 +176,11 @@ class Differs:
 
     def _state(self, cores: Cores, views: Sequence[str]) -> Tuple[object, ...]:
         """What is the same where all goes on alike, whatever the tick."""
-        left = (
-            TIMES.sub(lambda it: f"{it[1]}+{max(0, int(it[2]) - cores.tick)}", view)
-            for view in views
-        )
-        tick = cores.tick % len(cores.running)
+
+        def relative(found: "re.Match[str]") -> str:
+            return f"{found[1]}+{max(0, int(found[2]) - cores.tick)}"
+
+        tick, left = cores.tick % len(cores.running), (TIMES.sub(relative, it) for it in views)
         return (cores.running, cores.ready, tick, choice(cores), *left)
 
     def _behind(
@@ -210,22 +201,21 @@ class Differs:
             # (of whatever length)
             more = self.search.interrupts(come)
             answer = self.search.asker.ask(goal, Bound(), leaving, more, self.search.question)
-            if self.search.is_stopped_by(answer):
+            if answer.why in STOPS:
+                self.search.none.append(answer)
                 return None
-            if answer.kind is not Kind.NONE:
-                continue
-            task = self.stage.application.task(name)
-            assert task is not None
-            found = self.search.ask(at_rest(task), bound, leaving, come, keeps=False)
-            return Difference(found or self.stage.find(leaving), (name,))
+            if answer.kind is Kind.NONE:
+                found = self.search.ask(self._at_rest(name), bound, leaving, come, keeps=False)
+                return Difference(found or self.stage.find(leaving), (name,))
         return None
 
-
-def at_rest(task: Task) -> str:
-    """That a task has ended or failed, or waits in a call without a deadline."""
-    endless = (at for at, it in enumerate(task.code) if it.words()[-1] == "max")
-    waiting = (f"waits {task.name} and at {task.name} {at}" for at in endless)
-    return " or ".join([f"ended {task.name}", f"failed {task.name}", *waiting])
+    def _at_rest(self, name: str) -> str:
+        """That a task has ended or failed, or waits in a call without a deadline."""
+        task = self.stage.application.task(name)
+        assert task is not None
+        endless = (at for at, it in enumerate(task.code) if it.words()[-1] == "max")
+        waiting = (f"waits {name} and at {name} {at}" for at in endless)
+        return " or ".join([f"ended {name}", f"failed {name}", *waiting])
 
 
 def compared(own: Own, difference: Difference) -> Dict[str, Tuple[str, str]]:

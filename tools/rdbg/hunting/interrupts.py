@@ -2,10 +2,9 @@
 
 A handler is its calls, one behind the other with nothing between them. It may come once at any
 place; who names it twice has it come up to twice."""
-import dataclasses
-from typing import Dict, List, Sequence, Tuple
+from typing import List, NamedTuple, Sequence, Tuple
 
-from rdbg import commands
+from rdbg import commands, kinds
 from rdbg.application import MOST_TIMES, NO_INTERRUPT, Application
 from rdbg.failure import Failure
 from rdbg.reaching.handlers import EVER, OPTION, TIMES, WORD, handlers as by_name
@@ -17,8 +16,7 @@ PROFILE = 2
 FORMS = "send Q HEX, or notify K I N ACTION; more calls of one handler with ; between them"
 
 
-@dataclasses.dataclass(frozen=True)
-class Handler:
+class Handler(NamedTuple):
     """A handler, by the lines of its calls, how often it may come in one order, and when, as the
     program that searches has it, where a text says that. One that is endless comes any number of
     times where it is searched; where its times are counted one by one, so many."""
@@ -45,14 +43,13 @@ class Handler:
 
 def handlers(texts: Sequence[str], application: Application) -> Tuple[Handler, ...]:
     """The handlers that are named, or all, with how often each may come. Raises `Failure`."""
-    if texts and [*texts] != [NO_INTERRUPT] and application.profile < PROFILE:
-        raise Failure(
-            f"NoIsr: {OPTION} needs profile {PROFILE}, and the file has {application.profile}", 2
-        )
+    profile = application.profile
+    if texts and [*texts] != [NO_INTERRUPT] and profile < PROFILE:
+        raise Failure(f"NoIsr: {OPTION} needs profile {PROFILE}, and the file has {profile}", 2)
     found: List[Handler] = []
     # (those that the text names stand first: `after` has their numbers, and others may be joined)
-    names = [text for text in texts if application.interrupt(text.strip()) is not None]
-    for it in by_name([*names, *[text for text in texts if text not in names]], application):
+    in_order = sorted(texts, key=lambda it: application.interrupt(it.strip()) is None)
+    for it in by_name(in_order, application):
         when = dict(it.when)
         calls = tuple(call_of(part, it.calls, application) for part in it.calls.split(BETWEEN))
         times = when.pop(TIMES, "1")
@@ -60,9 +57,8 @@ def handlers(texts: Sequence[str], application: Application) -> Tuple[Handler, .
         if same and not it.when:
             found[same[0]] = Handler(calls, found[same[0]].times + 1)
         else:
-            is_endless = times == EVER
-            most = MOST_TIMES if is_endless else int(times)
-            found.append(Handler(calls, most, tuple(when.items()), is_endless))
+            most = MOST_TIMES if times == EVER else int(times)
+            found.append(Handler(calls, most, tuple(when.items()), times == EVER))
     return tuple(found)
 
 
@@ -82,14 +78,13 @@ def call_of(part: str, text: str, application: Application) -> str:
 
 def fault(symbol: str, word: str, application: Application) -> str:
     """Why a word can't stand where a form has this symbol; empty where it can."""
-    names: Dict[str, List[str]] = {
-        "Q": [queue.name for queue in application.queues],
-        "K": [task.name for task in application.tasks],
-    }
     if symbol == "I" and int(word) >= application.notes:
         return f"there is no entry {word}: the file has {application.notes}, counted from 0"
-    if symbol not in names or word in names[symbol]:
+    if symbol not in kinds.OF_SYMBOL:
         return ""
-    near = nearest(word, names[symbol])
+    names = [it.name for it in application.of(kinds.OF_SYMBOL[symbol])]
+    if word in names:
+        return ""
+    near = nearest(word, names)
     hint = f"; near it is {near}" if near else ""
     return f"{word} isn't {commands.SYMBOLS[symbol].noun}{hint}"

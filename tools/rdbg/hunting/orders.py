@@ -3,7 +3,7 @@
 A surprise is a move that `forward` wouldn't make next, where the moves of one core in a row, all
 ahead of it, count as one; an interrupt is one, whatever it calls."""
 import dataclasses
-from typing import Iterator, List, Optional, Sequence, Tuple
+from typing import List, NamedTuple, Optional, Sequence, Tuple
 
 from rdbg.driving.target import Target, read
 from rdbg.failure import Failure
@@ -15,8 +15,7 @@ from rdbg.wording import counted
 TICK = "tick"
 
 
-@dataclasses.dataclass(frozen=True)
-class Order:
+class Order(NamedTuple):
     """An order, by the lines that make it from boot, and by those of its moves; what is told of it,
     the surprises; how many moves it has, an interrupt as one; and how many the program has made
     then, each call of an interrupt as one."""
@@ -65,47 +64,36 @@ def choice(cores: Cores) -> Optional[int]:
     return next(busy, None)
 
 
-def runs_of(
-    lines: Sequence[str], looks: Sequence[Cores], handlers: Sequence[Handler]
-) -> Iterator[Run]:
+def runs_of(lines: Sequence[str], looks: Sequence[Cores], handlers: Sequence[Handler]) -> List[Run]:
     """The runs that the moves of an order make, with the cores before each of them."""
+    found: List[Run] = []
     at = 0
-    last: Optional[Run] = None
     while at < len(lines):
         line = lines[at]
         if line.split()[0] == WORD:
             # (the calls of one handler, the first of them among its own)
-            fitting = (len(it.calls) for it in handlers if it.begins(lines[at:]))
-            count = max(fitting, default=1)
+            count = max((len(it.calls) for it in handlers if it.begins(lines[at:])), default=1)
             run = Run(line, count, at, tuple(lines[at : at + count]))
         else:
             core = choice(looks[at])
             expected = TICK if core is None else f"step {core}"
             run = Run(FORWARD if line == expected else line, 1, at)
         at += run.count
-        if last is not None and last.line == run.line and run.line != TICK and not run.calls:
-            last.count += 1
-            continue
-        if last is not None:
-            yield last
-        last = run
-    if last is not None:
-        yield last
+        if found and found[-1].line == run.line and run.line != TICK and not run.calls:
+            found[-1].count += 1
+        else:
+            found.append(run)
+    return found
 
 
 def make(target: Target, moves: Sequence[str], handlers: Sequence[Handler]) -> Order:
-    """The order of these moves, a line each, made in a program that is at boot. Raises `Failure`
-    where one of them is refused there."""
+    """The order of these moves, made from boot. Raises `Failure` where one is refused."""
     answers = target.tell_all([it for move in moves for it in ("show cores", move)])
     if any(it.startswith("no ") for it in answers):
         raise Failure("what was found can't be made again")
     looks = [it for it in map(read, answers[::2]) if isinstance(it, Cores)]
-    runs = [*runs_of(moves, looks, handlers)]
-    lengths = (1 if it.calls else it.count for it in runs)
-    return Order(
-        tuple(line for it in runs for line in it.lines()),
-        tuple(moves),
-        tuple(it.told() for it in runs if it.told()),
-        sum(lengths),
-        len(moves),
-    )
+    runs = runs_of(moves, looks, handlers)
+    lines = tuple(line for it in runs for line in it.lines())
+    told = tuple(it.told() for it in runs if it.told())
+    length = sum(1 if it.calls else it.count for it in runs)
+    return Order(lines, tuple(moves), told, length, len(moves))

@@ -1,5 +1,5 @@
 """What is said of a hunt: what was found, and exactly what was gone through."""
-from typing import Iterator, List, Optional, Sequence, Tuple
+from typing import Iterator, List, Sequence, Tuple
 
 from rdbg.application import Application
 from rdbg.failure import Failure
@@ -37,15 +37,14 @@ def lines_of(goal: Goal, stage: Stage, finds: Sequence[Find]) -> List[str]:
 def found(goal: Goal, stage: Stage, finds: Sequence[Find], is_exhaustive: bool) -> Iterator[str]:
     """What is said of what was found."""
     for at, find in enumerate(finds, 1):
-        yield from one_found(goal, stage, find, at if len(finds) > 1 else None, is_exhaustive)
+        yield from one_found(goal, stage, find, f" {at}" if len(finds) > 1 else "", is_exhaustive)
 
 
 def one_found(
-    goal: Goal, stage: Stage, find: Find, number: Optional[int], is_exhaustive: bool
+    goal: Goal, stage: Stage, find: Find, which: str, is_exhaustive: bool = False
 ) -> Iterator[str]:
     """What is said of one."""
     how = "" if is_exhaustive else f", {with_surprises(len(find.order.told))}"
-    which = "" if number is None else f" {number}"
     yield f"found{which}: {goal.text}, at {find.order.place}{how}"
     if not is_exhaustive:
         yield from (f"  {told}" for told in find.order.told)
@@ -60,7 +59,7 @@ def differing(goal: Goal, stage: Stage, own: Own, them: Sequence[Difference]) ->
     yield f"the order without a surprise, which ends at {own.find.order.place}:"
     yield from stage.table(own.find, lambda look: True)[0]
     for at, it in enumerate(them, 1):
-        yield from one_found(goal, stage, it.find, at if len(them) > 1 else None, False)
+        yield from one_found(goal, stage, it.find, f" {at}" if len(them) > 1 else "")
         yield "how the first order ends (<), and this one (>):"
         for one, other in compared(own, it).values():
             yield from (f"< {one}", f"> {other}")
@@ -77,14 +76,10 @@ def gone_through(counts: Tuple[int, int, int]) -> str:
 
 def not_come_to(answer: Answer, application: Application) -> Iterator[str]:
     """The instructions that no order came to, if there are any."""
-    left: List[str] = []
-    for name, numbers in answer.missed:
-        task = application.task(name)
-        if task is not None:
-            left += [f"{name} {pc}: {task.code[pc].told}" for pc in numbers]
-    if not left:
-        return
-    yield f"no order came to {counted(len(left), 'instruction')}:"
+    missed = [(application.task(name), numbers) for name, numbers in answer.missed]
+    left = [f"{it.name} {pc}: {it.code[pc].told}" for it, numbers in missed if it for pc in numbers]
+    if left:
+        yield f"no order came to {counted(len(left), 'instruction')}:"
     for at in range(0, min(len(left), MOST_NAMED), IN_A_LINE):
         yield f"  {'; '.join(left[at : at + IN_A_LINE])}"
     if len(left) > MOST_NAMED:

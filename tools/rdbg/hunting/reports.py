@@ -25,8 +25,7 @@ def told(result: Values) -> Iterator[str]:
 
 
 def case(file: str, goal: str, results: Sequence[Values], expect: str) -> ElementTree.Element:
-    """A search as a case: a failure where it didn't come to what is expected, an error where that
-    isn't known."""
+    """A search as a case: a failure where it isn't as expected, an error where it is open."""
     name = shown(f"{goal}: {expect}")
     made = ElementTree.Element("testcase", {"classname": shown(file), "name": name})
     kinds = {it["kind"] for it in results}

@@ -7,9 +7,10 @@ import re
 from typing import Any, Dict, Iterator, Optional, Sequence
 from urllib.parse import quote
 
-from rdbg.application import Application
+
 from rdbg.client import version
 from rdbg.driving.parts import look_through
+from rdbg.driving.trail import instruction_of
 from rdbg.effects import Move
 from rdbg.files.source import Source
 from rdbg.hunting.stage import Find, Stage
@@ -48,19 +49,17 @@ def physical(path: str, place: Optional[Place]) -> Values:
     return found
 
 
-def place_of(application: Application, move: Move) -> Optional[Place]:
-    """Where the instruction of a move stands; none where no task made it."""
-    task = None if move.task is None else application.task(move.task)
-    if task is None or move.pc is None or move.pc >= len(task.code):
-        return None
-    return task.code[move.pc].place
+def result(kind: str, level: str, text: str, place: Values) -> Values:
+    """What a search has come to, and where."""
+    where = {"message": {"text": text}, "locations": [{"physicalLocation": place}]}
+    return {"ruleId": RULE, "kind": kind, "level": level, **where}
 
 
 def step(source: Source, move: Move) -> Values:
-    """A move as a place of a flow."""
-    assert source.application is not None
-    place = place_of(source.application, move)
-    where = {"physicalLocation": physical(source.path, place), "message": {"text": move.row()}}
+    """A move as a place of a flow: where its instruction stands, if a task made it."""
+    it = instruction_of(source.application, move)
+    place = physical(source.path, it.place if it else None)
+    where = {"physicalLocation": place, "message": {"text": move.row()}}
     return {"location": where, "executionOrder": move.place}
 
 
@@ -76,30 +75,16 @@ def found(
         said += f"; {'; '.join(told)}"
     steps = [step(source, move) for move in moves]
     last = steps[-1]["location"]["physicalLocation"] if steps else physical(source.path, None)
-    result: Values = {
-        "ruleId": RULE,
-        "kind": FAIL,
-        "level": "error",
-        "message": {"text": said},
-        "locations": [{"physicalLocation": last}],
-        "properties": {"lines": list(lines), "moves": count},
-    }
-    if steps:
-        result["codeFlows"] = [{"threadFlows": [{"locations": steps}]}]
-    return result
+    properties = {"properties": {"lines": list(lines), "moves": count}}
+    flows = {"codeFlows": [{"threadFlows": [{"locations": steps}]}]} if steps else {}
+    return {**result(FAIL, "error", said, last), **properties, **flows}
 
 
 def none(source: Source, goal: str, answer: Answer) -> Values:
     """That no order was found, which is a theorem where the answer is `never`."""
     kind = PASS if answer.kind is Kind.NONE else OPEN
     said = f"{goal}: {answer.head()}" + (f"; {answer.why}" if answer.why else "")
-    return {
-        "ruleId": RULE,
-        "kind": kind,
-        "level": "none",
-        "message": {"text": said},
-        "locations": [{"physicalLocation": physical(source.path, None)}],
-    }
+    return result(kind, "none", said, physical(source.path, None))
 
 
 def results(
@@ -112,17 +97,13 @@ def results(
         yield none(source, goal, answer)
 
 
-def driver() -> Values:
-    """What has made a report: rdbg, of which version, and whether its program is proved."""
-    said = version()
-    number = NUMBERED.match(said)
-    numbered = {"version": number[1]} if number else {}
-    return {"name": "rdbg", "fullName": said, **numbered, "rules": RULES}
-
-
 def text_of(said: Sequence[Values]) -> str:
-    """A report of these results."""
-    run = {"tool": {"driver": driver()}, "results": list(said), "columnKind": "unicodeCodePoints"}
+    """A report of these results, made by rdbg, of which version, and whether it is proved."""
+    whole = version()
+    number = NUMBERED.match(whole)
+    numbered = {"version": number[1]} if number else {}
+    driver = {"name": "rdbg", "fullName": whole, **numbered, "rules": RULES}
+    run = {"tool": {"driver": driver}, "results": list(said), "columnKind": "unicodeCodePoints"}
     return json.dumps({"$schema": SCHEMA, "version": VERSION, "runs": [run]}, indent=2) + "\n"
 
 

@@ -5,11 +5,16 @@ no other ends otherwise, are further questions, of which each answer is said of 
 bound."""
 import dataclasses
 import heapq
-from typing import Callable, Dict, FrozenSet, List, Optional, Sequence, Tuple
+import re
+from typing import Callable, Dict, FrozenSet, Iterator, List, Optional, Sequence, Set, Tuple
 
-from rdbg.hunting.ends import claims, denied
+from rdbg import kinds, replies
+from rdbg.application import Application, Task
+from rdbg.goals.conditions import AMOUNTS
 from rdbg.hunting.goals import Goal
 from rdbg.hunting.stage import Find, Stage
+from rdbg.instructions import form_of
+from rdbg.looks import Look
 from rdbg.reaching import said
 from rdbg.reaching.asking import CTRL_C, REACH, TIME, Asker, NoQuestion, Question
 from rdbg.reaching.said import Answer, Bound, Kind
@@ -22,6 +27,38 @@ Ask = Callable[[str], Optional[Find]]
 # A find that waits to be told, behind those that have fewer surprises, fewer moves, or came first;
 # and the claims that its end denies.
 Waiting = Tuple[Tuple[int, int], int, Find, Cell]
+REGISTER = re.compile(r"\br([0-7])\b")
+# The register that each call answers in, and the symbol of an entry in forms of instructions.
+ANSWER, ENTRY = 0, "I"
+
+
+def task_claims(it: replies.Task, task: Task, has_notes: bool) -> Iterator[str]:
+    """What is so of a task."""
+    yield f"phase {it.name} {it.phase.word}"
+    yield f"pc {it.name} = {it.pc}"
+    named = (int(it) for line in task.code for it in REGISTER.findall(line.written))
+    for register in sorted({ANSWER, *named}):
+        yield f"reg {it.name} {register} = {it.registers[register]}"
+    for entry, note in enumerate(it.notes if has_notes else ()):
+        yield f"note {it.name} {entry} = {note.value}"
+
+
+def claims(look: Look, application: Application) -> Dict[str, str]:
+    """What is so where an order ends, as far as goals can say it, by task and object: one that ends
+    otherwise denies one of these."""
+    forms = (form_of(it.words()[0]) for task in application.tasks for it in task.code)
+    has_notes = any(form is not None and ENTRY in form.symbols for form in forms)
+    found: Dict[str, str] = {}
+    for task in application.tasks:
+        found[task.name] = " and ".join(task_claims(look.tasks[task.name], task, has_notes))
+    # (goals can't speak of a stream buffer and a message buffer that have one name)
+    buffers = [name for kind, name in look.objects if kind in ("stream", "message")]
+    for (kind, name), it in look.objects.items():
+        if kind not in ("stream", "message") or buffers.count(name) < 2:
+            amount = kinds.OF_WORD[kind].amount
+            if amount:
+                found[f"{kind} {name}"] = f"{amount} {name} = {AMOUNTS[amount](it, 0)}"
+    return found
 
 
 @dataclasses.dataclass
@@ -45,16 +82,10 @@ class Search:
         """Whether the time is up, or Ctrl-C came."""
         return any(it.why in STOPS for it in self.none)
 
-    def is_stopped_by(self, answer: Answer) -> bool:
-        """Whether the time was up, or Ctrl-C came, while that was looked for: then it is kept."""
-        if answer.why in STOPS:
-            self.none.append(answer)
-        return answer.why in STOPS
-
     def interrupts(self, come: Sequence[Tuple[str, ...]] = ()) -> List[str]:
         """The lines that let those interrupts come that are left where these have come."""
         left = ((it, it.times - [*come].count(it.calls)) for it in self.stage.handlers)
-        return [dataclasses.replace(it, times=times).line() for it, times in left if times > 0]
+        return [it._replace(times=times).line() for it, times in left if times > 0]
 
     def ask(
         self,
@@ -82,11 +113,10 @@ class Search:
     def first(self) -> List[Find]:
         """What is found first."""
         found = self.ask(self.goal.asked)
-        return [] if found is None else [found]
+        return [found] if found else []
 
     def smallest(self) -> List[Find]:
-        """The find with the fewest surprises, and of those the fewest moves, held against the
-        others: none has fewer."""
+        """The find with the fewest surprises, and of those the fewest moves: none has fewer."""
         found = self.first()
         while found and not self.is_stopped():
             surprises, moves = found[0].size
@@ -106,10 +136,7 @@ class Search:
         while found is not None and low < found.order.length and self.untold() == untold:
             middle = (low + found.order.length - 1) // 2
             fewer = self.ask(goal, Bound(middle), keeps=False)
-            if fewer is None:
-                low = middle + 1
-            else:
-                found = fewer
+            found, low = (found, middle + 1) if fewer is None else (fewer, low)
         return found
 
     def untold(self) -> int:
@@ -122,12 +149,12 @@ class Search:
         where one of its own claims is denied, too."""
         finds: List[Find] = []
         waiting: List[Waiting] = []
-        asked: Dict[Cell, None] = {}
+        asked: Set[Cell] = set()
 
         def look(cell: Cell) -> None:
             if cell in asked or self.is_stopped():
                 return
-            asked[cell] = None
+            asked.add(cell)
             found = self._in_cell(cell, find)
             if found is not None:
                 surprises, moves = found.size
@@ -147,8 +174,10 @@ class Search:
 
     def _in_cell(self, cell: Cell, find: Ask) -> Optional[Find]:
         """What is found in a cell."""
+        denied = (f"not ( {it} )" for it in sorted(cell))
+        goal = " and ".join([f"( {self.goal.asked} )", *denied]) if cell else self.goal.asked
         try:
-            return find(denied(self.goal.asked, tuple(sorted(cell))) if cell else self.goal.asked)
+            return find(goal)
         except NoQuestion as refused:
             if TOO_LONG not in str(refused) or not cell:
                 raise
@@ -157,14 +186,12 @@ class Search:
 
     def all(self, wanted: int) -> List[Find]:
         """So many finds that end otherwise, as far as goals can tell it."""
-        ends: Dict[Tuple[str, ...], None] = {}
+        ends: Set[Tuple[str, ...]] = set()
 
         def is_new(found: Find) -> bool:
-            end = tuple(claims(found.look, self.stage.application).values())
-            if end in ends:
-                return False
-            ends[end] = None
-            return True
+            before = len(ends)
+            ends.add(tuple(claims(found.look, self.stage.application).values()))
+            return len(ends) > before
 
         if self.is_exhaustive:
             return self.different(wanted, self.shortest, is_new)

@@ -1,6 +1,5 @@
 """A program of a hunt's own, in which what is found is made again, and looked at."""
-import dataclasses
-from typing import Callable, Iterator, List, Optional, Sequence, Tuple
+from typing import Callable, Iterator, List, NamedTuple, Optional, Sequence, Tuple
 
 from rdbg import commands
 from rdbg.driving.interrupt import Interrupt
@@ -20,8 +19,7 @@ MOST_ROWS = 60
 LEFT = 100_000
 
 
-@dataclasses.dataclass(frozen=True)
-class Find:
+class Find(NamedTuple):
     """An order, and what there is at its end, as a look and as the program's views."""
 
     order: Order
@@ -80,8 +78,7 @@ class Stage:
         return Find(order, look, tuple(views[1:]))
 
     def table(self, find: Find, is_so: Callable[[Look], bool]) -> Tuple[List[str], bool]:
-        """Who did what in an order, as `rdbg trace` says it, and whether something is so at its
-        end, when it is made once more."""
+        """Who did what in an order, as `rdbg trace` says it, and whether its end is as is said."""
         self.at_boot().tell_all(find.order.lines)
         return [*self._rows()], self.walk.place == find.order.place and is_so(self.target.look())
 

@@ -1,5 +1,4 @@
 """Questions to the program that searches, each answered by one that is started for it."""
-import dataclasses
 import os
 import tempfile
 import time
@@ -70,8 +69,7 @@ def program() -> str:
     return os.environ.get(PROGRAM) or built_by_wrapper(NAME)
 
 
-@dataclasses.dataclass(frozen=True)
-class Asker:
+class Asker(NamedTuple):
     """An application's file, options of the program that is asked, and when the time is up."""
 
     file: str
@@ -89,11 +87,10 @@ class Asker:
         """The answer to a question about a goal, behind these command lines, and of orders within a
         bound; `more` are further lines of the program, before the question. Raises `NoQuestion`
         where it is refused, `Failure` where the program ends otherwise than by an answer."""
-        bounds = (("moves", bound.moves), ("surprises", bound.surprises))
         lines = [
             *more,
             *(f"line {it}" for it in begin),
-            *[f"{word} {count}" for word, count in bounds if count is not None],
+            *(f"{word} {count}" for word, count in vars(bound).items() if count is not None),
             f"{question.word} {goal}",
         ]
         words = [program(), "--progress", *self.options, "--", self.file]

@@ -28,6 +28,6 @@ def ask_behind(
     found = left(named, lines) if counts and question is not LOST else named
     coming = [it.line() for it in found]
     with as_read(source) as path:
-        asked_of = dataclasses.replace(asker or Asker(path), file=path)
+        asked_of = (asker or Asker(path))._replace(file=path)
         answer = asked_of.ask(asked, begin=lines, more=[*coming, *more], question=question)
     return dataclasses.replace(answer, order=answer.order[len(lines) :])

@@ -1,7 +1,8 @@
 """What is told beside an answer about a text in lines: which interrupts may come, where
 instructions stand that no order came to, and what a goal or an order is that says little."""
+import itertools
 import re
-from typing import Iterator, List, Sequence
+from typing import Iterator, Sequence
 
 from rdbg.application import Task
 from rdbg.digits import is_digits
@@ -30,12 +31,8 @@ def missed(answer: Answer, source: Source) -> Iterator[str]:
 
 def in_ranges(numbers: Sequence[int]) -> str:
     """Numbers, of which those in a row are one: `3, 7-9`."""
-    rows: List[List[int]] = []
-    for it in numbers:
-        if rows and rows[-1][-1] + 1 == it:
-            rows[-1].append(it)
-        else:
-            rows.append([it])
+    runs = itertools.groupby(enumerate(numbers), lambda it: it[1] - it[0])
+    rows = [[number for _, number in run] for _, run in runs]
     return ", ".join(f"{row[0]}-{row[-1]}" if row[1:] else str(row[0]) for row in rows)
 
 
@@ -72,15 +69,10 @@ def never_rests(task: Task) -> bool:
             continue
         seen.add(at)
         word, *operands = task.code[at].words()
-        if word == "end" or waits_on(word, operands):
+        can_wait = FORM_OF[word].symbols[-1:] == ("T",)
+        has_limit = can_wait and is_digits(operands[-1]) and int(operands[-1]) != MOST_NUMBER
+        if word == "end" or (can_wait and not has_limit):
             return False
         left += [] if word == "jump" else [at + 1]
         left += [int(operands[-1])] if word in ("jump", "jumpz") else []
     return True
-
-
-def waits_on(word: str, operands: Sequence[str]) -> bool:
-    """Whether an instruction may wait without a deadline."""
-    if FORM_OF[word].symbols[-1:] != ("T",):
-        return False
-    return not is_digits(operands[-1]) or int(operands[-1]) == MOST_NUMBER

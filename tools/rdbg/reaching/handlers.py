@@ -1,6 +1,5 @@
 """Interrupts as the search takes them: those of a text by name, others by their calls."""
-import dataclasses
-from typing import Container, Dict, List, Optional, Sequence, Tuple
+from typing import Container, Dict, List, NamedTuple, Optional, Sequence, Tuple
 
 from rdbg.application import ANY, NO_INTERRUPT, Application, Interrupt
 from rdbg.failure import Failure
@@ -10,8 +9,7 @@ OPTION, WORD, BETWEEN = "--isr", "isr", "; "
 TIMES, EVER, AFTER = "times", "any", "after"
 
 
-@dataclasses.dataclass(frozen=True)
-class Handler:
+class Handler(NamedTuple):
     """An interrupt that may come: its calls, as they are typed, and when it comes, by the names
     that the program's options have, of one that is given by name."""
 
@@ -47,10 +45,13 @@ def handlers(texts: Sequence[str], application: Optional[Application]) -> List[H
     that. Raises `Failure` where it doesn't."""
     found: List[Handler] = []
     numbers: Dict[str, int] = {}
-    for text in chosen(texts, application):
-        it = application.interrupt(text.strip()) if application else None
+    interrupts = application.interrupts if application else ()
+    others = {other.name: other for other in interrupts}
+    given = [] if [*texts] == [NO_INTERRUPT] else [*texts]
+    for text in given or (application.declared() if application and not texts else ()):
+        it = others.get(text.strip())
         if it is None:
-            check_name(text, application)
+            check_name(text, [*others])
             found.append(Handler(text))
             continue
         if it.after is not None and it.after not in numbers:
@@ -59,22 +60,13 @@ def handlers(texts: Sequence[str], application: Optional[Application]) -> List[H
         if it.name in numbers:
             raise Failure(f"{OPTION} {it.name} stands twice; how often it comes its line says", 2)
         numbers[it.name] = len(found)
-        others = application.interrupts if application else ()
-        found.append(named(it, numbers, {other.name: other for other in others}))
-    ends = [it for it in application.interrupts if it.is_of_wait] if application else []
-    return found + [named(it, numbers, {}) for it in ends if it.name not in numbers]
-
-
-def chosen(texts: Sequence[str], application: Optional[Application]) -> Sequence[str]:
-    """What these texts name: all that is declared where there is none, nothing by `none`."""
-    if [*texts] == [NO_INTERRUPT]:
-        return ()
-    return texts or (application.declared() if application else ())
+        found.append(named(it, numbers, others))
+    ends = [it for it in interrupts if it.is_of_wait and it.name not in numbers]
+    return found + [named(it, numbers, {}) for it in ends]
 
 
 def told(texts: Sequence[str], application: Optional[Application]) -> str:
-    """Which interrupts of those that are declared may come where none was named, or which were left
-    out; empty where that is none."""
+    """Which declared interrupts may come where none was named, or which were left out."""
     declared = application.declared() if application else []
     names = [it for it in declared if it not in map(str.strip, texts)]
     noun = "interrupt" if len(names) == 1 else "interrupts"
@@ -90,7 +82,7 @@ def left(handlers: Sequence[Handler], lines: Sequence[str]) -> List[Handler]:
 
 def times_of(it: Interrupt, others: Dict[str, Interrupt]) -> int:
     """How often one comes at the most: one that comes after another no more often than that."""
-    bounds = [it.times] + ([times_of(others[it.after], others)] if it.after else [])
+    bounds = [it.times, times_of(others[it.after], others) if it.after else ANY]
     return min((bound for bound in bounds if bound != ANY), default=ANY)
 
 
@@ -103,9 +95,8 @@ def named(it: Interrupt, numbers: Dict[str, int], others: Dict[str, Interrupt]) 
     return Handler(BETWEEN.join(it.calls), tuple(when))
 
 
-def check_name(text: str, application: Optional[Application]) -> None:
+def check_name(text: str, names: Sequence[str]) -> None:
     """Raises `Failure` where a word was meant to be the name of an interrupt."""
-    names = [it.name for it in application.interrupts] if application else []
     if names and len(text.split()) == 1:
         near = nearest(text.strip(), names)
         hint = f"{near} is near" if near else f"there is {', '.join(names)}"

@@ -46,8 +46,7 @@ def told(loss: Loss, move: str, way: str) -> Iterator[str]:
 
 
 def in_one(question: Question, answer: Answer, row: Callable[[int], str]) -> str:
-    """What stands behind the first line of an answer, in one line, and of a loss by which move;
-    `row` says the move to a place in words."""
+    """What an answer says behind its first line, in one; `row` tells the move to a place."""
     loss = loss_of(answer)
     if loss is None:
         if answer.kind is Kind.REACHED and not answer.order:

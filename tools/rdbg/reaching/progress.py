@@ -34,9 +34,9 @@ def read(line: str) -> Optional[Progress]:
     found = LINE.fullmatch(line)
     if found is None:
         return None
-    within, surprises, states, moves, deepest, size = found.groups()
+    within, surprises, *counts = found.groups()
     most = None if surprises is None else int(surprises)
-    return Progress(int(within), most, int(states), int(moves), int(deepest), int(size))
+    return Progress(int(within), most, *map(int, counts))
 
 
 class Gauge:

@@ -25,20 +25,20 @@ class Outcome(NamedTuple):
     is_stopped: bool
 
 
-class Heard:
-    """What a program has said until now. Of its errors all but how far it is are passed on."""
+class Listener:
+    """Listens to a program, as long as it says something, and keeps what it has said until now. Of
+    its errors all but how far it is are passed on."""
 
-    def __init__(self, gauge: Gauge) -> None:
+    def __init__(self, process: "subprocess.Popen[bytes]", gauge: Gauge) -> None:
+        assert process.stdout is not None and process.stderr is not None
         self.output = bytearray()
         self.last: Optional[Progress] = None
-        self._gauge = gauge
-        self._tail = b""
+        self._gauge, self._tail = gauge, b""
+        self._selector = selectors.DefaultSelector()
+        self._selector.register(process.stdout, selectors.EVENT_READ, self.output.extend)
+        self._selector.register(process.stderr, selectors.EVENT_READ, self._hear_errors)
 
-    def hear_output(self, content: bytes) -> None:
-        """What comes of its standard output."""
-        self.output += content
-
-    def hear_errors(self, content: bytes) -> None:
+    def _hear_errors(self, content: bytes) -> None:
         """What comes of its standard error; nothing more where that is empty."""
         *whole, self._tail = (self._tail + content).split(b"\n")
         for line in whole:
@@ -55,21 +55,6 @@ class Heard:
         self._gauge.clear()
         print(line, file=sys.stderr, flush=True)
 
-
-class Listener:
-    """Listens to a program, as long as it says something."""
-
-    def __init__(self, process: "subprocess.Popen[bytes]", gauge: Gauge) -> None:
-        assert process.stdout is not None and process.stderr is not None
-        self.heard = Heard(gauge)
-        self._gauge = gauge
-        self._selector = selectors.DefaultSelector()
-        for pipe, hear in (
-            (process.stdout, self.heard.hear_output),
-            (process.stderr, self.heard.hear_errors),
-        ):
-            self._selector.register(pipe, selectors.EVENT_READ, hear)
-
     def listen(self, end: Optional[float] = None) -> bool:
         """Listens until the program has said all, or until a time. Whether it has said all."""
         while self._selector.get_map():
@@ -82,7 +67,7 @@ class Listener:
                     key.data(content)
                     if not content:
                         self._selector.unregister(key.fd)
-            self._gauge.show(self.heard.last)
+            self._gauge.show(self.last)
             if end is not None and time.monotonic() >= end:
                 return False
         return True
@@ -110,6 +95,6 @@ def run(
         gauge.clear()
         status = process.wait()
     STARTED.pop(process)
-    output = listener.heard.output.decode("utf-8", "replace")
+    output = listener.output.decode("utf-8", "replace")
     # (it may have come to its end at the same time)
-    return Outcome(output, status, listener.heard.last, not is_ended and status < 0)
+    return Outcome(output, status, listener.last, not is_ended and status < 0)

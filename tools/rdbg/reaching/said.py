@@ -1,9 +1,10 @@
 """What an answer of the program that searches says, as a value; and what several say together."""
 import dataclasses
 import enum
+import functools
 import re
 import signal
-from typing import Dict, Iterable, Iterator, Optional, Sequence, Tuple
+from typing import Iterable, Iterator, Optional, Sequence, Tuple
 
 from rdbg.failure import Failure
 from rdbg.reaching.progress import Progress
@@ -51,18 +52,16 @@ class Bound:
 
     def text(self) -> str:
         """It in the words of an answer."""
-        counted = ((self.moves, "moves"), (self.surprises, "surprises"))
-        bounds = [f"{count} {what}" for count, what in counted if count is not None]
+        bounds = [f"{count} {what}" for what, count in vars(self).items() if count is not None]
         return f"not within {' and '.join(bounds)}" if bounds else "never"
 
     def least(self, other: "Bound") -> "Bound":
         """What is said of these orders and of those of another bound, is said of those of both."""
+
+        def fewer(*counts: Optional[int]) -> Optional[int]:
+            return min((it for it in counts if it is not None), default=None)
+
         return Bound(fewer(self.moves, other.moves), fewer(self.surprises, other.surprises))
-
-
-def fewer(one: Optional[int], other: Optional[int]) -> Optional[int]:
-    """The lower one of two bounds; none is no bound."""
-    return min((it for it in (one, other) if it is not None), default=None)
 
 
 @dataclasses.dataclass(frozen=True)
@@ -98,25 +97,14 @@ class Answer:
         return "full" if self.bound == Bound() else f"full: {self.bound.text()}"
 
 
-def kind_of(head: str) -> Kind:
-    """What the first line of an answer says. Raises `Failure` where it is none of one."""
-    for word, kind in HEADS:
-        if re.match(rf"{word}\b", head):
-            return kind
-    raise Failure(f"'{head}' is no answer of rdreach", UNTOLD)
-
-
-def number(text: Optional[str]) -> Optional[int]:
-    """The number that stands there, if one does."""
-    return None if text is None else int(text)
-
-
 def read(lines: Sequence[str]) -> Answer:
     """The answer in these lines. Raises `Failure` where there is none in them."""
     first, *rest = lines or [""]
-    kind = kind_of(first)
+    kind = next((kind for word, kind in HEADS if re.match(rf"{word}\b", first)), None)
+    if kind is None:
+        raise Failure(f"'{first}' is no answer of rdreach", UNTOLD)
     within, part = WITHIN.search(first), PART.search(first)
-    bound = Bound(number(within[1]), number(within[2])) if within else Bound()
+    limits = [None if it is None else int(it) for it in within.groups()] if within else []
     at = next((at for at, line in enumerate(rest) if COUNTS.fullmatch(line)), None)
     if at is None:
         raise Failure("the answer of rdreach has no end", UNTOLD)
@@ -126,7 +114,7 @@ def read(lines: Sequence[str]) -> Answer:
     missed = [it for it in map(MISSED.fullmatch, rest[at + 1 :]) if it]
     return Answer(
         kind,
-        bound,
+        Bound(*limits),
         tuple(rest[:at]) if has_order else (),
         "" if has_order else " ".join(rest[:at]),
         (states, moves, deepest),
@@ -137,8 +125,7 @@ def read(lines: Sequence[str]) -> Answer:
 
 
 def check(output: str, status: int, known: str) -> None:
-    """Raises `Failure` where a program has ended in another way than by an answer, or a refusal; it
-    says what was known until then, if that isn't empty."""
+    """Raises `Failure`, with what was `known`, where a program ended by no answer or refusal."""
     if status < 0:
         why = f"was ended by {signal.Signals(-status).name}"
     elif status not in STATUSES:
@@ -160,33 +147,29 @@ def stopped(
         return Answer(Kind.UNTOLD, why=why)
     most = surprises if last.surprises is None else last.surprises
     bound = Bound(last.within, most) if is_reach else Bound()
-    counts = last.states, last.moves, last.deepest
-    return Answer(Kind.UNTOLD, bound, why=why, counts=counts)
+    return Answer(Kind.UNTOLD, bound, why=why, counts=(last.states, last.moves, last.deepest))
 
 
 def known(last: Optional[Progress], surprises: Optional[int], is_reach: bool = True) -> str:
-    """Of which orders that is known, in words; empty where it hadn't said yet how far it was, and
-    where another question than `reach` was asked."""
+    """Of which orders that is known, in words; empty where nothing was said, or not for `reach`."""
     is_said = last is not None and is_reach
     return stopped(last, surprises, "").bound.text() if is_said else ""
 
 
 def both(one: Answer, other: Answer) -> Answer:
     """What two answers say together of which none has an order: what both say, of their orders."""
-    kinds = {one.kind, other.kind}
-    missed: Dict[str, Tuple[int, ...]] = {}
-    others = dict(other.missed)
-    for task, instructions in one.missed:
-        common = tuple(it for it in instructions if it in others.get(task, ()))
-        if common:
-            missed[task] = common
+    kinds, others = {one.kind, other.kind}, dict(other.missed)
+    missed = (
+        (task, tuple(it for it in instructions if it in others.get(task, ())))
+        for task, instructions in one.missed
+    )
     unknown = [it for it in (one, other) if it.kind is Kind.UNTOLD and it.bound == Bound()]
     return Answer(
         Kind.UNTOLD if Kind.UNTOLD in kinds else Kind.NONE,
         Bound() if unknown else one.bound.least(other.bound),
         why=one.why or other.why,
         counts=summed(one.counts, other.counts),
-        missed=tuple(missed.items()),
+        missed=tuple(it for it in missed if it[1]),
     )
 
 
@@ -197,10 +180,7 @@ def summed(one: Tuple[int, int, int], other: Tuple[int, int, int]) -> Tuple[int,
 
 def together(answers: Iterable[Answer]) -> Answer:
     """What answers say together, of which there is one at the least, and none has an order."""
-    first, *rest = answers
-    for it in rest:
-        first = both(first, it)
-    return first
+    return functools.reduce(both, answers)
 
 
 def lines(answer: Answer) -> Iterator[str]:

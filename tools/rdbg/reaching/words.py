@@ -46,12 +46,11 @@ class Words(NamedTuple):
     def value(self, wanted: str) -> Optional[str]:
         """The value of an option of the program, the last where it stands more than once."""
         words = [*takewhile(NO_MORE.__ne__, self.program)]
-        asked = None
+        asked: Dict[str, str] = {}
         for word, following in zip(words, [*words[1:], ""]):
             option, has_value, value = word.partition("=")
-            if option == wanted:
-                asked = value if has_value else following
-        return asked
+            asked[option] = value if has_value else following
+        return asked.get(wanted)
 
     def surprises(self) -> Optional[int]:
         """How many surprises an order has at the most, if that was asked."""
@@ -125,8 +124,7 @@ class Words(NamedTuple):
 
 
 def own(word: str) -> Tuple[str, Optional[str]]:
-    """The option of what starts the program that a word is, with its value where that stands in the
-    word, too; empty where it is none."""
+    """The option of the starter's that a word is, if any, and its value where it has one."""
     if word.startswith(OUTPUT):
         value = word[len(OUTPUT) :]
         return OUTPUT, (value[1:] if value.startswith("=") else value) or None
@@ -136,8 +134,7 @@ def own(word: str) -> Tuple[str, Optional[str]]:
 
 
 def read(words: Sequence[str]) -> Words:
-    """What words ask for. Raises `Failure` where one of what starts the program is wrong; all
-    others are the program's to judge."""
+    """What words ask for. Raises `Failure` where one that isn't the program's is wrong."""
     program = [PROGRESS]
     found: Dict[str, str] = {}
     consts: List[str] = []
@@ -158,14 +155,9 @@ def read(words: Sequence[str]) -> Words:
         if value is None and not left:
             raise Failure(f"{option} lacks its {OWN[option]}", 2)
         found[option] = left.pop(0) if value is None else value
-    seconds_given = limit(found.get(WITHIN))
-    outputs = found.get(OUTPUT), seconds_given, tuple(consts), found.get(PAGE), found.get(REPORT)
-    return Words(program + left, *outputs)
-
-
-def limit(text: Optional[str]) -> Optional[float]:
-    """After how many seconds a search ends, if that was asked."""
-    value = None if text is None else seconds(text)
-    if text is not None and value is None:
+    text = found.get(WITHIN)
+    limit = None if text is None else seconds(text)
+    if text is not None and limit is None:
         raise Failure(f"{WITHIN} takes a number of seconds above 0, and not '{shown(text)}'", 2)
-    return value
+    outputs = found.get(OUTPUT), limit, tuple(consts), found.get(PAGE), found.get(REPORT)
+    return Words(program + left, *outputs)

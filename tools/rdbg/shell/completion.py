@@ -4,25 +4,16 @@ from typing import TYPE_CHECKING, Dict, Iterable, List, Sequence
 
 from rdbg import commands, kinds
 from rdbg.goals import reading, sought
-from rdbg.shell import basics, glossary, seek, views, words
+from rdbg.shell import glossary, seek, views, words
 
 if TYPE_CHECKING:
     from rdbg.shell.shell import Shell
 
 
-# The words that some symbols stand for, whatever there is.
-PLAIN: Dict[str, Iterable[str]] = {
-    "OP": commands.OPERATORS,
-    "WORD": commands.PHASES,
-    "ACTION": commands.ACTIONS,
-    "R": "01234567",
-}
-
-
 def candidates(shell: "Shell", before: Sequence[str], begun: str) -> List[str]:
     """The words that can come behind these and begin so."""
     if not before:
-        found: Iterable[str] = [*commands.WORDS, *words.names()]
+        found: Iterable[str] = [*commands.WORDS, *words.BY_NAME]
     else:
         found = [word for symbol in symbols(before) for word in of_symbol(shell, symbol, begun)]
     return sorted({word for word in found if word.startswith(begun)})
@@ -31,20 +22,13 @@ def candidates(shell: "Shell", before: Sequence[str], begun: str) -> List[str]:
 def symbols(before: Sequence[str]) -> List[str]:
     """What can stand behind these words."""
     found = commands.following(before) if before[0] in commands.WORDS else []
-    for word in words.WORDS:
-        if before[0] == word.name or before[0] in word.short:
-            found += own(word, before[1:])
-    return found
-
-
-def own(word: words.Word, behind: Sequence[str]) -> List[str]:
-    """What can stand behind a word of sh's own and the words behind it."""
-    first = word.behind[0] if word.behind else ""
+    behind, own = before[1:], words.BY_NAME.get(before[0])
+    first = own.behind[0] if own and own.behind else ""
     if first.startswith("GOAL"):
-        return goal(behind, first == "GOAL!")
+        return found + goal(behind, first == "GOAL!")
     if first == "BREAK":
-        return ["K", *condition(behind)] if not behind else condition(behind)
-    return list(word.behind[len(behind) : len(behind) + 1])
+        return found + ([] if behind else ["K"]) + condition(behind)
+    return [*found, *(own.behind[len(behind) : len(behind) + 1] if own else ())]
 
 
 def goal(behind: Sequence[str], with_conditions: bool) -> List[str]:
@@ -70,37 +54,26 @@ def condition(behind: Sequence[str]) -> List[str]:
 def of_symbol(shell: "Shell", symbol: str, begun: str) -> List[str]:
     """The words that a symbol stands for."""
     target = shell.target
-    if symbol in PLAIN:
-        return list(PLAIN[symbol])
-    if symbol in ("K", "PART", "INFO"):
-        return [*target.names.tasks, *more(shell, symbol)]
-    if symbol == "HELP":
-        return more(shell, symbol)
-    if symbol == "OBJECT":
-        return [name for _, name in target.names.objects]
-    if symbol in kinds.OF_SYMBOL:
-        return target.names.of_kind(kinds.OF_SYMBOL[symbol].word)
-    if symbol == "C":
-        cores = target.application.cores if target.application else 0
-        return [*(str(core) for core in range(cores)), *target.names.tasks]
-    if symbol == "wN":
-        return [f"w{number}" for number in target.watches]
+    tasks, objects = target.names.tasks, [name for _, name in target.names.objects]
+    cores = range(target.application.cores) if target.application else ()
+    forms = [form.word for form in (*commands.FORMS, *commands.CONDITIONS)]
+    found: Dict[str, Iterable[str]] = {
+        **{kind.symbol: target.names.of_kind(kind.word) for kind in kinds.ALL},
+        "OP": commands.OPERATORS,
+        "WORD": commands.PHASES,
+        "ACTION": commands.ACTIONS,
+        "R": "01234567",
+        "C": [*map(str, cores), *tasks],
+        "wN": [f"w{number}" for number in target.watches],
+        "OBJECT": objects,
+        "PART": [*tasks, *views.REGISTERS, *views.FIELDS, *objects],
+        "INFO": [*tasks, *views.INFO_WORDS, *objects],
+        "HELP": [*forms, *words.BY_NAME, "history", *words.SETTINGS, *glossary.WORDS],
+    }
     if symbol == "FILE":
         return glob.glob(f"{glob.escape(begun)}*")
-    return [] if symbol in commands.SYMBOLS or not symbol else symbol.split("|")
-
-
-def more(shell: "Shell", symbol: str) -> List[str]:
-    """The words that a symbol of sh's own stands for, beside tasks."""
-    objects = [name for _, name in shell.target.names.objects]
-    if symbol == "PART":
-        return [*views.REGISTERS, *views.FIELDS, *objects]
-    if symbol == "INFO":
-        return [*views.INFO_WORDS, *objects]
-    if symbol == "HELP":
-        forms = [form.word for form in (*commands.FORMS, *commands.CONDITIONS)]
-        return [*forms, *words.names(), "history", *basics.SETTINGS, *glossary.WORDS]
-    return []
+    others = [] if symbol in commands.SYMBOLS or not symbol else symbol.split("|")
+    return list(found.get(symbol, others))
 
 
 class Completer:

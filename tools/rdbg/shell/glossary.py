@@ -1,11 +1,18 @@
 """Words that stand in replies, and not at the beginning of a line: what each of them means. And
-what those of gdb are here."""
+what those of gdb are here. And `help`."""
 import re
-from typing import Dict, List
+import textwrap
+from typing import TYPE_CHECKING, Dict, List, Sequence, Tuple
 
+from rdbg import commands, instructions
 from rdbg.checking import freertos
+from rdbg.driving.target import Unable
 from rdbg.shell.views import REGISTERS
 
+if TYPE_CHECKING:
+    from rdbg.shell.shell import Shell
+
+WIDTH = 96
 PHASES: Dict[str, str] = {
     "run": "the task goes on with its next instruction, on a core or ready for one",
     "wait": "the task waits in a call: wait:PLACE:DEADLINE, as wait:recv:jobs:10, until tick 10 at"
@@ -126,35 +133,31 @@ def meaning(word: str) -> List[str]:
 def of_freertos(word: str) -> str:
     """What stands for a name of FreeRTOS or of C; empty where it is no such name."""
     name = freertos.called(word)
-    plain = re.sub("Static$", "", name)
-    known = freertos.sentence(word) or (freertos.sentence(plain) if plain != name else "")
     if name in CONSTANTS:
         return f"{name} is written {CONSTANTS[name]}"
-    if known:
-        return known
-    if CALLED.fullmatch(name):
-        return (
-            f"nothing stands for {name}; docs/CALLS.md has each call that an instruction stands for"
-        )
-    return ""
+    plain = re.sub("Static$", "", name)
+    known = freertos.sentence(word) or (freertos.sentence(plain) if plain != name else "")
+    calls = "docs/CALLS.md has each call that an instruction stands for"
+    return known or (f"nothing stands for {name}; {calls}" if CALLED.fullmatch(name) else "")
 
 
-# What gdb calls otherwise, or has and rdbg hasn't: a sentence for each word.
-HINTS: Dict[str, str] = {
-    "run": "the target stands at boot already: `step 0`, `until COND 1000`; back to it: `goto 0`",
+# What gdb calls otherwise, or has and rdbg hasn't: a sentence for the words that mean the same.
+OF_GDB: Dict[str, str] = {
+    "run r": "the target stands at boot already: `step 0`, `until COND 1000`; back to it: `goto 0`",
     "start": "the target stands at boot already: `step 0`, `until COND 1000`",
-    "kill": "`goto 0` goes back to boot, `quit` ends",
+    "kill k": "`goto 0` goes back to boot, `quit` ends",
     "file": "the file is given at the start: `rdbg sh FILE`; `reload` reads it again",
     "attach": "`rdbg sh --port P` attaches to `rdbg serve`",
     "detach": "`wheel give` gives the wheel back, `quit` ends",
-    "bt": "a task has no frames here: `where` says what each core does next, `moves` how it came",
-    "frame": "a task has no frames: `where`, `info worker`",
-    "finish": "there are no functions: `until! phase worker run` goes to where its call returned",
-    "advance": "`until pc worker = 3 1000` goes to instruction 3 of a task",
-    "thread": "tasks go by name: `step worker`, `info worker`, `list worker`",
-    "set": "`set echo on`, `set moves on`; edits change what the target has: `poke reg K R N`",
+    "bt backtrace": "a task has no frames here: `where` says what each core does next, `moves` how"
+    " it came",
+    "frame f": "a task has no frames: `where`, `info worker`",
+    "finish fin": "there are no functions: `until! phase worker run` goes to where its call returned",
+    "advance adv": "`until pc worker = 3 1000` goes to instruction 3 of a task",
+    "thread t": "tasks go by name: `step worker`, `info worker`, `list worker`",
+    "set set!": "`set echo on`, `set moves on`; edits change what the target has: `poke reg K R N`",
     "call": "calls are the scripts' own; `poke pc K N` sets where a task goes on",
-    "jump": "`poke pc worker 3` lets a task in phase run go on at instruction 3",
+    "jump j": "`poke pc worker 3` lets a task in phase run go on at instruction 3",
     "x": "there is no memory: `show queue Q`, `show stream B`, `info objects`",
     "rwatch": "a read isn't seen: `until changes Q` ends where something was taken or put",
     "awatch": "`until changes Q` ends where something was taken or put",
@@ -166,17 +169,89 @@ HINTS: Dict[str, str] = {
     "record": "all moves are kept, and can be taken back at any time",
     "checkpoint": "each number of moves is a place: remember it, and `goto N`",
     "restart": "`goto N` goes to any place, `goto 0` to boot",
-    "signal": "an interrupt is `isr send Q HEX` or `isr notify K I N ACTION`, in profile 2",
-    "stop": "Ctrl-C ends a run",
+    "signal handle": "an interrupt is `isr send Q HEX` or `isr notify K I N ACTION`, in profile 2",
+    "stop interrupt": "Ctrl-C ends a run",
     "shell": "the shell is outside: Ctrl-Z, or another terminal",
-    "ptype": "`info objects` says what there is",
-    "disassemble": "`list TASK` shows a script",
+    "ptype whatis": "`info objects` says what there is",
+    "disassemble disas": "`list TASK` shows a script",
+    "up down": "a task has no frames: `where`, `info TASK`",
 }
-HINTS.update(dict.fromkeys(("up", "down"), "a task has no frames: `where`, `info TASK`"))
-# Words of gdb that mean the same as one of these.
-ALIKE: Dict[str, str] = {
-    **{"r": "run", "k": "kill", "backtrace": "bt", "f": "frame", "fin": "finish"},
-    **{"adv": "advance", "t": "thread", "j": "jump", "disas": "disassemble", "set!": "set"},
-    **{"handle": "signal", "whatis": "ptype", "interrupt": "stop"},
-}
-HINTS.update({word: HINTS[other] for word, other in ALIKE.items()})
+HINTS = {word: hint for words, hint in OF_GDB.items() for word in words.split()}
+
+
+def forms(title: str, of: Sequence[Tuple[str, str]]) -> List[str]:
+    """Forms, each with what it does, below a title."""
+    width = max(len(form) for form, _ in of)
+    return [title, *(f"  {form.ljust(width)}  {does}" for form, does in of)]
+
+
+def overview() -> str:
+    """All words."""
+    from rdbg.shell.words import WORDS
+
+    own = [(", ".join([it.form, *it.short[:1]]), it.does) for it in WORDS]
+    rdbg = " ".join(sorted(commands.WORDS))
+    more = (
+        "`help rdbg` says more of them, `help COND` of conditions, `help GOAL` of goals,\n"
+        "`help send` of an instruction, `help xQueueSend` of what FreeRTOS calls so,\n"
+        "`help NoTask` of a refusal."
+    )
+    keys = "Enter repeats the last line, Tab completes, # begins a comment, Ctrl-C ends a run."
+    return "\n".join([*forms("Words of sh's own:", own), f"Lines of rdbg: {rdbg}", more, keys])
+
+
+HISTORY = (
+    "Each line that rdbg answers takes a place of its history, looks among them, and there are at"
+    " most 1000000. What moves do is found by looks: `set moves off` saves them. Once it is full"
+    " nothing is answered any more. Before that, `reload` makes the same moves in a new program,"
+    " whose history is empty; or `save FILE`, and give its lines to rdbg again."
+)
+
+
+def help_on(shell: "Shell", words: Sequence[str]) -> None:
+    """`help [WORD]`."""
+    if not words:
+        shell.say(overview())
+        return
+    word = words[0]
+    found = [*own_help(word), *rdbg_help(word), *instruction_help(word)]
+    meanings = [*meaning(word), *([HISTORY] if word == "history" else [])]
+    if not found and not meanings:
+        meanings = [text for text in (HINTS.get(word), of_freertos(word)) if text]
+    found += [line for text in meanings for line in textwrap.wrap(text, WIDTH)]
+    if not found:
+        raise Unable(f"'{word}' is no word here; `help` lists them")
+    shell.say(shell.in_its_names("\n".join(found)))
+
+
+def own_help(word: str) -> List[str]:
+    """What a word of sh's own does."""
+    from rdbg.shell.words import BY_NAME
+
+    it = BY_NAME.get(word)
+    if it is None:
+        return []
+    also = [f"  also: {', '.join(it.short)}"] if it.short else []
+    return [f"{it.form}: {it.does}", *also, *(f"  {line}" for line in it.more.splitlines())]
+
+
+def rdbg_help(word: str) -> List[str]:
+    """What the lines of rdbg with this word do."""
+    found = [(it.text, it.does) for it in commands.FORMS if word in (it.word, "rdbg")]
+    lines = forms("Lines of rdbg:", found) if found else []
+    uses = any("COND" in text for text, _ in found) or word.lower() in ("cond", "conditions")
+    conditions = [(it.text, it.does) for it in commands.CONDITIONS if uses or it.word == word]
+    if conditions:
+        lines += forms("Conditions (COND; OP is =, < or >):", conditions)
+    return lines
+
+
+def instruction_help(word: str) -> List[str]:
+    """What an instruction of scripts does."""
+    name = freertos.called(word).lower()
+    named = (it for it in instructions.FORMS if name in (each.lower() for each in it.freertos))
+    form = instructions.form_of(word) or next(named, None)
+    if form is None:
+        return []
+    stands = f" ({', '.join(form.freertos)})" if form.freertos else ""
+    return textwrap.wrap(f"in a script, {form.text}{stands}: {form.does}; r0: {form.answer}", WIDTH)

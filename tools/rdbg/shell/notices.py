@@ -14,6 +14,7 @@ from rdbg.failure import Failure
 ROW = re.compile(r"# ([0-9]+(\.\.[0-9]+)?  |\.\. [0-9]+ moves )")
 # What others did, and the place behind it.
 MOVED = re.compile(r"# \w+: .* -> ok at ([0-9]{1,10})\b")
+# A line that is for a room, and no comment.
 REMARK = re.compile(
     r"# *(who|wheel|help|reload|name +\S+|say +\S.*|to +\w+: *\S.*|(moves|talk)( +[0-9]+)?)$"
 )
@@ -27,14 +28,8 @@ BETWEEN = " | "
 AGAIN = 0.05
 
 
-def is_remark(line: str) -> bool:
-    """Whether a line is for a room, and no comment."""
-    return REMARK.match(line.strip()) is not None
-
-
 class Notices:
-    """The notices of a session. `show` prints one of what others did, or of what was asked, and
-    `moved` is told to which place others have moved the target."""
+    """The notices of a session: `show` prints one, `moved` hears where others moved the target."""
 
     def __init__(
         self, session: Session, show: Callable[[str], None], moved: Callable[[int], None]
@@ -68,13 +63,9 @@ class Notices:
             self._show(notice)
 
     def told(self, reply: str) -> Tuple[str, List[str]]:
-        """What the line that was answered so last did: in a few words, or a row each for the moves
-        of a run. Empty where nothing was told."""
-        if not self._own:
-            return "", []
-        head, *rows = self._own
-        _, _, behind = head.partition(f" -> {reply}")
-        return behind[len(", ") :], rows
+        """What the line answered so did, in words, and a row for each move of a run; else empty."""
+        head, *rows = self._own or [""]
+        return head.partition(f" -> {reply}")[2][len(", ") :], rows
 
     @contextlib.contextmanager
     def doing(self, typed: str) -> Iterator[None]:
@@ -92,11 +83,9 @@ class Notices:
 
     def _asking(self, lines: Sequence[str]) -> None:
         """Lines are about to be asked."""
-        if self._typed is None or self._is_begun:
-            return
-        if self._typed and list(lines) == [self._typed]:
+        if self._typed and not self._is_begun and list(lines) == [self._typed]:
             self._typed = ""
-        else:
+        elif self._typed is not None and not self._is_begun:
             self._is_begun = True
             self._session.note(f"# does {self._typed}".rstrip())
 

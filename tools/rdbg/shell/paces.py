@@ -46,8 +46,7 @@ def take(shell: "Shell", found: Optional[TickPace], coming: Optional[Sequence[In
 
 
 def interrupts(shell: "Shell", words: Sequence[str]) -> None:
-    """`interrupts NAME ..`, `interrupts none`: which come by themselves in runs, at each tick where
-    they may, and in searches, which let all come of which nothing is said."""
+    """`interrupts NAME ..`, `interrupts none`: which come by themselves in runs and searches."""
     application = shell.target.application
     there = {it.name: it for it in application.interrupts} if application else {}
     if words:
@@ -61,8 +60,7 @@ def let_come(shell: "Shell", found: Optional[TickPace], coming: Sequence[Interru
 
 
 def chosen(words: Sequence[str], there: Dict[str, Interrupt]) -> List[Interrupt]:
-    """The interrupts of these names, by `none` none. Raises `Unable` where one isn't there, or
-    where one comes after another that isn't among them."""
+    """The interrupts of these names, by `none` none. Raises `Unable` where one can't come so."""
     if [*words] == [NO_INTERRUPT]:
         return []
     for name in words:

@@ -1,5 +1,7 @@
 """Lines from a terminal, with a history and Tab, and lines from anywhere else."""
+import contextlib
 import functools
+import importlib
 import os
 import pathlib
 import select
@@ -26,18 +28,8 @@ ONCE = (
 ).split()
 
 
-def load_readline() -> Optional[ModuleType]:
-    """The module, where this Python has it."""
-    try:
-        import readline
-    except ImportError:
-        return None
-    return readline
-
-
 def history_file() -> Optional[pathlib.Path]:
-    """Where the lines that were typed are kept: the file that RDBG_HISTORY names, none where it is
-    empty, or one in the user's folder for such things."""
+    """Where typed lines are kept: RDBG_HISTORY (if empty, nowhere), or in the user's folder."""
     named = os.environ.get("RDBG_HISTORY")
     if named is not None:
         return pathlib.Path(named) if named else None
@@ -56,7 +48,10 @@ class Lines:
         from rdbg.shell.completion import Completer
 
         self.shell = shell
-        self.readline = load_readline()
+        # (which not each Python has)
+        self.readline: Optional[ModuleType] = None
+        with contextlib.suppress(ImportError):
+            self.readline = importlib.import_module("readline")
         self.file = history_file() if self.readline else None
         if self.readline is None:
             return
@@ -66,10 +61,7 @@ class Lines:
         self.readline.parse_and_bind("bind ^I rl_complete" if is_edit else "tab: complete")
         self.readline.set_auto_history(False)
         self.readline.set_history_length(MOST_LINES)
-        self._begin()
-
-    def _begin(self) -> None:
-        if self.file is None or self.readline is None:
+        if self.file is None:
             return
         try:
             folder = os.path.dirname(links.behind(str(self.file)))
@@ -87,11 +79,12 @@ class Lines:
         if length and self.readline.get_history_item(length) == line:
             return
         self.readline.add_history(line)
-        append = getattr(self.readline, "append_history_file", None)
+        if self.file is None:
+            return
         try:
-            if self.file is not None and append is not None:
-                append(1, str(self.file))
-            elif self.file is not None:
+            if hasattr(self.readline, "append_history_file"):
+                self.readline.append_history_file(1, str(self.file))
+            else:
                 self.readline.write_history_file(str(self.file))
         except OSError:
             self.file = None
@@ -141,8 +134,7 @@ def greet(shell: "Shell") -> None:
 
 
 def talk(shell: "Shell", begins: bool) -> None:
-    """Does what is typed at a terminal, until it ends; first, if it `begins` so, the lines of the
-    files that are for that."""
+    """Does what is typed, until it ends; first, if it `begins` so, the lines of files for that."""
     shell.is_terminal = shell.shows_moves = True
     shell.interrupt.install()
     lines = Lines(shell)
@@ -162,7 +154,7 @@ def talk(shell: "Shell", begins: bool) -> None:
             last = line.strip()
             lines.keep(last)
         shell.line(last)
-        if last.split()[:1] and last.split()[0] in ONCE:
+        if {*last.split()[:1]} & {*ONCE}:
             last = ""
 
 
@@ -170,17 +162,16 @@ def filter_lines(shell: "Shell", begins: bool) -> None:
     """Does each line of standard input; a room is heard between them. It begins as `talk` does."""
     if begins:
         sourcing.begin(shell)
-        if shell.is_done:
-            return
     read = sys.stdin.buffer.readline
     if shell.notices.is_room:
         number = sys.stdin.fileno()
         lines = Incoming(number, functools.partial(os.read, number))
         read = functools.partial(next_line, shell, lines)
-    for line in iter(read, b""):
-        shell.line(line.decode("utf-8", "replace"))
-        if shell.is_done:
+    while not shell.is_done:
+        line = read()
+        if not line:
             return
+        shell.line(line.decode("utf-8", "replace"))
 
 
 def next_line(shell: "Shell", lines: Incoming) -> bytes:

@@ -3,12 +3,12 @@ import contextlib
 import os
 import re
 import stat
-from typing import TYPE_CHECKING, Iterator, List, Optional, Sequence, Set, Tuple
+from typing import TYPE_CHECKING, List, Sequence, Set, Tuple
 
 from rdbg import commands, own_file, record, replies
 from rdbg.driving import trail
 from rdbg.driving.interrupt import Interrupted
-from rdbg.driving.opening import begin
+from rdbg.driving.opening import begin, closed_if_wrong
 from rdbg.driving.target import Limits, Target, Unable, read
 from rdbg.effects import Move
 from rdbg.failure import Failure, trying, turned
@@ -25,11 +25,6 @@ if TYPE_CHECKING:
 ENDING = ".commands"
 
 
-def identity(there: os.stat_result) -> Tuple[int, int]:
-    """By what a file is known again."""
-    return there.st_dev, there.st_ino
-
-
 class Saved:
     """The files that a prompt has saved, which it may save anew."""
 
@@ -37,15 +32,14 @@ class Saved:
         self._own: Set[Tuple[int, int]] = set()
 
     def check(self, path: str, is_anew: bool) -> None:
-        """Raises `Unable` where a file is there that stays as it is. `is_anew` is that it was asked
-        for to be written over."""
+        """Raises `Unable` where a file is there that stays; `is_anew`: it may be written over."""
         if os.path.exists(path):
             self._check(path, os.stat(path), is_anew)
 
     def _check(self, path: str, there: os.stat_result, is_anew: bool) -> None:
         if not path.endswith(ENDING):
             raise Unable(f"{path} is there, and doesn't end in {ENDING}: it stays as it is")
-        if not is_anew and identity(there) not in self._own:
+        if not is_anew and (there.st_dev, there.st_ino) not in self._own:
             why = f"{path} is there, and wasn't saved by this prompt: it stays as it is"
             raise Unable(f"{why}; `save! {path}` writes it anew")
 
@@ -53,28 +47,24 @@ class Saved:
         """Writes a file. Raises `Unable` where it can't, or may not, be written."""
         try:
             with turned(Unable, Failure), trying(f"write {path}"):
-                number = self._open(path, is_anew)
+                is_made, number = self._opened(path)
                 with os.fdopen(number, "w", encoding="ascii") as file:
                     there = os.fstat(number)
-                    self._own.add(identity(there))
+                    if not is_made:
+                        self._check(path, there, is_anew)
+                    self._own.add((there.st_dev, there.st_ino))
                     if stat.S_ISREG(there.st_mode):
                         file.truncate()
                     file.write(text)
         except ValueError:
             raise Unable(f"cannot write {path!r}: no file has such a name") from None
 
-    def _open(self, path: str, is_anew: bool) -> int:
-        """Opens a file that is made, or may be written over."""
-        try:
-            return own_file.opened(path, os.O_WRONLY | os.O_CREAT | os.O_EXCL)
-        except FileExistsError:
-            number = own_file.opened(path, os.O_WRONLY)
-        try:
-            self._check(path, os.fstat(number), is_anew)
-        except Unable:
-            os.close(number)
-            raise
-        return number
+    @staticmethod
+    def _opened(path: str) -> Tuple[bool, int]:
+        """Whether a file is made, and its number, by which it is written."""
+        with contextlib.suppress(FileExistsError):
+            return True, own_file.opened(path, os.O_WRONLY | os.O_CREAT | os.O_EXCL)
+        return False, own_file.opened(path, os.O_WRONLY)
 
 
 DEFAULT_MOVES = 20
@@ -87,20 +77,17 @@ BYTES = "data"
 
 def moves(shell: "Shell", words: Sequence[str]) -> None:
     """`moves [COUNT]`: the last moves, each with what it did."""
-    count = DEFAULT_MOVES
-    if words and words != ["all"]:
-        if len(words) > 1 or not commands.is_count(words[0]):
-            raise Unable("`moves` shows the last 20, `moves 100` the last 100, `moves all` all")
-        count = int(words[0])
-    if shell.notices.is_room and words != ["all"] and count <= MOST_MOVES:
+    is_all = words == ["all"]
+    if not is_all and (words[1:] or not all(map(commands.is_count, words))):
+        raise Unable("`moves` shows the last 20, `moves 100` the last 100, `moves all` all")
+    count = int(words[0]) if words and not is_all else DEFAULT_MOVES
+    if shell.notices.is_room and not is_all and count <= MOST_MOVES:
         shell.notices.forget()
         shell.target.session.remark(f"# moves {count}")
         return
     places = shell.target.places()
     done, base = places.done, places.done - places.kept
-    if words == ["all"]:
-        count = max(1, done)
-    first = max(base + 1, done - count + 1)
+    first = base + 1 if is_all else max(base + 1, done - count + 1)
     found: List[Move] = []
     with shell.wheel():
         if done > base:
@@ -129,8 +116,7 @@ def lines_of(shell: "Shell") -> List[str]:
 
 
 def save(shell: "Shell", words: Sequence[str], is_anew: bool = False) -> None:
-    """`save FILE`: the moves as lines that rdbg replays; `save! FILE`, onto a file that is
-    there."""
+    """`save FILE`: the moves as lines that rdbg replays; `save! FILE`, onto one that is there."""
     if shell.is_starting:
         raise Unable("a file that a prompt begins with saves nothing")
     if len(words) != 1:
@@ -194,40 +180,30 @@ def replayed(shell: "Shell", source: Source, limits: Limits) -> None:
         raise Unable(f"the first {shell.target.base} moves were trimmed, and can't be made again")
     # (who was woken and moved is seen from tasks alone; of very many moves only who ran on which
     # core is laid side by side)
-    names = Names(shell.target.names.tasks)
-    if not shell.target.can_afford(trail.lines_for(done, names)):
-        names = Names()
+    tasks = Names(shell.target.names.tasks)
+    names = tasks if shell.target.can_afford(trail.lines_for(done, tasks)) else Names()
     old = trail.moves(shell.walk, 1, done, names, shell.progress)[0] if done else []
     same = count_same(shell, source, limits, old, names)
     with staying():
         target = begin(source, limits)
-    try:
+    with closed_if_wrong(target.session):
         watches(shell, target)
         for answer in in_chunks(shell, target, [move.line for move in old[:same]], "made again"):
             read(answer)
-        difference = first_difference(shell, target, old[same:])
-    except BaseException:
-        target.session.close()
-        raise
+        left = old[same:]
+        was, now = first_difference(shell, target, left[0]) if left else ("", "")
     shell.target.session.close()
     shell.take(target, source)
-    if difference is None:
+    if not left:
         shell.say(f"all {done} moves are the same on {source.path}, at {target.place}")
         return
-    was, now = difference
     shell.say(f"{target.place} of {done} moves are the same on {source.path}; the next one")
-    shell.say(f"  was  {was}")
-    shell.say(f"  is   {now}")
+    shell.say(f"  was  {was}\n  is   {now}")
 
 
-@contextlib.contextmanager
-def staying() -> Iterator[None]:
-    """As long as a file is read, or a program begun, anew. Where it can't be, `Unable` says that
-    the target stays as it is."""
-    try:
-        yield
-    except Failure as failure:
-        raise Unable(f"{failure}; the target stays as it is") from None
+def staying() -> "contextlib.AbstractContextManager[None]":
+    """As long as something is read or begun anew; `Unable` says that the target stays as it is."""
+    return turned(lambda why: Unable(f"{why}; the target stays as it is"), Failure)
 
 
 def count_same(
@@ -242,8 +218,7 @@ def count_same(
         before, same = target.look(looked), 0
         for at in range(0, len(old), trail.CHUNK):
             shell.interrupt.check()
-            moves_here = old[at : at + trail.CHUNK]
-            for move, answer, after in trail.made(target, moves_here, looked):
+            for move, answer, after in trail.made(target, old[at : at + trail.CHUNK], looked):
                 if answer.startswith("no "):
                     return same
                 if outcome(trail.between(target, before, after)) != outcome(move):
@@ -253,18 +228,13 @@ def count_same(
     return same
 
 
-def first_difference(
-    shell: "Shell", target: Target, left: Sequence[Move]
-) -> Optional[Tuple[str, str]]:
-    """What the first of these moves was, and what it is on a target that is at it; none where none
-    is left. Stays before it; `redo 1` makes it then."""
-    if not left:
-        return None
-    was = trail.moves(shell.walk, left[0].place, left[0].place)[0][0]
+def first_difference(shell: "Shell", target: Target, move: Move) -> Tuple[str, str]:
+    """What a move was, and is on a target that is at it. Stays before it; `redo 1` makes it then."""
+    was = trail.moves(shell.walk, move.place, move.place)[0][0]
     before, place = target.look(), target.place
-    answer = target.tell(left[0].line)
+    answer = target.tell(move.line)
     if answer.startswith("no "):
-        return was.row(), f"{left[0].line}: {answer}"
+        return was.row(), f"{move.line}: {answer}"
     now = trail.between(target, before, target.look())
     target.ask(f"back {target.place - place}", replies.Moved)
     return was.row(), now.row()
@@ -272,9 +242,7 @@ def first_difference(
 
 def outcome(move: Move) -> Tuple[object, ...]:
     """What makes two moves the same: who did which instruction with which objects, what it was
-    answered, who was woken, and who left or took which core. Its numbers, registers and bytes may
-    differ.
-    """
+    answered, who was woken, left or took which core; not its numbers, registers and bytes."""
     words = (move.instruction or "").split()
     names = words[:1] + [it for it in words[1:] if words[0] != BYTES and not VALUE.fullmatch(it)]
     kinds = ("woke", "given", "time up", "left", "took", "turns")
@@ -289,17 +257,13 @@ def outcome(move: Move) -> Tuple[object, ...]:
 
 def watches(shell: "Shell", target: Target) -> None:
     """Makes the same watches, under the same numbers, where their names are still there."""
-    old = shell.target.watches
-    made: List[int] = []
-    for number in range(max(old, default=-1) + 1):
-        text = old.get(number, "")
+    old = dict(shell.target.watches)
+    numbers = range(max(old, default=-1) + 1)
+    for number in numbers:
         try:
-            target.ask(f"watch {text or 'tick = 0'}", replies.WatchDone)
+            target.ask(f"watch {old.get(number, 'tick = 0')}", replies.WatchDone)
         except Refused as refused:
-            shell.say(f"watch {number}, {text}, is dropped: no {refused}")
-            text = ""
+            shell.say(f"watch {number}, {old.pop(number, '')}, is dropped: no {refused}")
             target.ask("watch tick = 0", replies.WatchDone)
-        if not text:
-            made.append(number)
-    for number in made:
+    for number in sorted({*numbers} - {*old}):
         target.ask(f"unwatch {number}", replies.WatchDone)

@@ -1,6 +1,7 @@
 """Words that go to a goal: `until`, `until!`, `rc`, `rc!` and `continue`."""
+import contextlib
 import textwrap
-from typing import TYPE_CHECKING, List, Optional, Sequence, Tuple
+from typing import TYPE_CHECKING, Iterator, Optional, Sequence, Tuple
 
 from rdbg import commands, record
 from rdbg.driving.interrupt import Interrupted
@@ -20,7 +21,6 @@ if TYPE_CHECKING:
     from rdbg.shell.shell import Shell
 
 DEFAULT_COUNT = 10_000
-BACK = f"{record.BACK} until"
 WIDTH = 96
 # A goal that is no condition begins with one of these.
 FIRST = (*reading.OF_TASKS, *reading.ALONE, *reading.OF_MOVES, reading.NOT, reading.OPEN)
@@ -31,16 +31,13 @@ def is_goal(words: Sequence[str], scope: Scope) -> bool:
     of a condition that rdbg refuses are its own."""
     if not words or words[0].partition("(")[0] in FIRST or words[0].startswith("("):
         return bool(words)
-    try:
-        goal_words.counted(words, scope)
-    except NoGoal:
-        return False
-    return True
+    with contextlib.suppress(NoGoal):
+        return bool(goal_words.counted(words, scope))
+    return False
 
 
 def goal_of(shell: "Shell", words: Sequence[str], becoming: bool) -> Tuple[Way, Optional[int]]:
-    """The way to the goal that these words are, and the COUNT behind them. Raises `Unable`, and
-    `Refused` where the target hasn't what it names."""
+    """The way to the goal that these words are, and its COUNT. Raises `Unable`, and `Refused`."""
     with turned(Unable, NoGoal):
         way, count = sought.way(words, shell.target, shell.scope(), becoming)
     if isinstance(way, To):
@@ -55,8 +52,7 @@ def keep_goal(shell: "Shell", way: Way) -> None:
 
 
 def check_goal(shell: "Shell", goal: Goal) -> None:
-    """Raises `Refused` where rdbg doesn't know what a goal names, and `Unable` where it is of an
-    instruction that its task doesn't have."""
+    """Raises `Refused` where a name of a goal isn't there, `Unable` where an instruction isn't."""
     for claim in goal.claims():
         condition = claim.condition if isinstance(claim, Holds) else None
         shell.asked = f"watch {condition.text}" if condition else f"until! {claim.text}"
@@ -80,15 +76,13 @@ def run_to(shell: "Shell", words: Sequence[str], becoming: bool = True) -> None:
         raise Unable("until what? `until! COND [COUNT]`, `until asleep`; help until! says more")
     goal, count = goal_of(shell, words, becoming)
     keep_goal(shell, goal)
-    forwards(shell, goal, DEFAULT_COUNT if count is None else count)
+    forwards(shell, goal, count or DEFAULT_COUNT)
 
 
 def forwards(shell: "Shell", goal: Way, count: int) -> None:
     """Goes to the first place where a goal is met, or makes so many moves."""
     walk, lines = shell.walk, shell.target.lines
-    with shell.wheel():
-        learn_all(shell)
-        start = shell.target.places().done
+    with from_here(shell) as start:
         lasts = isinstance(goal, To) and goal.becoming and goal.goal.is_lasting
         already = lasts and goal.is_so(shell.target)
         if already or not can_change(shell, goal):
@@ -119,9 +113,7 @@ def forwards(shell: "Shell", goal: Way, count: int) -> None:
 def backwards(shell: "Shell", goal: Way) -> None:
     """Goes back to the last earlier place where a goal is met, or stays."""
     walk, lines = shell.walk, shell.target.lines
-    with shell.wheel():
-        learn_all(shell)
-        start = shell.target.places().done
+    with from_here(shell) as start:
         try:
             place = goal.last(walk)
             walk.goto(start if place is None else place)
@@ -141,8 +133,8 @@ def backwards(shell: "Shell", goal: Way) -> None:
 
 def drop_met(shell: "Shell", goal: Way) -> None:
     """Drops the watches that were to be met once, and are, behind a run to any of them."""
-    there = shell.target.watches.items()
     if isinstance(goal, AnyOf):
+        there = shell.target.watches.items()
         once = [number for number, text in shell.temporary.items() if (number, text) in there]
         watches = {number: goal_of(shell, [f"w{number}"], True)[0] for number in once}
         shell.drop_temporary(number for number, it in watches.items() if became(shell, it))
@@ -170,8 +162,7 @@ def gave_up(shell: "Shell", ended: Exception, start: int) -> None:
 
 def said(shell: "Shell", goal: Way, how: str, start: int, lines: int) -> None:
     """Says where a goal was met, or that it wasn't, and how many lines that took."""
-    asked = shell.target.lines - lines
-    by = f"({counted(asked, 'line')} asked)"
+    by = f"({counted(shell.target.lines - lines, 'line')} asked)"
     here = shell.target.place
     none = f"'{goal.text}' wasn't met" if goal.text else "no watch, failed or stuck was met"
     if how == "met":
@@ -188,8 +179,7 @@ def said(shell: "Shell", goal: Way, how: str, start: int, lines: int) -> None:
 
 
 def ending(shell: "Shell") -> str:
-    """What a target is where only ticks are left: `finished`, `asleep`, or `stuck`, where no task
-    waits and one has failed; empty elsewhere."""
+    """`finished`, `asleep`, or else `stuck`, where only ticks are left; empty elsewhere."""
     if not is_stuck(shell.target):
         return ""
     look = shell.target.look(Stuck().names(shell.target.names))
@@ -208,41 +198,39 @@ def tell_who_goes_on(shell: "Shell", goal: str) -> None:
     """Says of a target that isn't `asleep`, or `stuck`, who keeps it so."""
     found = []
     for name, it in shell.look().tasks.items():
+        why = ", and no instruction of its script ever waits" if never_waits(shell, name) else ""
         if it.core is not None:
-            found.append(f"{name} is busy on core {it.core}")
-            if never_waits(shell, name):
-                found[-1] += ", and no instruction of its script ever waits"
+            found.append(f"{name} is busy on core {it.core}{why}")
         elif it.phase.deadline is not None:
             found.append(f"{name} {phase_text(it)}")
     shell.say("\n".join(textwrap.wrap(f"not {goal}: {'; '.join(found)}", WIDTH)))
     if any(never_waits(shell, name) for name in shell.target.names.tasks):
-        shell.say(
-            f"so `{goal}` can't come; `until sleeps TASK` runs to where one task waits for ever"
-        )
+        onwards = "`until sleeps TASK` runs to where one task waits for ever"
+        shell.say(f"so `{goal}` can't come; {onwards}")
 
 
 def never_waits(shell: "Shell", name: str) -> bool:
     """Whether no instruction of a task's script can wait, or end it: so it is busy for ever."""
-    script = script_of(shell, name)
-    for it in script:
-        words = it.words()
-        form = form_of(words[0])
-        if form is None or words[0] == "end":
-            return False
-        if form.symbols[-1:] == ("T",) and words[-1] != "0":
-            return False
-    return bool(script)
+    script = [it.words() for it in script_of(shell, name)]
+    forms = [(form_of(words[0]), words) for words in script]
+    return bool(script) and not any(
+        form is None or words[0] == "end" or (form.symbols[-1:] == ("T",) and words[-1] != "0")
+        for form, words in forms
+    )
 
 
-def learn_all(shell: "Shell") -> None:
-    """Learns the tasks, where no file is known: at the start each is on a core or ready."""
-    if shell.target.application is not None or shell.knows_tasks:
-        return
-    here = shell.target.places().done
-    shell.walk.goto(shell.target.base)
-    shell.target.tell("show cores")
-    shell.walk.goto(here)
-    shell.knows_tasks = True
+@contextlib.contextmanager
+def from_here(shell: "Shell") -> Iterator[int]:
+    """As long as nobody else may move the target: the place where it is, and all tasks are known,
+    of which each is on a core or ready at the start."""
+    with shell.wheel():
+        if shell.target.application is None and not shell.knows_tasks:
+            here = shell.target.places().done
+            shell.walk.goto(shell.target.base)
+            shell.target.tell("show cores")
+            shell.walk.goto(here)
+            shell.knows_tasks = True
+        yield shell.target.places().done
 
 
 def until(shell: "Shell", words: Sequence[str]) -> None:
@@ -268,25 +256,23 @@ def back(shell: "Shell", words: Sequence[str]) -> None:
     if not words:
         backwards(shell, events(shell))
     elif is_rdbgs(words) or not is_goal(words, shell.scope()):
-        shell.command(f"{BACK} {' '.join(words)}")
+        shell.command(f"{record.BACK} until {' '.join(words)}")
     else:
         back_to(shell, words, False)
 
 
 def back_until(shell: "Shell", words: Sequence[str]) -> None:
     """`back until GOAL`, `back until! GOAL`."""
-    (back_becomes if words[0] == "until!" else back)(shell, words[1:])
+    if words[0] == "until!":
+        back_to(shell, words[1:])
+    else:
+        back(shell, words[1:])
 
 
-def back_becomes(shell: "Shell", words: Sequence[str]) -> None:
-    """`rc!`."""
+def back_to(shell: "Shell", words: Sequence[str], becoming: bool = True) -> None:
+    """Goes back to a goal; `rc!`."""
     if not words:
         raise Unable("back to what? `rc! COND`, `rc! asleep`")
-    back_to(shell, words, True)
-
-
-def back_to(shell: "Shell", words: Sequence[str], becoming: bool) -> None:
-    """Goes back to a goal."""
     goal, count = goal_of(shell, words, becoming)
     if count is not None:
         raise Unable(f"'{count}' is too much: a way back takes no COUNT")
@@ -296,11 +282,10 @@ def back_to(shell: "Shell", words: Sequence[str], becoming: bool) -> None:
 
 def events(shell: "Shell") -> Way:
     """What a run without a goal ends at: a watch, a task that fails, or that nothing goes on."""
-    goals: List[Way] = []
-    for number in sorted(shell.target.watches):
-        goal, _ = goal_of(shell, [f"w{number}"], True)
-        goal.text = f"w{number}, {goal.text}"
-        goals.append(goal)
+    names = [f"w{number}" for number in sorted(shell.target.watches)]
+    goals = [goal_of(shell, [name], True)[0] for name in names]
+    for name, goal in zip(names, goals):
+        goal.text = f"{name}, {goal.text}"
     return AnyOf("", [*goals, To(SomeFailed(), True), To(Stuck(), True)])
 
 
@@ -308,9 +293,9 @@ def can_change(shell: "Shell", goal: Way) -> bool:
     """Whether a run can meet a goal: of a target that is stuck only the tick changes."""
     ways = goal.ways if isinstance(goal, AnyOf) else [goal]
     asked = [it for it in ways if isinstance(it, To)]
-    ticks = [claim for it in asked for claim in it.goal.claims() if claim.text.startswith("tick ")]
+    is_of_tick = any(it.text.startswith("tick ") for way in asked for it in way.goal.claims())
     is_met = any(not it.becoming and it.is_so(shell.target) for it in asked)
-    return bool(ticks) or is_met or not is_stuck(shell.target)
+    return is_of_tick or is_met or not is_stuck(shell.target)
 
 
 def carry_on(shell: "Shell", words: Sequence[str]) -> None:

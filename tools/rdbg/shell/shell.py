@@ -9,21 +9,23 @@ from typing import Dict, Iterable, Iterator, List, Optional, Sequence, Tuple
 
 from rdbg import commands, kinds, record
 from rdbg.application import NO_INTERRUPT, Interrupt as Handler
+from rdbg.by_hand import INTERRUPT
 from rdbg.client import ROOM_ENDED
 from rdbg.driving import trail
 from rdbg.driving.interrupt import Interrupt, Interrupted
 from rdbg.driving.pacing import TickPace
 from rdbg.driving.target import SINGLE, Target, Unable, read
-from rdbg.driving.walk import Pieces, Walk
-from rdbg.effects import Move
+from rdbg.driving.walk import Walk
+from rdbg.effects import LOCAL, Move
 from rdbg.failure import Failure
 from rdbg.files.source import Source, load
 from rdbg.goals.paced import PacedWalk
 from rdbg.goals.scope import Scope
+from rdbg.instructions import form_of
 from rdbg.looks import Look, Names
 from rdbg.replies import Cores, Refused
-from rdbg.shell import displays, hints, needs, views
-from rdbg.shell.notices import READ_ANEW, Notices, is_remark
+from rdbg.shell import hints, views
+from rdbg.shell.notices import READ_ANEW, REMARK, Notices
 from rdbg.shell.reach import Order, Reached
 from rdbg.shell.replay import Saved
 from rdbg.wording import counted
@@ -32,6 +34,7 @@ from rdbg.wording import counted
 MANY, FEW = 20, 5
 # It is said when a tenth of the history is left, and a hundredth; not of one that is small.
 NEARLY, NOT_SMALL = (10, 100), 1_000
+COMMENT = re.compile(r"^\s*#| #")
 # So many seconds pass before it is shown how far something is, and between two times.
 MOMENT = 0.3
 
@@ -71,7 +74,7 @@ class Shell:
     def take(self, target: Target, source: Optional[Source]) -> None:
         """Goes on with this target and its file."""
         self.target, self.source = target, source
-        self.pieces = Pieces(Walk(target, self.interrupt))
+        self.pieces = Walk(target, self.interrupt)
         self.walk = self.walking(target)
         self.knows_tasks = False
         self._named: Optional[Scope] = None
@@ -109,27 +112,20 @@ class Shell:
 
     def _notice(self, notice: str) -> None:
         """Prints a notice of a room; its last one is said at the end of all."""
-        if READ_ANEW.match(notice):
-            self._read_anew()
+        if READ_ANEW.match(notice) and self.source is not None:
+            with contextlib.suppress(Failure):
+                source = load(self.source.path, self.source.given)
+                if source.application is not None:
+                    self.source, self.target.application = source, source.application
+                    self.target.names = Names.of(source.application)
+                    self._named = self._seen = self._last = None
         if not notice.startswith(ROOM_ENDED):
             self._wipe()
             print(notice, flush=True)
 
-    def _read_anew(self) -> None:
-        """Takes the file as it is now, where one is known."""
-        with contextlib.suppress(Failure):
-            source = load(self.source.path, self.source.given) if self.source else None
-            if source is not None and source.application is not None:
-                self.source, self.target.application = source, source.application
-                self.target.names = Names.of(source.application)
-                self._named = self._seen = self._last = None
-
     def may_come(self) -> Sequence[str]:
-        """The interrupts that searches let come, as words for them have it: all of the text where
-        it wasn't said which."""
-        if self.coming is None:
-            return ()
-        return [it.name for it in self.coming] or [NO_INTERRUPT]
+        """The words for what searches let come; none where it wasn't said which: all may."""
+        return () if self.coming is None else [it.name for it in self.coming] or [NO_INTERRUPT]
 
     def scope(self) -> Scope:
         """What goals can name."""
@@ -141,11 +137,9 @@ class Shell:
     def progress(self, made: int, of: int, done: str) -> None:
         """Shows at a terminal how far something long is: it stands in one line, and goes away."""
         now = time.monotonic()
-        if not self.is_terminal or now < self._shown + MOMENT:
-            return
-        self._shown = now
-        print(f"\r# {made} of {of} {done}\x1b[K\r", end="", flush=True)
-        self._is_showing = True
+        if self.is_terminal and now >= self._shown + MOMENT:
+            self._shown, self._is_showing = now, True
+            print(f"\r# {made} of {of} {done}\x1b[K\r", end="", flush=True)
 
     def _wipe(self) -> None:
         """Wipes what shows how far something is."""
@@ -194,45 +188,27 @@ class Shell:
         """Does what a line asks for, which somebody has typed, or sh says to itself."""
         self.asked = ""
         self._shown = time.monotonic()
-        if self.notices.is_room and is_remark(text):
+        if self.notices.is_room and REMARK.match(text.strip()):
             self.notices.forget()
             self.target.session.remark(text.strip())
             sys.stdout.flush()
             return
         stripped, words = parted(text)
-        if not words:
-            return
-        with self.notices.doing(stripped if is_typed else ""):
-            self.do(stripped, words)
-        sys.stdout.flush()
-
-    def do_plain(self, text: str) -> None:
-        """Does a line of a file."""
-        stripped, words = parted(text)
         if words:
-            self.do(stripped, words)
+            with self.notices.doing(stripped if is_typed else ""):
+                self.do(text)
+            sys.stdout.flush()
 
-    def do(self, stripped: str, words: Sequence[str]) -> None:
-        """Does a line: one of rdbg's as it is, or a word of sh's own; and says what is displayed
-        where that has moved the target."""
-        self.is_refused, self.is_stopped, self.asked = False, False, ""
-        there = self.target, self.target.place
-        self._do(stripped, words)
-        self.notice()
-        here = self.target, self.target.place
-        if self.displays and here not in (there, self._displayed):
-            displays.show(self)
-            self._displayed = here
-        self._warn()
-
-    def _do(self, stripped: str, words: Sequence[str]) -> None:
+    def do(self, text: str) -> None:
+        """Does a line, rdbg's as it is or a word of sh's, and says what is displayed behind it."""
         from rdbg.shell.words import find
 
-        names = self.target.names
-        known = (*names.tasks, *(name for _, name in names.objects))
-        application = self.target.application
-        interrupts = [it.name for it in application.interrupts] if application else []
-        word = None if commands.read(stripped) else find(words, known, self.scope, interrupts)
+        stripped, words = parted(text)
+        if not words:
+            return
+        self.is_refused, self.is_stopped, self.asked = False, False, ""
+        there = self.target, self.target.place
+        word = None if commands.read(stripped) else find(self, words)
         try:
             if word is None:
                 self.command(stripped)
@@ -247,6 +223,12 @@ class Shell:
             self.is_refused = True
             self.refuse(f"rdbg says: no {refused}")
             self.hint(hints.refusal(self, self.asked, refused))
+        self.notice()
+        here = self.target, self.target.place
+        if self.displays and here not in (there, self._displayed):
+            views.displayed(self)
+            self._displayed = here
+        self._warn()
 
     @contextlib.contextmanager
     def wheel(self) -> Iterator[None]:
@@ -258,14 +240,12 @@ class Shell:
     def notice(self) -> None:
         """Says where others have moved the target since that was last told."""
         drift, self.target.drift = self.target.drift, None
-        if self.notices.is_room:
-            return  # (what moved it was told)
-        if drift is not None and drift[0] != drift[1]:
+        # (in a room what moved it was told)
+        if drift is not None and drift[0] != drift[1] and not self.notices.is_room:
             self.say(f"the target moved meanwhile: {drift[0]} -> {drift[1]}")
 
     def command(self, text: str) -> bool:
-        """Asks rdbg a line, prints the reply, and says what the moves did. Answers whether it was
-        done."""
+        """Asks rdbg a line, says the reply and what the moves did. Answers whether it was done."""
         if len(text.encode("utf-8", "replace")) > commands.MOST_BYTES:
             self.hint("a line has at most 1024 bytes; rdbg would end the session: it wasn't sent")
             return False
@@ -274,8 +254,9 @@ class Shell:
         self.notice()
         place = self.target.place
         self.notices.forget()
+        long = command if self.is_terminal else None
         try:
-            reply = self._reply(command, text)
+            reply = self.pieces.tell(long, text) if long else self.target.tell(text)
         except Interrupted:
             self.stopped(f"at {self.target.place}")
             self.after(place, before)
@@ -292,18 +273,14 @@ class Shell:
             elif self.target.is_own and self.target.place != place:
                 self.say(f"the moves up to {self.target.place} are made")
             return False
-        if command is not None and command.form.moves and self.notices.is_room:
-            self._as_told(reply)
-        elif command is not None and command.form.moves:
-            self.after(place, before)
+        if command is not None and command.form.moves:
+            if self.notices.is_room:
+                self._as_told(reply)
+            else:
+                self.after(place, before)
         elif self.is_terminal and not self.target.is_own:
             self.target.places()
         return True
-
-    def _reply(self, command: Optional[commands.Command], text: str) -> str:
-        if command is None or not self.is_terminal:
-            return self.target.tell(text)
-        return self.pieces.tell(command, text)
 
     def drop_temporary(self, numbers: Iterable[int]) -> None:
         """Drops those of these watches that were to be met once."""
@@ -330,12 +307,10 @@ class Shell:
 
     def before(self, command: Optional[commands.Command]) -> Optional[Look]:
         """What to look at before a move, to say what it did."""
-        if command is None or not command.form.moves:
+        if command is None or not command.form.moves or self.notices.is_room:
             return None
         if self.target.is_own:
             return self._seen if self.shows_moves and self._is_known() else None
-        if self.notices.is_room:
-            return None
         is_single = command.form.word in SINGLE or command.count() == 1
         if not self.shows_moves or not is_single or command.form.word == record.BACK:
             if self.is_terminal or self.shows_moves:
@@ -343,14 +318,19 @@ class Shell:
             return None
         try:
             last = self._last
-            names = needs.names_for(self.target, command, last)
-            look = self.target.look(names)
-            if not needs.is_enough(command, names, look, last):
-                look = self.target.look()
-            self._last = needs.together(last, look)
-            return look
+            look = self._part(names_for(self.target, command, last))
+            return look if is_enough(command, look, last) else self._part()
         except Refused:
             return None
+
+    def _part(self, names: Optional[Names] = None) -> Look:
+        """A look at some of what is known, of which the rest stays as it was seen last."""
+        look, last = self.target.look(names), self._last
+        self._last = look
+        if last is not None:
+            tasks, objects = {**last.tasks, **look.tasks}, {**last.objects, **look.objects}
+            self._last = dataclasses.replace(look, tasks=tasks, objects=objects)
+        return look
 
     def after(self, place: int, before: Optional[Look]) -> None:
         """Says what the moves from a place to this one did, or where one is after going back."""
@@ -374,31 +354,22 @@ class Shell:
     def _as_told(self, reply: str) -> None:
         """Says what a line did by what the room has told of it."""
         effect, rows = self.notices.told(reply)
-        if not self.shows_moves:
-            return
         if effect.startswith("next: "):
             effect = f"at {self.target.place}, {effect}"
-        for text in [effect, *rows]:
-            if text:
-                self.say(text)
-
-    def _look_again(self, before: Look) -> Look:
-        """A look behind a move at what was looked at before it."""
-        if self.target.is_own or self.target.application is None:
-            return self.look()
-        after = self.target.look(Names(tuple(before.tasks), tuple(before.objects)))
-        self._last = needs.together(self._last, after)
-        self.notice()
-        return after
+        for text in filter(None, [effect, *rows] if self.shows_moves else []):
+            self.say(text)
 
     def tell_moves(self, place: int, here: int, before: Optional[Look]) -> None:
         """Says what the moves between two places did, the last few of many."""
         if here == place + 1 and before is not None and before.place == place:
-            after = self._look_again(before)
-            if after.place != here:
-                self.say("others have moved the target since: `moves` shows what was done")
-                return
-            self.say(trail.between(self.target, before, after).text())
+            if self.target.is_own or self.target.application is None:
+                after = self.look()
+            else:
+                after = self._part(Names(tuple(before.tasks), tuple(before.objects)))
+                self.notice()
+            others = "others have moved the target since: `moves` shows what was done"
+            is_last = after.place == here
+            self.say(trail.between(self.target, before, after).text() if is_last else others)
             return
         first = place + 1 if here - place <= MANY else here - FEW + 1
         if first > place + 1:
@@ -414,12 +385,11 @@ class Shell:
         """Says what the last move did."""
         here = self.target.place
         _, rows = self.notices.told(f"ok at {here}")
-        if rows:
-            self.say(rows[-1])
-            return
-        found, look = trail.moves(self.walk, here, here)
-        self._keep(look)
-        self.say(found[0].row())
+        if not rows:
+            found, look = trail.moves(self.walk, here, here)
+            self._keep(look)
+            rows = [found[0].row()]
+        self.say(rows[-1])
 
     def next_moves(self) -> str:
         """What each busy core would do next, in words."""
@@ -427,15 +397,9 @@ class Shell:
             look = self.look()
         else:
             running = self.target.ask("show cores", Cores).running
-            look = self.target.look(Names(tuple(name for name in running if name)))
-            self._last = needs.together(self._last, look)
-        found = []
-        for core, name in enumerate(look.cores.running):
-            if name in look.tasks:
-                assert name is not None
-                pc = look.tasks[name].pc
-                text = f" {views.written(self, name, pc)}".rstrip()
-                found.append(f"{name} {pc}{text} (core {core})")
+            look = self._part(Names(tuple(name for name in running if name)))
+        seats = ((core, look.tasks.get(name or "")) for core, name in enumerate(look.cores.running))
+        found = [f"{it.name} {views.next_of(self, it)} (core {core})" for core, it in seats if it]
         return ", ".join(found) or "no core is busy: tick"
 
     def _warn(self) -> None:
@@ -443,22 +407,61 @@ class Shell:
         left, limits = self.target.left(), self.target.limits
         if left is None or limits is None or limits.history < NOT_SMALL:
             return
-        if self._warned >= len(NEARLY) or left * NEARLY[self._warned] > limits.history:
-            return
-        self._warned += 1
-        self.hint(f"the history has room for {left} more lines, looks among them: see help history")
+        if self._warned < len(NEARLY) and left * NEARLY[self._warned] <= limits.history:
+            self._warned += 1
+            room = f"the history has room for {left} more lines, looks among them"
+            self.hint(f"{room}: see help history")
 
 
 def parted(text: str) -> Tuple[str, List[str]]:
-    """A line without its comment, and its words."""
-    stripped = without_comment(text.encode("utf-8", "replace").decode())
+    """A line without what stands behind a `#` of its own, and its words."""
+    whole = text.encode("utf-8", "replace").decode()
+    stripped = COMMENT.split(whole[:-1] if whole.endswith("\n") else whole, 1)[0]
     return stripped, stripped.replace("\t", " ").split()
 
 
-def without_comment(line: str) -> str:
-    """A line without what stands behind a `#` of its own, and without spaces at its ends."""
-    text = line[:-1] if line.endswith("\n") else line
-    if text.lstrip().startswith("#"):
-        return ""
-    at = text.find(" #")
-    return text if at < 0 else text[:at]
+def names_for(target: Target, command: commands.Command, last: Optional[Look]) -> Names:
+    """What a line can change, as far as that is told, by an old look; all where that isn't so."""
+    word = command.form.word
+    if word == "tick":
+        return Names(target.names.tasks)
+    if word == "poke":
+        kind, name = kinds.OF_SYMBOL[command.symbols[2]], command.words[2]
+        return Names((name,)) if kind is kinds.TASK else Names((), ((kind.word, name),))
+    if word == INTERRUPT:
+        if command.symbols[2] != kinds.QUEUE.symbol:
+            return Names(target.names.tasks)  # (whom it wakes may displace another)
+        # (an item that it sends has its handle in a set, if the queue is a member)
+        sets = [key for key in target.names.objects if key[0] == kinds.QUEUE_SET.word]
+        return Names(target.names.tasks, ((kinds.QUEUE.word, command.words[2]), *sets))
+    found = of_step(target, int(command.words[1]), last) if word == "step" and last else None
+    return target.names if found is None else found
+
+
+def of_step(target: Target, core: int, last: Look) -> Optional[Names]:
+    """What a step of a core can change, if its task stands where it stood at the last look."""
+    task = last.cores.running[core] if core < len(last.cores.running) else None
+    if task not in last.tasks or task is None:
+        return None
+    words = (target.instruction(task, last.tasks[task].pc) or "").split()
+    if not words:
+        return None
+    form = form_of(words[0])
+    if form is None or words[0] in LOCAL:
+        return Names((task,))
+    named = [(kinds.OF_SYMBOL.get(symbol), name) for symbol, name in zip(form.symbols, words[1:])]
+    keys = [(kind.word, name) for kind, name in named if kind in kinds.OBJECTS]
+    if any(kind == kinds.QUEUE.word for kind, _ in keys):
+        keys += [key for key in target.names.objects if key[0] == kinds.QUEUE_SET.word]
+    return Names(target.names.tasks, tuple(dict.fromkeys(keys)))
+
+
+def is_enough(command: commands.Command, look: Look, last: Optional[Look]) -> bool:
+    """Whether a look at names that were chosen by an older one has what the line can change."""
+    core = int(command.words[1]) if command.form.word == "step" else len(look.cores.running)
+    if last is None or core >= len(look.cores.running):
+        return True
+    task = look.cores.running[core]
+    if task is None or task != last.cores.running[core]:
+        return task is None
+    return task in look.tasks and look.tasks[task].pc == last.tasks[task].pc

@@ -31,7 +31,7 @@ def do_all(shell: "Shell", path: str, content: bytes) -> None:
     shell.sourced.append(path)
     try:
         for number, line in enumerate(content.decode("utf-8", "replace").splitlines(), 1):
-            shell.do_plain(line)
+            shell.do(line)
             if shell.is_refused:
                 raise Unable(f"{path}:{number}: it ends here")
             if shell.is_done:
@@ -42,10 +42,9 @@ def do_all(shell: "Shell", path: str, content: bytes) -> None:
 
 def begin(shell: "Shell") -> None:
     """Does the lines of the user's file and of the one beside the application, where there are."""
-    folders = [os.path.expanduser("~")]
-    if shell.source is not None:
-        folders.append(os.path.dirname(os.path.abspath(shell.source.path)))
-    paths = dict.fromkeys(os.path.join(os.path.realpath(it), START) for it in folders)
+    beside = [os.path.dirname(os.path.abspath(shell.source.path))] if shell.source else []
+    folders = (os.path.realpath(it) for it in (os.path.expanduser("~"), *beside))
+    paths = dict.fromkeys(os.path.join(it, START) for it in folders)
     for path in filter(os.path.lexists, paths):
         shell.is_starting = True
         try:
@@ -57,15 +56,13 @@ def begin(shell: "Shell") -> None:
 
 
 def own(path: str) -> bytes:
-    """What stands in a file of the user's own. Raises `Failure` where it can't be read, or somebody
-    else may have written it."""
+    """What stands in a file of the user's own. Raises `Failure` where others may write it."""
     with trying(f"read {path}"):
         number = os.open(path, os.O_RDONLY | os.O_NONBLOCK)
         with open(number, "rb") as file:
             there = os.fstat(number)
             is_own = there.st_uid == os.geteuid() and not there.st_mode & stat.S_IWOTH
             if not is_own or not stat.S_ISREG(there.st_mode):
-                raise Failure(
-                    f"{path} isn't read: it is to be a file of yours that not all may write"
-                )
+                why = "it is to be a file of yours that not all may write"
+                raise Failure(f"{path} isn't read: {why}")
             return file.read()

@@ -33,20 +33,15 @@ def step(shell: "Shell", words: Sequence[str]) -> None:
     if name not in shell.target.names.tasks and re.fullmatch(r"core_?[0-9]", name):
         raise Unable(f"a core is its number: `step {name[-1]}`")
     if name not in shell.target.names.tasks and not is_core:
-        look = shell.look()  # (which may tell of it, where the file isn't known)
+        shell.look()  # (which may tell of it, where the file isn't known)
         check_name(shell, name, "task")
-        assert look is not None
     for made in range(count):
         shell.interrupt.check()
-        if is_core:
-            if not shell.command(f"step {name}"):
-                return
-            continue
-        it = shell.target.ask(f"show task {name}", replies.Task)
-        if it.core is None:
+        it = None if is_core else shell.target.ask(f"show task {name}", replies.Task)
+        if it is not None and it.core is None:
             behind = f" after {made} of {count} instructions" if made else ""
             raise Unable(f"{name} is on no core{behind}: {why_on_none(shell, it)}")
-        if not shell.command(f"step {it.core}"):
+        if not shell.command(f"step {it.core if it else name}"):
             return
 
 
@@ -59,9 +54,8 @@ def tick(shell: "Shell", words: Sequence[str]) -> None:
         reply, left = "", int(words[0])
         while left and not reply.startswith("no "):
             shell.interrupt.check()
-            answers = shell.target.tell_all(["tick"] * min(left, TICKS))
-            left -= len(answers)
-            reply = answers[-1]
+            *others, reply = shell.target.tell_all(["tick"] * min(left, TICKS))
+            left -= len(others) + 1
         here = shell.target.place
         shell.answer(reply)
         shell.hint_on("tick", reply)
@@ -73,16 +67,14 @@ def tick(shell: "Shell", words: Sequence[str]) -> None:
 
 def tell_ticks(shell: "Shell", first: int, last: int) -> None:
     """Says which of these ticks woke or turned somebody."""
-    names = Names(shell.target.names.tasks)
-    found = trail.moves(shell.walk, first, last, names, shell.progress)[0]
+    found = trail.moves(shell.walk, first, last, Names(shell.target.names.tasks), shell.progress)[0]
     told = [move for move in found if move.effects]
     if len(told) > ROWS:
         shell.say(f".. {len(told) - ROWS} ticks that did something before these")
     for move in told[-ROWS:]:
         shell.say(move.row(len(str(last))))
-    others = len(found) - len(told)
-    if others:
-        shell.say(f"{counted(others, 'tick')} woke and turned nobody")
+    if len(found) > len(told):
+        shell.say(f"{counted(len(found) - len(told), 'tick')} woke and turned nobody")
 
 
 def interrupt(shell: "Shell", words: Sequence[str]) -> None:
@@ -101,22 +93,20 @@ def why_on_none(shell: "Shell", it: replies.Task) -> str:
     """Why a task is on no core, and who is."""
     pairs = enumerate(shell.target.ask("show cores", replies.Cores).running)
     busy = [f"{name} on core {core}" for core, name in pairs if name]
-    running = ", ".join(busy) or "no core is busy"
-    if it.phase.word in ("run", "again", "given"):
-        return f"it is ready; {running}"
-    if it.phase.word == "wait":
-        return f"it {phase_text(it)}; {running}"
-    return f"it has {phase_text(it)}"
+    if it.phase.word in ("ended", "failed"):
+        return f"it has {phase_text(it)}"
+    why = phase_text(it) if it.phase.word == "wait" else "is ready"
+    return f"it {why}; {', '.join(busy) or 'no core is busy'}"
 
 
 def forward(shell: "Shell", words: Sequence[str]) -> None:
     """`s [COUNT]`: moves of a run's choice; `s TASK` is `step TASK`."""
     if words and words[0] in shell.target.names.tasks:
         step(shell, words)
-        return
-    if len(words) > 1 or not all(commands.is_count(word) for word in words):
+    elif words[1:] or not all(map(commands.is_count, words)):
         raise Unable("`s` is a move as a run chooses it, `s 5` five; `step worker` is a task's own")
-    shell.command(" ".join(["forward", *(words or ["1"])]))
+    else:
+        shell.command(" ".join(["forward", *(words or ["1"])]))
 
 
 def back(shell: "Shell", words: Sequence[str]) -> None:
@@ -140,8 +130,8 @@ def goto(shell: "Shell", words: Sequence[str]) -> None:
         raise Unable(shell.target.trimmed(place))
     if place == there.done:
         shell.say(f"at {place} already")
-        return
-    shell.command(record.way(there.done, place))
+    else:
+        shell.command(record.way(there.done, place))
 
 
 def break_at(shell: "Shell", words: Sequence[str]) -> None:
@@ -160,7 +150,7 @@ def break_at(shell: "Shell", words: Sequence[str]) -> None:
 
 def break_once(shell: "Shell", words: Sequence[str]) -> None:
     """`tbreak`: the same, and the watch is dropped where `continue` or `rc` meets it."""
-    before = set(shell.target.watches)
+    before = dict(shell.target.watches)
     break_at(shell, words)
     there = shell.target.watches.items()
     shell.temporary.update({number: text for number, text in there if number not in before})
@@ -168,61 +158,56 @@ def break_once(shell: "Shell", words: Sequence[str]) -> None:
 
 def check_goal(shell: "Shell", words: Sequence[str]) -> None:
     """Raises `Unable` where words are no goal, with what would be right."""
-    if words[0] in reading.OF_MOVES:
-        return
-    with turned(Unable, NoGoal):
-        goal_words.read(words, shell.scope())
+    if words[0] not in reading.OF_MOVES:
+        with turned(Unable, NoGoal):
+            goal_words.read(words, shell.scope())
 
 
 def put_break(shell: "Shell", words: Sequence[str]) -> None:
     """A watch at `TASK PC`, or of a condition."""
-    is_made = False
-    parts = [part for word in words for part in word.split(":") if part]
+    if not words:
+        raise Unable("break where? `break worker 2`, or a condition, `break count jobs > 0`")
+    parts, condition = [part for word in words for part in word.split(":") if part], " ".join(words)
     if len(parts) == 2 and commands.is_name(parts[0]) and commands.is_number(parts[1]):
         check_instruction(shell, parts[0], int(parts[1]))
-        is_made = shell.command(f"watch pc {parts[0]} = {parts[1]}")
+        condition = f"pc {parts[0]} = {parts[1]}"
     elif len(parts) == 1 and parts[0] in shell.target.names.tasks:
         raise Unable(f"at which instruction? `list {parts[0]}` numbers them, `break {parts[0]} 2`")
-    elif words:
+    else:
         if not seek.is_rdbgs(words):
             check_goal(shell, words)
         seek.check_instructions(shell, conditions.read(words))
-        is_made = shell.command(f"watch {' '.join(words)}")
-    else:
-        raise Unable("break where? `break worker 2`, or a condition, `break count jobs > 0`")
-    if is_made and not shell.told_of_breaks:
+    if shell.command(f"watch {condition}") and not shell.told_of_breaks:
         shell.told_of_breaks = True
         shell.say("`continue` runs to where a watch becomes so, `rc` goes back to where one did")
 
 
 def at_line(shell: "Shell", file: Optional[str], line: int) -> List[Sequence[str]]:
-    """The task and the number of the first instruction at a line of the file, or behind it; of each
-    task whose script it is, where that is of several."""
+    """The task and number of the first instruction at a line or behind it, of each task there."""
     source, application = shell.source, shell.target.application
     if source is None or application is None:
         raise Unable("no file is known: `break TASK PC`")
     if file is not None and pathlib.Path(file).name != pathlib.Path(source.path).name:
         raise Unable(f"the file is {source.path}: `break {line}`, or `break TASK PC`")
-    if source.is_c and line not in {
-        it.place.line for task in application.tasks for it in task.code
-    }:
+    lines = {it.place.line for task in application.tasks for it in task.code}
+    if source.is_c and line not in lines:
         line = below(source.text).get(line, line)
     found = [
-        (it.place, task.name, number, it.written)
+        (f"{task.name} {number}", it)
         for task in application.tasks
         for number, it in enumerate(task.code)
         if it.place.line >= line and it.begins
     ]
     if not found:
         raise Unable(f"{source.path} has no instruction at line {line} or behind it")
-    first = min(at.line for at, *_ in found)
-    there = [(name, number, written) for at, name, number, written in found if at.line == first]
-    if len({at for at, *_ in found if at.line == first}) > 1:
-        texts = [f"`break {name} {number}` ({written})" for name, number, written in there]
+    first = min(it.place.line for _, it in found)
+    there = [(at, it) for at, it in found if it.place.line == first]
+    if len({it.place for _, it in there}) > 1:
+        texts = [f"`break {at}` ({it.written})" for at, it in there]
         raise Unable(f"line {first} has {len(there)} instructions: {', '.join(texts)}")
-    for name, number, written in there:
-        shell.say(f"{source.path}:{first}  {name} {number} {written}")
-    return [[name, str(number)] for name, number, _ in there]
+    for at, it in there:
+        shell.say(f"{source.path}:{first}  {at} {it.written}")
+    return [at.split() for at, _ in there]
 
 
 def delete(shell: "Shell", words: Sequence[str]) -> None:

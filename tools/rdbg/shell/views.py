@@ -1,12 +1,17 @@
-"""What there is, as tables and sentences: `info`, `where`, `list`, `print`."""
+"""What there is, as tables and sentences: `info`, `where`, `list`, `print`; and `display`, by which
+something is printed again behind each line that has moved the target."""
 import re
 from typing import TYPE_CHECKING, Callable, Dict, Iterator, List, Optional, Sequence
 
 from rdbg import commands, kinds, replies
 from rdbg.application import Instruction
 from rdbg.driving.target import Unable
+from rdbg.failure import turned
+from rdbg.goals import computed
+from rdbg.goals.reading import NoGoal
 from rdbg.looks import Key, Object, hexadecimal, holding, time_of
 from rdbg.operands import to_text
+from rdbg.replies import Refused
 from rdbg.wording import nearest
 
 if TYPE_CHECKING:
@@ -15,6 +20,7 @@ if TYPE_CHECKING:
 # So many characters of a column are shown at the least.
 LEAST = 8
 REGISTERS = tuple(f"r{number}" for number in range(8))
+FIELDS = ("data", "pc", "phase", "notes")
 # What sets a register in C, and in gdb's `print`.
 SETTING = re.compile(r"\$?(?:(\w+)\.)?r([0-7])\s*(?:\w+\s*)?=\s*(\w+)")
 
@@ -39,10 +45,11 @@ def fitted(cells: Sequence[Sequence[str]], width: Optional[int], long: Sequence[
         if widths[widest] <= LEAST:
             break
         widths[widest] -= 1
-    pairs = [list(zip(row, widths)) for row in rows]
-    return table(
-        [[it if len(it) <= most else f"{it[: most - 2]}.." for it, most in row] for row in pairs]
-    )
+
+    def fits(it: str, most: int) -> str:
+        return it if len(it) <= most else f"{it[: most - 2]}.."
+
+    return table([list(map(fits, row, widths)) for row in rows])
 
 
 def script_of(shell: "Shell", name: str) -> Sequence[Instruction]:
@@ -59,18 +66,21 @@ def check_instruction(shell: "Shell", name: str, number: int) -> None:
         raise Unable(f"there is no instruction {number}: {name} has {has}")
 
 
-def written(shell: "Shell", name: str, pc: int) -> str:
-    """An instruction as it is written; empty where it isn't known."""
-    script = script_of(shell, name)
-    return script[pc].told if pc < len(script) else ""
+def written(shell: "Shell", task: replies.Task) -> str:
+    """The next instruction of a task as it is written; empty where it isn't known."""
+    return "".join(it.told for it in script_of(shell, task.name)[task.pc : task.pc + 1])
 
 
-def place_in_file(shell: "Shell", name: str, pc: int) -> str:
-    """The file and the line of an instruction; empty where it isn't known."""
-    script = script_of(shell, name)
-    if shell.source is None or pc >= len(script):
-        return ""
-    return f"{shell.source.path}:{script[pc].place.line}"
+def next_of(shell: "Shell", task: replies.Task) -> str:
+    """The next instruction of a task, with its number."""
+    return f"{task.pc} {written(shell, task)}".rstrip()
+
+
+def place_in_file(shell: "Shell", task: replies.Task) -> str:
+    """The file and the line of the next instruction of a task; empty where it isn't known."""
+    path = shell.source.path if shell.source else ""
+    found = script_of(shell, task.name)[task.pc : task.pc + 1] if path else ()
+    return "".join(f"{path}:{it.place.line}" for it in found)
 
 
 def phase_text(task: replies.Task) -> str:
@@ -92,11 +102,6 @@ def seat(task: replies.Task) -> str:
     return "ready" if task.phase.word in ("run", "again", "given") else "-"
 
 
-def registers(task: replies.Task) -> str:
-    """The registers that aren't 0."""
-    return ",".join(f"{it}={value}" for it, value in zip(REGISTERS, task.registers) if value) or "-"
-
-
 def notes(task: replies.Task) -> str:
     """The notification entries that aren't as at boot."""
     texts = (f"{at}={it.value}:{it.state}" for at, it in enumerate(task.notes))
@@ -107,8 +112,9 @@ def tasks(shell: "Shell") -> None:
     """All tasks, as a table."""
     rows = [["task", "core", "phase", "pc", "instruction", "registers", "data", "notes"]]
     for name, it in shell.look().tasks.items():
-        here = [name, seat(it), it.phase.text, str(it.pc), written(shell, name, it.pc) or "-"]
-        rows.append([*here, registers(it), hexadecimal(it.data), notes(it)])
+        here = [name, seat(it), it.phase.text, str(it.pc), written(shell, it) or "-"]
+        there = [f"{name}={value}" for name, value in zip(REGISTERS, it.registers) if value]
+        rows.append([*here, ",".join(there) or "-", hexadecimal(it.data), notes(it)])
     if shell.target.application is None:
         rows = [[*row[:4], *row[5:]] for row in rows]
     long = [rows[0].index(name) for name in LONG if name in rows[0]]
@@ -134,7 +140,7 @@ def contents(it: Object) -> str:
     if isinstance(it, replies.Stream):
         return hexadecimal(it.content)
     if isinstance(it, replies.Messages):
-        return ",".join(hexadecimal(message) for message in it.messages) or "-"
+        return ",".join(map(hexadecimal, it.messages)) or "-"
     return f"0x{it.bits:06x}"
 
 
@@ -148,12 +154,10 @@ def waiters(it: Object) -> str:
     elif isinstance(it, (replies.Stream, replies.Messages)):
         named = {"read": [it.reader], "write": [it.writer]}
     else:
-        which = {True: "all", False: "any"}
-        wishes = [f"{wish.task}:{wish.bits}:{which[wish.wants_all]}" for wish in it.waiters]
-        named = {"bits": wishes}
-    there = {word: present(names) for word, names in named.items()}
-    found = [f"{word}: {','.join(names)}" for word, names in there.items() if names]
-    return "; ".join(found) or "nobody"
+        wishes = ((f"{wish.task}:{wish.bits}", wish.wants_all) for wish in it.waiters)
+        named = {"bits": [f"{wish}:{'all' if is_all else 'any'}" for wish, is_all in wishes]}
+    there = ((word, ",".join(present(names))) for word, names in named.items())
+    return "; ".join(f"{word}: {names}" for word, names in there if names) or "nobody"
 
 
 def present(names: Sequence[Optional[str]]) -> List[str]:
@@ -178,13 +182,12 @@ def task(shell: "Shell", name: str) -> List[str]:
     application = shell.target.application
     known = application.task(name) if application else None
     rank = f", priority {known.priority}" if known else ""
-    where = f"on core {it.core}" if it.core is not None else "on no core"
-    where = "ready" if seat(it) == "ready" else where
+    where = {"-": "on no core", "ready": "ready"}.get(seat(it), f"on core {it.core}")
     values = " ".join(f"{register}={value}" for register, value in zip(REGISTERS, it.registers))
     entries = " ".join(f"{at}={note.value}:{note.state}" for at, note in enumerate(it.notes))
     return [
         f"task {name}{rank}, {where}, {phase_text(it)}",
-        f"pc {it.pc}  {written(shell, name, it.pc)}  {place_in_file(shell, name, it.pc)}",
+        f"pc {it.pc}  {written(shell, it)}  {place_in_file(shell, it)}",
         f"{values}  data {hexadecimal(it.data)}",
         f"notes {entries}",
     ]
@@ -195,13 +198,11 @@ def where(shell: "Shell", words: Sequence[str]) -> None:
     look = shell.look()
     rows = []
     for core, name in enumerate(look.cores.running):
-        row = [f"core {core}", name or "idle", "", "", ""]
-        if name in look.tasks:
-            it = look.tasks[str(name)]
+        it, more = look.tasks.get(name or ""), ["", "", ""]
+        if it is not None:
             phase = "" if it.phase.word == "run" else f"({it.phase.text})"
-            text = f"{it.pc} {written(shell, it.name, it.pc)}".rstrip()
-            row[2:] = [text, phase, place_in_file(shell, it.name, it.pc)]
-        rows.append(row)
+            more = [next_of(shell, it), phase, place_in_file(shell, it)]
+        rows.append([f"core {core}", name or "idle", *more])
     ready = ",".join(look.cores.ready) or "-"
     shell.say("\n".join(fitted(rows, shell.width(), (2, 4, 3))))
     shell.say(f"ready {ready}  tick {look.cores.tick}  turn {look.cores.turn}  at {look.place}")
@@ -225,8 +226,7 @@ def listing(shell: "Shell", words: Sequence[str]) -> None:
 
 
 def listed(script: Sequence[Instruction], pc: int, has_lines: bool) -> Iterator[List[str]]:
-    """The rows of a script, one for each line, which may be several instructions; that of the next
-    instruction is marked."""
+    """The rows of a script, one for each line; that of the next instruction is marked."""
     for number, it in enumerate(script):
         if not it.begins:
             continue
@@ -240,56 +240,44 @@ def listed(script: Sequence[Instruction], pc: int, has_lines: bool) -> Iterator[
 
 def check_name(shell: "Shell", name: str, kind: str = "") -> str:
     """The kind of the thing of this name. Raises `Unable` where there is none (of `kind`)."""
+    known = [kind] if kind else list(kinds.OF_WORD)
     if shell.target.application is None and commands.is_name(name):
         # (rdbg may know of more than has been told)
-        asked = [kind] if kind else list(kinds.OF_WORD)
-        shell.target.tell_all([f"show {each} {name}" for each in asked])
+        shell.target.tell_all([f"show {each} {name}" for each in known])
     there = shell.target.names.kinds_of(name)
     if kind in there or (there and not kind):
         return kind or there[0]
-    known = [kind] if kind else list(kinds.OF_WORD)
     near = nearest(name, [it for each in known for it in shell.target.names.of_kind(each)])
-    what = kind or "task or object"
-    if there:
-        raise Unable(f"there is no {what} '{name}': it is a {there[0]}")
-    raise Unable(f"there is no {what} '{name}'" + (f"; near it is '{near}'" if near else ""))
+    hint = f"; near it is '{near}'" if near else ""
+    hint = f": it is a {there[0]}" if there else hint
+    raise Unable(f"there is no {kind or 'task or object'} '{name}'{hint}")
 
 
 def values(shell: "Shell", words: Sequence[str]) -> List[str]:
-    """A register, the data, the pc, the phase or the notes of a task, or of those on the cores; or
-    what an object has."""
+    """Parts of a task, or of those on the cores; or what an object has."""
     given = SETTING.fullmatch(" ".join(words))
     if given:
         edit = f"poke reg {given[1] or 'worker'} {given[2]} {given[3]}"
         raise Unable(f"`print` shows alone; `{edit}`")
     parts = [part for word in words for part in word.lstrip("$").split(".") if part]
-    wrong = next((part for part in parts if re.fullmatch("r[0-9]+", part)), None)
-    if wrong is not None and wrong not in REGISTERS:
-        raise Unable(f"there is no {wrong}: registers are r0 to r7")
-    wanted = [part for part in parts if part in FIELDS or part in REGISTERS]
+    register = next((part for part in parts if re.fullmatch("r[0-9]+", part)), None)
+    if register not in (None, *REGISTERS):
+        raise Unable(f"there is no {register}: registers are r0 to r7")
+    wanted = [part for part in parts if part in (*FIELDS, *REGISTERS)]
     names = [part for part in parts if part not in wanted]
     look = shell.look()
-    if not wanted and names:
-        return [line for name in names for line in about(shell, name)]
-    if not wanted:
+    if not parts:
         raise Unable("print what? `print r0 worker`, `print data`, `print jobs`")
+    if not wanted:
+        return [line for name in names for line in about(shell, name)]
     found = []
     for name in names or present(look.cores.running):
         check_name(shell, name, "task")
-        texts = [f"{part} = {field(look.tasks[name], part)}" for part in wanted]
-        found.append(f"{name}: {', '.join(texts)}")
+        it = look.tasks[name]
+        fields = (hexadecimal(it.data), it.pc, phase_text(it), notes(it), *it.registers)
+        texts = dict(zip((*FIELDS, *REGISTERS), fields))
+        found.append(f"{name}: {', '.join(f'{part} = {texts[part]}' for part in wanted)}")
     return found
-
-
-FIELDS = ("data", "pc", "phase", "notes")
-
-
-def field(it: replies.Task, part: str) -> str:
-    """A part of a task in words."""
-    if part in REGISTERS:
-        return str(it.registers[int(part[1:])])
-    texts = {"data": hexadecimal(it.data), "pc": str(it.pc), "phase": phase_text(it)}
-    return texts[part] if part in texts else notes(it)
 
 
 def show(shell: "Shell", words: Sequence[str]) -> None:
@@ -306,9 +294,65 @@ def about(shell: "Shell", name: str, only: str = "") -> List[str]:
         if kind == "task":
             lines += task(shell, name)
         else:
-            found = object_text((kind, name), shell.look().objects[(kind, name)])
-            lines.append(f"{found[0]}  {found[1]}  {found[2]}  waits: {found[3]}")
+            *found, waiting = object_text((kind, name), shell.look().objects[(kind, name)])
+            lines.append("  ".join([*found, f"waits: {waiting}"]))
     return lines
+
+
+def texts(shell: "Shell", words: Sequence[str]) -> List[str]:
+    """What parts of tasks, names or an expression say, as lines."""
+    text, scope, names = " ".join(words), shell.scope(), shell.target.names
+    known = (*FIELDS, *REGISTERS, *names.tasks, *(name for _, name in names.objects))
+    parts = [part for word in words for part in word.lstrip("$").split(".")]
+    is_plain = all(part in known for part in parts) or SETTING.fullmatch(text) is not None
+    if is_plain or not computed.is_meant(text, scope):
+        return values(shell, words)
+    with turned(Unable, NoGoal, computed.Undefined):
+        found = computed.expression(text, scope)
+        target = shell.target
+        look = shell.look() if target.is_own else target.look(found.names(target.names))
+        value = found.said(look)
+    return [f"{text}: {value}" if value in computed.TRUTHS else f"{text} = {value}"]
+
+
+def tell(shell: "Shell", words: Sequence[str]) -> None:
+    """`print`."""
+    shell.say("\n".join(texts(shell, words)))
+
+
+def display(shell: "Shell", words: Sequence[str]) -> None:
+    """`display EXPR`, or all that are there."""
+    if words:
+        texts(shell, words)  # (which says what is wrong)
+        shell.displays[max(shell.displays, default=0) + 1] = " ".join(words)
+    elif not shell.displays:
+        raise Unable("nothing is displayed; `display count jobs` does from here on")
+    displayed(shell, max(shell.displays) if words else 0)
+
+
+def undisplay(shell: "Shell", words: Sequence[str]) -> None:
+    """`undisplay N ..`, or all."""
+    numbers = [int(word) for word in words if commands.is_number(word)]
+    if len(numbers) < len(words) or not {*numbers} <= {*shell.displays}:
+        there = ", ".join(map(str, shell.displays)) or "none"
+        raise Unable(f"undisplay which? There are: {there}; without a number all are dropped")
+    for number in numbers or list(shell.displays):
+        shell.displays.pop(number, None)
+
+
+def displayed(shell: "Shell", only: int = 0) -> None:
+    """Says what is displayed, or one of it."""
+    shown = {only: shell.displays[only]} if only else shell.displays
+    for number, text in shown.items():
+        try:
+            shell.target.afford(len(shell.target.names.lines()))
+            lines = texts(shell, text.split())
+        except Unable as unable:
+            lines = [f"{text}: {unable}"]
+        except Refused as refused:
+            lines = [f"{text}: no {refused}"]
+        for line in lines:
+            shell.say(f"{number}: {line}")
 
 
 def watches(shell: "Shell") -> None:
@@ -338,8 +382,7 @@ def info(shell: "Shell", words: Sequence[str]) -> None:
         TABLES[word](shell)
     elif word == "registers":
         shell.say("\n".join(values(shell, [*REGISTERS, *words[1:]])))
-    elif word == "line":
-        where(shell, [])
+
     elif kind and len(words) == 2:
         shell.say("\n".join(about(shell, words[1], kind)))
     elif kind:
@@ -354,7 +397,7 @@ TABLES: Dict[str, Callable[["Shell"], None]] = {
     **dict.fromkeys(("tasks", "threads"), tasks),
     **dict.fromkeys(("objects", kinds.QUEUE.key), objects),
     **dict.fromkeys(("watches", "break", "breakpoints", "watchpoints"), watches),
-    "cores": lambda shell: where(shell, []),
+    **dict.fromkeys(("cores", "line"), lambda shell: where(shell, [])),
     "history": history,
 }
 INFO_WORDS = ("tasks", "objects", "watches", "history", "registers")

@@ -1,23 +1,22 @@
 """The words of sh's own: one table, for what they do, for help and for Tab."""
-import dataclasses
+
 import functools
-from typing import TYPE_CHECKING, Callable, Container, Dict, List, Optional, Sequence, Tuple
+from typing import TYPE_CHECKING, Callable, Dict, NamedTuple, Optional, Sequence, Tuple
 
 from rdbg import commands
-from rdbg.goals.scope import Scope
-from rdbg.looks import Names
+from rdbg.driving.target import Unable
 from rdbg.reaching import asking
-from rdbg.shell import basics, displays, paces, reach, replay, seek, sourcing, steps, views
+from rdbg.shell import glossary, paces, reach, replay, seek, sourcing, steps, views
 from rdbg.wording import rows
 
 if TYPE_CHECKING:
     from rdbg.shell.shell import Shell
 
+SETTINGS = ("moves", "echo")
 Do = Callable[["Shell", Sequence[str]], None]
 
 
-@dataclasses.dataclass(frozen=True)
-class Word:
+class Word(NamedTuple):
     """A word of sh's own: its form, what it does, the words that are short for it, and what can
     stand behind it, for Tab (symbols as in rdbg's forms, `|` between words)."""
 
@@ -44,7 +43,6 @@ GOALS = (
     "`(22 lines asked)`: so many lines of rdbg's it took to find the place.\n"
     "A run goes one order of many: one that doesn't meet a goal says nothing of the others."
 )
-
 SAVE = (
     "`./rdbg run --app FILE < found.commands` comes to this place and state; a new program\n"
     "tries it at once. A file that is there and wasn't saved by this prompt stays: `save! FILE`\n"
@@ -64,7 +62,6 @@ RELOAD = (
     "makes that one. Watches are kept. Where the file is wrong, or after Ctrl-C, the target\n"
     "stays as it is."
 )
-
 QUESTION = (
     "GOAL is one of places, as of `until`; without one it is the goal before, of until, rc or\n"
     "such a question.\n"
@@ -76,7 +73,6 @@ AGAIN = (
     "`reach`, `lost` or `doomed` asked last is asked again, from the same place, or from boot\n"
     "where the moves up to it aren't the same any more."
 )
-
 EXPRESSIONS = (
     "EXPR is a part of a task (r0 to r7, pc, data, phase, notes), by itself of the tasks on the\n"
     "cores; a name; a goal, which holds or fails; or is computed: amounts as in conditions\n"
@@ -89,7 +85,6 @@ SOURCE = (
     ".rdbginit of your home and that of the application's folder are done so, where they are\n"
     "yours; they write no file. `--nx` leaves them out."
 )
-
 SAVE_ANEW = functools.partial(replay.save, is_anew=True)
 
 
@@ -98,6 +93,25 @@ def word(run: Do, row: str, more: str = "") -> Word:
     form, does, *cells = rows(row)[0]
     short, behind = (tuple(cell.split()) for cell in (*cells, "", "")[:2])
     return Word(form, does, run, short, behind, more)
+
+
+def leave(shell: "Shell", words: Sequence[str]) -> None:
+    """`quit`."""
+    shell.is_done = True
+
+
+def put(shell: "Shell", words: Sequence[str]) -> None:
+    """`set moves|echo on|off`."""
+    on_off = ("off", "on")
+    if not words:
+        shell.say(f"moves {on_off[shell.shows_moves]}, echo {on_off[shell.shows_lines]}")
+    elif len(words) != 2 or words[0] not in SETTINGS or words[1] not in on_off:
+        echo = "`set echo on|off` shows each line"
+        raise Unable(f"`set moves on|off` says what each move did, {echo}")
+    elif words[0] == "moves":
+        shell.shows_moves = words[1] == "on"
+    else:
+        shell.shows_lines = words[1] == "on"
 
 
 WORDS: Tuple[Word, ...] = (
@@ -109,17 +123,17 @@ WORDS: Tuple[Word, ...] = (
     ),
     word(views.listing, "list [TASK] | a script, its place marked | l | K"),
     word(
-        displays.put,
+        views.tell,
         "print EXPR | r0 worker, worker.pc, jobs, count jobs + 1, or a goal"
         " | p output inspect | PART K",
         EXPRESSIONS,
     ),
     word(
-        displays.display,
+        views.display,
         "display [EXPR] | prints it now, and behind each line that moves the target | | PART K",
         EXPRESSIONS,
     ),
-    word(displays.undisplay, "undisplay [N ..] | displays it no more; without N all"),
+    word(views.undisplay, "undisplay [N ..] | displays it no more; without N all"),
     word(steps.step, "step TASK [COUNT] | an instruction of a task, on whichever core | | K"),
     word(steps.tick, "tick COUNT | so many ticks"),
     word(
@@ -146,7 +160,7 @@ WORDS: Tuple[Word, ...] = (
         "rc [GOAL] | back to where it is so, or a watch became so | reverse-continue | GOAL!",
         GOALS,
     ),
-    word(seek.back_becomes, "rc! GOAL | back to where it became so | | GOAL!", GOALS),
+    word(seek.back_to, "rc! GOAL | back to where it became so | | GOAL!", GOALS),
     word(
         seek.carry_on,
         "continue [COUNT] | runs to a watch, a task that fails, or where nothing goes on | c cont",
@@ -170,50 +184,34 @@ WORDS: Tuple[Word, ...] = (
     word(reach.play, "play | the moves of the order that was answered last"),
     word(reach.again, "again | reload, and what was asked last", AGAIN),
     word(
-        basics.put,
+        put,
         "set moves|echo on|off | say what moves did; show lines to rdbg | | moves|echo on|off",
     ),
-    word(basics.help_on, "help [WORD] | this, or more on a word | h ? | HELP"),
-    word(basics.leave, "quit | ends, as Ctrl-D does | q exit"),
+    word(glossary.help_on, "help [WORD] | this, or more on a word | h ? | HELP"),
+    word(leave, "quit | ends, as Ctrl-D does | q exit"),
 )
 BACK = Word("back until GOAL", "as rc", seek.back_until)
 SHOW = Word("show NAME", "what rdbg shows of it", views.show)
-BY_NAME: Dict[str, Word] = {}
-for _word in WORDS:
-    for _name in (_word.name, *_word.short):
-        BY_NAME.setdefault(_name, _word)
+# By each word that stands first in a line of sh's own.
+BY_NAME: Dict[str, Word] = {name: it for it in WORDS for name in (it.name, *it.short)}
 
 
-def names() -> List[str]:
-    """All words that stand first in a line of sh's own."""
-    return list(BY_NAME)
-
-
-def find(
-    words: Sequence[str],
-    known: Container[str] = (),
-    scope: Callable[[], Scope] = lambda: Scope(Names()),
-    interrupts: Container[str] = (),
-) -> Optional[Word]:
-    """The word of sh's own that a line begins with, where it isn't one of rdbg's lines; the words
-    `step`, `until`, `back`, `show` and `isr` are rdbg's too. `known` are the names that there are,
-    `scope` says what goals can name, and `interrupts` are the names of interrupts."""
-    first, second = words[0], words[1] if len(words) > 1 else ""
-    if first == "show":
-        return SHOW if len(words) == 2 and second in known else None
-    if first == "step":
-        has_count = len(words) == 3 and commands.is_number(second) and commands.is_count(words[2])
-        return BY_NAME["step"] if commands.is_name(second) or has_count else None
-    if first == "isr":
-        return BY_NAME["isr"] if len(words) == 2 and second in interrupts else None
-    if first == "tick":
-        return BY_NAME["tick"] if second else None
-    if first == "until":
-        is_goal = seek.is_rdbgs(words[1:]) or seek.is_goal(words[1:], scope())
-        return BY_NAME["until"] if is_goal else None
-    if first == "back":
-        is_own = second == "until" and seek.is_goal(words[2:], scope())
-        return BACK if is_own or second == "until!" else None
-    if first == "set" and second not in basics.SETTINGS:
-        return None if len(words) > 1 else BY_NAME["set"]
-    return BY_NAME.get(first)
+def find(shell: "Shell", words: Sequence[str]) -> Optional[Word]:
+    """The word of sh's own that a line begins with, where it isn't one of rdbg's lines; some words
+    are rdbg's too."""
+    first, second = words[0], "".join(words[1:2])
+    names, application = shell.target.names, shell.target.application
+    has_count = len(words) == 3 and commands.is_number(second) and commands.is_count(words[2])
+    is_own: Dict[str, Callable[[], bool]] = {
+        "show": lambda: len(words) == 2 and names.kinds_of(second) != [],
+        "step": lambda: commands.is_name(second) or has_count,
+        "isr": lambda: len(words) == 2 and bool(application and application.interrupt(second)),
+        "tick": lambda: second != "",
+        "until": lambda: seek.is_rdbgs(words[1:]) or seek.is_goal(words[1:], shell.scope()),
+        "back": lambda: second == "until!"
+        or (second == "until" and seek.is_goal(words[2:], shell.scope())),
+        "set": lambda: len(words) == 1 or second in SETTINGS,
+    }
+    if first in is_own and not is_own[first]():
+        return None
+    return {**BY_NAME, "show": SHOW, "back": BACK}.get(first)
