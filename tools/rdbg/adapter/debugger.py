@@ -157,11 +157,9 @@ class Debugger:
         drift, target.drift = target.drift, None
         if drift is not None:
             self._seen = None
-        if self.own_name is not None:
-            return  # (what moved it was told)
-        if drift is not None and drift[0] != drift[1]:
-            self._seen = None
-            self.say(f"others have moved the target: {drift[0]} -> {drift[1]}")
+            # (in a room, what moved it was told)
+            if self.own_name is None and drift[0] != drift[1]:
+                self.say(f"others have moved the target: {drift[0]} -> {drift[1]}")
 
     def look(self) -> Look:
         """What there is, looked at once as long as nothing moves."""
@@ -195,7 +193,7 @@ class Debugger:
         source = self.text.value()
         if spot is not None and source is not None:
             place = self.text.place(spot)
-            body.update({"source": source, "line": place["line"], "column": place["column"]})
+            body.update(source=source, line=place["line"], column=place["column"])
         self.send(event("output", body))
 
     @contextlib.contextmanager
@@ -225,10 +223,6 @@ class Debugger:
             if condition is not None:
                 found.append(self._watches.setdefault(key, Becomes(condition, key)))
         return found
-
-    def of(self, stop: Stop) -> Optional[Breakpoint]:
-        """The breakpoint that a stop belongs to."""
-        return next((it for it in self.breakpoints.all() if stop in it.stops), None)
 
     def runner(self, stops: Callable[[], List[Stop]]) -> Runner:
         """What runs to some stops."""
@@ -295,13 +289,11 @@ class Debugger:
                 self.say(move.row(len(str(here))), move)
                 self._last = move
 
-    def mover(self, default: Optional[int] = None) -> int:
-        """The thread that made the last move; another where no task did."""
-        known = self._last if self._last and self._last.place == self.shell.target.place else None
-        moves = (known,) if known else self.last_moves(1)
-        if moves and moves[0].task:
-            return self.threads.number(moves[0].task)
-        return self.focus if default is None else default
+    def mover(self) -> int:
+        """The thread that made the last move; the one that stopped last where no task did."""
+        is_known = self._last is not None and self._last.place == self.shell.target.place
+        last = self._last if is_known else next(iter(self.last_moves(1)), None)
+        return self.threads.number(last.task) if last and last.task else self.focus
 
     def stopped(
         self, reason: str, description: str, thread: int, hit: Sequence[Breakpoint] = ()
@@ -309,7 +301,7 @@ class Debugger:
         """Tells the editor that the target stands, and why."""
         self.focus = thread
         body: Values = {"reason": reason, "description": description, "threadId": thread}
-        body.update({"text": description, "allThreadsStopped": True, "preserveFocusHint": False})
+        body.update(text=description, allThreadsStopped=True, preserveFocusHint=False)
         if hit:
             body["hitBreakpointIds"] = [it.number for it in hit]
         self.waiting.append(event("stopped", body))
@@ -323,8 +315,7 @@ class Debugger:
 
     def went(self) -> None:
         """Tells the editor that the target went on, so that it follows to where it stops."""
-        body: Values = {"threadId": self.focus, "allThreadsContinued": True}
-        self.send(event("continued", body))
+        self.send(event("continued", {"threadId": self.focus, "allThreadsContinued": True}))
 
     def restarted(self, where: str) -> None:
         """Says what has become of the breakpoints in the file as it is now, and stops."""
@@ -402,7 +393,7 @@ class Debugger:
             "paused": "paused",
         }
         reason = "entry" if outcome.how == "start" else "pause"
-        self.stopped(reason, f"at {here}: {texts[outcome.how]}", self.mover(self.focus))
+        self.stopped(reason, f"at {here}: {texts[outcome.how]}", self.mover())
 
     def _ending(self) -> str:
         """Why nothing goes on, where that is so, and the goal that this is."""

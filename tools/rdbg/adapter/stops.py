@@ -3,18 +3,18 @@
 `next` and `last` say the place of the very move. They may leave the target anywhere that a run from
 where they began came through, or behind it."""
 import dataclasses
-from typing import Any, Callable, Hashable, List, Optional, Sequence, Tuple
+from typing import Any, Hashable, List, Optional, Sequence, Tuple
 
 from rdbg import kinds
 from rdbg.adapter.known import Facts
 from rdbg.adapter.messages import Wrong
-from rdbg.adapter.sweeps import Backwards, Onwards
+from rdbg.adapter.sweeps import Backwards, Counts, Onwards
 from rdbg.application import Application
 from rdbg.driving.target import Target, read
 from rdbg.driving.walk import Walk
 from rdbg.goals.changes import HIDING, Changes
 from rdbg.goals.claims import Goal, Holds
-from rdbg.goals.conditions import AMOUNTS, Condition
+from rdbg.goals.conditions import Condition
 from rdbg.goals.ways import Search, To, is_so, latest, nearest, otherwise
 from rdbg.looks import Key, Look, content_of
 
@@ -27,8 +27,6 @@ TURNS = 8
 PUTTING = ("send", "front", "over")
 # So many hits are counted at the most.
 MOST_HITS = 100_000
-# Whether so many places where a stop is met are enough.
-Enough = Callable[[int], bool]
 
 
 class Stop:
@@ -78,9 +76,9 @@ class Stop:
         """Whether the move to this place has met it. Stays where it is."""
         return bool(met_here(walk, [self]))
 
-    def all_next(self, walk: Walk, limit: int, is_enough: Enough) -> Tuple[List[int], int]:
-        """All places behind this one, at most so many moves on, where it is met, up to where they
-        are enough; and up to where they are all."""
+    def all_next(self, walk: Walk, limit: int, counts: Counts) -> Tuple[List[int], int]:
+        """All places behind this one, at most so many moves on, where it is met, up to one that
+        counts, or a little further; and up to where they are all."""
         end, found = walk.place + limit, []  # type: int, List[int]
         while walk.place < end:
             walk.interrupt.check()
@@ -89,7 +87,7 @@ class Stop:
                 return found, walk.place if walk.wall else end
             found.append(place)
             walk.reach(place)
-            if is_enough(len(found)):
+            if counts(len(found)):
                 break
         return found, walk.place
 
@@ -186,9 +184,9 @@ class Becomes(Reaches):
             return 0 if self.is_at_start and not walk.target.base else None
         return other + 1
 
-    def all_next(self, walk: Walk, limit: int, is_enough: Enough) -> Tuple[List[int], int]:
+    def all_next(self, walk: Walk, limit: int, counts: Counts) -> Tuple[List[int], int]:
         sweep = Onwards(walk, self.condition, limit)
-        sweep.run(is_enough)
+        sweep.run(counts)
         return sweep.found, sweep.place
 
     def all_last(self, walk: Walk, low: int) -> List[int]:
@@ -222,16 +220,13 @@ class Amount(Stop):
         return [self._shape.view]
 
     def seen(self, answers: Sequence[Any]) -> Any:
-        if self._shape.kind == "phase":
-            return answers[0].phase.word
-        return AMOUNTS[self._shape.kind](answers[0], self._shape.index)
+        is_phase = self._shape.kind == "phase"
+        return answers[0].phase.word if is_phase else self._shape.amount(answers[0])
 
     def _others(self, target: Target, earlier: bool) -> List[Condition]:
         """Conditions of which one holds wherever it is otherwise than here."""
-        now = self.look(target)
-        if self._shape.kind == "phase":
-            return dataclasses.replace(self._shape, phase=now).others(earlier)
-        return dataclasses.replace(self._shape, number=now).others(earlier)
+        now = {"phase" if self._shape.kind == "phase" else "number": self.look(target)}
+        return dataclasses.replace(self._shape, **now).others(earlier)
 
     def next(self, walk: Walk, limit: int) -> Optional[int]:
         return nearest(walk, self._others(walk.target, False), limit)
@@ -370,7 +365,7 @@ class Where(Stop):
     """A stop that counts only where a goal holds behind its move."""
 
     def __init__(self, stop: Stop, goal: Goal) -> None:
-        self._stop, self._goal = stop, goal
+        self._stop, self._goal, self._behind = stop, goal, becoming(goal)
         # (what is one condition can be looked for by many lines at a time)
         self._condition = goal.condition if isinstance(goal, Holds) else None
         self._width = 0
@@ -383,26 +378,17 @@ class Where(Stop):
     def views(self, target: Target) -> List[str]:
         views = self._stop.views(target)
         self._width = len(views)
-        if self._condition is not None:
-            return [*views, self._condition.view]
-        return [*views, *self._goal.names(target.names).lines()]
+        return [*views, *self._behind.views(target)]
 
     def seen(self, answers: Sequence[Any]) -> Tuple[Any, bool]:
-        behind = answers[self._width :]
-        if self._condition is not None:
-            holds = self._condition.holds(behind[0])
-        else:
-            holds = self._goal.is_so(Look.of(0, behind))
-        return self._stop.seen(answers[: self._width]), holds
+        width = self._width
+        return self._stop.seen(answers[:width]), self._behind.seen(answers[width:])
 
     def is_met_by(self, before: Tuple[Any, bool], after: Tuple[Any, bool]) -> bool:
         return after[1] and self._stop.is_met_by(before[0], after[0])
 
     def is_met_at_start(self, walk: Walk) -> bool:
-        return self._stop.is_met_at_start(walk) and self._holds(walk)
-
-    def _holds(self, walk: Walk) -> bool:
-        return is_so(walk.target, self._goal)
+        return self._stop.is_met_at_start(walk) and is_so(walk.target, self._goal)
 
     def next(self, walk: Walk, limit: int) -> Optional[int]:
         end, turns = walk.place + limit, 0
@@ -416,7 +402,7 @@ class Where(Stop):
             if place is None:
                 return None
             walk.reach(place)
-            if self._holds(walk):
+            if is_so(walk.target, self._goal):
                 return place
             # (it isn't met before the condition holds again)
             place = Search(walk, self._goal).first(end - place)
@@ -442,7 +428,7 @@ class Where(Stop):
             if place is None:
                 return None
             walk.goto(place)
-            if self._holds(walk):
+            if is_so(walk.target, self._goal):
                 return place
             place = Search(walk, self._goal).last()
             if place is None:
@@ -456,7 +442,7 @@ class Counted(Stop):
     """A stop that counts only at some of the times that it is met, numbered from the start on. What
     is known of it is what is known of the other one, back to the start."""
 
-    def __init__(self, stop: Stop, text: str, counts: Callable[[int], bool]) -> None:
+    def __init__(self, stop: Stop, text: str, counts: Counts) -> None:
         self.stop, self._counts = stop, counts
         self.text = f"{stop.text}, hit {text}"
 
@@ -465,7 +451,17 @@ class Counted(Stop):
         return self.stop
 
     def prepare(self, walk: Walk) -> None:
-        learn_back(walk, self.stop)
+        """Learns where the other one is met from the start up to here."""
+        stop, here, facts = self.stop, walk.place, Facts.of(walk)
+        place = stop.begin(facts, here)
+        try:
+            while place > facts.floor:
+                walk.goto(place)
+                low = facts.met(stop.key).known.before(place, facts.floor)
+                stop.learn(facts, low, place, stop.all_last(walk, low))
+                place = stop.begin(facts, here)
+        finally:
+            walk.goto(here)
 
     def begin(self, facts: Facts, place: int) -> int:
         begin = self.stop.begin(facts, place)
@@ -491,8 +487,7 @@ class Counted(Stop):
         start, facts = walk.place, Facts.of(walk)
         self.prepare(walk)
         hits = self._hits(facts, start)
-        is_enough = Reached(lambda number: self._counts(hits + number))
-        places, end = self.stop.all_next(walk, limit, is_enough)
+        places, end = self.stop.all_next(walk, limit, lambda at: self._counts(hits + at))
         self.stop.learn(facts, start, end, [place for place in places if place <= end])
         return next(iter(self.places(facts, start, end)), None)
 
@@ -502,40 +497,10 @@ class Counted(Stop):
         return next(reversed(self.places(facts, facts.floor, walk.place - 1)), None)
 
 
-class Reached:
-    """Whether one of so many hits counts, when asked for ever more of them."""
-
-    def __init__(self, counts: Callable[[int], bool]) -> None:
-        self._counts, self._asked = counts, 0
-        self._is_so = False
-
-    def __call__(self, count: int) -> bool:
-        numbers = range(self._asked + 1, count + 1)
-        self._is_so = self._is_so or any(self._counts(number) for number in numbers)
-        self._asked = count
-        return self._is_so
-
-
 def not_too_many(stop: Stop, found: Sequence[int]) -> None:
     """Raises `Wrong` where a stop is met too often to be counted."""
     if len(found) > MOST_HITS:
         raise Wrong(f"more than {MOST_HITS} hits of {stop.text} aren't counted")
-
-
-def learn_back(walk: Walk, stop: Stop) -> None:
-    """Learns where a stop is met from the start up to here. Stays where it is."""
-    here, facts = walk.place, Facts.of(walk)
-    place = stop.begin(facts, here)
-    if place <= facts.floor:
-        return
-    try:
-        while place > facts.floor:
-            walk.goto(place)
-            low = facts.met(stop.key).known.before(place, facts.floor)
-            stop.learn(facts, low, place, stop.all_last(walk, low))
-            place = stop.begin(facts, here)
-    finally:
-        walk.goto(here)
 
 
 def met_here(walk: Walk, stops: Sequence[Stop]) -> List[Stop]:

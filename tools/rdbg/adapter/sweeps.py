@@ -12,6 +12,8 @@ from rdbg.replies import Refused
 LEAST, FIRST, MOST = 4, 8, 512
 # A condition holds on where it became so at less than one of so many places.
 HOLDING = 4
+# Whether a place that is found counts, by its number, from 1 on.
+Counts = Callable[[int], bool]
 
 
 class Sweep:
@@ -30,9 +32,11 @@ class Sweep:
         """Whether it has come to its end."""
         raise NotImplementedError
 
-    def run(self, is_enough: Callable[[int], bool]) -> None:
-        """Goes on to its end, or until so many places are enough."""
-        while not self.is_done and not is_enough(len(self.found)):
+    def run(self, counts: Counts) -> None:
+        """Goes on to its end, or until one of the places counts."""
+        seen = 0
+        while not self.is_done and not any(map(counts, range(seen + 1, len(self.found) + 1))):
+            seen = len(self.found)
             self.walk.interrupt.check()
             self.go()
 
