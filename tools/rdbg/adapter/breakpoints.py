@@ -106,7 +106,10 @@ def named(shell: Shell, text: Text, name: str) -> List[Stop]:
     if words[0] in reading.OF_MOVES:
         return [of_move(shell, words)]
     if words[0] == LOST.word and LOST.word not in shell.target.names.tasks:
-        return [Loses(shell, goal_in(shell, lost_goal(shell, words)))]
+        goal = " ".join(words[1:]) or shell.goal
+        if not goal:
+            raise Wrong(shell.in_its_names(LOST.lacks_goal("worker")))
+        return [Loses(shell, goal_in(shell, goal))]
     if words[0] in shell.target.names.tasks and len(words) <= 2:
         number = words[1] if words[1:] else "0"
         spot = text.of(words[0], int(number)) if commands.is_number(number) else None
@@ -115,14 +118,6 @@ def named(shell: Shell, text: Text, name: str) -> List[Stop]:
         return [arrival(spot)]
     calls = [spot for spot in text.spots if is_call(spot, words)]
     return [arrival(spot) for spot in calls] or [becoming(goal_in(shell, name))]
-
-
-def lost_goal(shell: Shell, words: Sequence[str]) -> str:
-    """The goal behind `lost`, or the one before. Raises `Wrong` where there is none."""
-    text = " ".join(words[1:]) or shell.goal
-    if not text:
-        raise Wrong(shell.in_its_names(LOST.lacks_goal("worker")))
-    return text
 
 
 def is_call(spot: Spot, words: Sequence[str]) -> bool:

@@ -2,7 +2,7 @@
 moved, and what the editor is told of it."""
 import contextlib
 import time
-from typing import Any, Callable, Dict, Iterator, List, Optional, Sequence, Tuple
+from typing import Callable, Dict, Iterator, List, Optional, Sequence, Tuple
 
 from rdbg import record, replies
 from rdbg.adapter.breakpoints import Breakpoint, Breakpoints, wrong_line
@@ -125,8 +125,7 @@ class Debugger:
     @property
     def own_name(self) -> Optional[str]:
         """The name by which a room knows this session; none where it is at no room."""
-        session: Any = self._shell.target.session if self._shell else None
-        return getattr(session, "name", None)
+        return self._shell.target.session.name if self._shell else None
 
     def standing(self) -> None:
         """Raises `Wrong` while the target runs, or before there is one."""

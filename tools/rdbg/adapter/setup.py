@@ -60,14 +60,13 @@ def check_start(it: Debugger, given: Arguments) -> None:
     opening.count(given, "limit", LIMIT)
 
 
-def launch(it: Debugger, given: Arguments) -> Optional[Values]:
+def launch(it: Debugger, given: Arguments) -> None:
     """`launch`: a program of its own."""
     check_start(it, given)
-    started(it, given, opening.launch(given, it.pause, lambda text: it.say(text)))
-    return None
+    started(it, given, opening.launch(given, it.pause, it.say))
 
 
-def attach(it: Debugger, given: Arguments) -> Optional[Values]:
+def attach(it: Debugger, given: Arguments) -> None:
     """`attach`: one more session at a port."""
     check_start(it, given)
     shell = opening.attach(given, it.pause, it.hear)
@@ -77,10 +76,9 @@ def attach(it: Debugger, given: Arguments) -> Optional[Values]:
     started(it, given, shell)
     it.hearing = Hearing(it.shell.target.session, it.came)
     it.hearing.begin()
-    return None
 
 
-def configured(it: Debugger, given: Arguments) -> Optional[Values]:
+def configured(it: Debugger, given: Arguments) -> None:
     """`configurationDone`: the target stands at the start, or runs."""
     place = it.shell.target.places().done
     it.is_configured = True
@@ -92,10 +90,9 @@ def configured(it: Debugger, given: Arguments) -> Optional[Values]:
         it.later.append(lambda: it.stopped("entry", START, it.focus))
     else:
         begin_run(it, Going(lambda runner: runner.begin(it.limit), it.stops))
-    return None
 
 
-def restart(it: Debugger, given: Arguments) -> Optional[Values]:
+def restart(it: Debugger, given: Arguments) -> None:
     """`restart`: a new program on the file as it is. A target of others isn't moved."""
     if it.is_attached:
         raise Wrong(AT_A_PORT)
@@ -103,31 +100,28 @@ def restart(it: Debugger, given: Arguments) -> Optional[Values]:
     arguments.not_null("program", str)
     chosen = arguments if arguments.has("program") else it.given
     watches = sorted(it.shell.target.watches.items())
-    shell = opening.launch(chosen, it.pause, lambda text: it.say(text))
+    shell = opening.launch(chosen, it.pause, it.say)
     it.failure = ""
     it.close()
     it.take(shell)
     it.given = chosen
     it.shell.target.tell_all([f"watch {text}" for _, text in watches])
     it.later.append(lambda: it.restarted(START))
-    return None
 
 
-def terminate(it: Debugger, given: Arguments) -> Optional[Values]:
+def terminate(it: Debugger, given: Arguments) -> None:
     """`terminate`: the end of the program; a target of others goes on."""
     if it.is_attached:
         raise Wrong(NO_END)
     it.later.append(it.end)
-    return None
 
 
-def disconnect(it: Debugger, given: Arguments) -> Optional[Values]:
+def disconnect(it: Debugger, given: Arguments) -> None:
     """`disconnect`: the end of the session, and of a program of its own."""
     status = it.close()
     if status:
         it.say(f"rdbg has ended, with status {status}", category="stderr")
     it.is_done = True
-    return None
 
 
 SETUP: Dict[str, Request] = {

@@ -84,12 +84,6 @@ class Text:
         except (OSError, ValueError):
             return False
 
-    def content(self) -> str:
-        """The text itself."""
-        if self.source is None:
-            raise Wrong("no text is known")
-        return self.source.text
-
     def place(self, spot: Spot) -> Dict[str, Any]:
         """Where an instruction stands, as the editor counts."""
         down, right = self.first_line - 1, self.first_column - 1
