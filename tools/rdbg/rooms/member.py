@@ -1,10 +1,10 @@
 """Somebody at a room, as connections and pages have it."""
 import collections
 import time
-from typing import TYPE_CHECKING, Callable, Deque, Optional, Sequence
+from typing import TYPE_CHECKING, Callable, Deque, NamedTuple, Optional, Sequence
 
 from rdbg.rooms.doings import Doing
-from rdbg.rooms.heard import Notice
+
 from rdbg.rooms.seats import Refusal, Seat
 
 if TYPE_CHECKING:
@@ -15,6 +15,17 @@ if TYPE_CHECKING:
 Hear = Callable[[str], None]
 # So many remarks of one are answered in a second.
 MOST_TOLD = 20
+
+
+class Notice(NamedTuple):
+    """What all were told, and when, in seconds since 1970."""
+
+    when: float
+    text: str
+
+    def row(self) -> str:
+        """It as a line, with its time in UTC."""
+        return f"{time.strftime('%H:%M:%SZ', time.gmtime(self.when))} {self.text}"
 
 
 class Member:

@@ -1,6 +1,5 @@
 """A room's file read anew: the same moves are made on it, up to the first that does something
 else."""
-import threading
 from typing import TYPE_CHECKING, List, NamedTuple
 
 from rdbg import record
@@ -43,13 +42,8 @@ def made_again(source: Source, lines: List[str]) -> Reloaded:
         shell.target.session.kill()
 
 
-def begin_reload(room: "Room", member: "Member") -> None:
-    """Reads the file anew behind the room's turn, which goes on meanwhile; all are told then."""
-    threading.Thread(target=reload, args=(room, member), daemon=True).start()
-
-
 def reload(room: "Room", member: "Member") -> None:
-    """Reads the file anew, and has the room go on with it."""
+    """Reads the file anew, and has the room go on with it; all are told then."""
     try:
         lines = room.lines()
         room.take(member, lines, made_again(room.app_source, lines))

@@ -1,6 +1,9 @@
 """Several, each by a name, at one program that serves: what each of them asks, and what all are
 told."""
-from typing import Callable, Dict, List, NamedTuple, Optional, Set
+import collections
+import threading
+import time
+from typing import Callable, Deque, Dict, List, NamedTuple, Optional, Set
 
 from rdbg import record
 from rdbg.commands import MOST_BYTES, TARGET, Command
@@ -8,9 +11,9 @@ from rdbg.failure import Failure
 from rdbg.rooms import reloading, remarks
 from rdbg.rooms.counts import Counts
 from rdbg.rooms.doings import Doing
-from rdbg.rooms.heard import Heard
+
 from rdbg.rooms.host import MOST_SESSIONS, Audit, Ended, Host
-from rdbg.rooms.member import Hear, Member
+from rdbg.rooms.member import Hear, Member, Notice
 from rdbg.rooms.program import FULL, HISTORY, SCARCE, Program
 from rdbg.rooms.seats import Refusal, Seat, Seats, check
 from rdbg.rooms.sight import is_single
@@ -25,8 +28,8 @@ __all__ = ["Ended", "Member", "Refusal", "Room"]
 
 TOO_LONG, NO_COMMAND = "no LineTooLong", "no Syntax"
 HELD = "no Held"
-# Of a run the last so many moves are told.
-FEW = 5
+# Of a run the last so many moves are told; so many of the notices to all are kept.
+FEW, MOST_HEARD = 5, 500
 # So many seconds without a line make somebody idle, unless it is said otherwise.
 IDLE = 60
 # It is said when so little of the history is left, one part of so many.
@@ -59,7 +62,9 @@ class Room:
         # Who has said no line for so many seconds is idle.
         self.idle = IDLE
         self._program, self._seats = Program(host, source, limits), Seats(host.numbers())
-        self._talk, self._heard, self.counts = talk, Heard(), Counts()
+        self._talk, self.counts = talk, Counts()
+        # (what all were told last, for who comes late)
+        self._heard: Deque[Notice] = collections.deque(maxlen=MOST_HEARD)
         self._program.when_over = self._is_over
         self._members: Dict[int, Member] = {}
         self._turns = Turns()
@@ -103,7 +108,7 @@ class Room:
             if seat.name and (name is None or seat.name != name):
                 self._hand_over(seat)
             member = Member(self, seat, hear, False)
-            member.before = self._heard.last()
+            member.before = list(self._heard)
             self._seats.sit(seat, called)
             self._members[seat.number] = member
             self._asked.clear()
@@ -295,14 +300,14 @@ class Room:
             away = "" if seat.is_here else " and is away"
             member.hear(f"# {seat.name} has the wheel{away}: '# wheel' asks for it")
 
-    def tell(self, text: str, but: Optional[Member] = None) -> None:
-        """Tells all who are here, but for one."""
-        notice = f"# {shown(text)}"
-        self._heard.keep(shown(text))
+    def tell(self, text: str, but: Optional[Member] = None) -> str:
+        """Tells all who are here, but for one, and answers it."""
+        self._heard.append(Notice(time.time(), shown(text)))
         # (others may come and go meanwhile)
         for member in list(self._members.values()):
             if member is not but:
-                member.hear(notice)
+                member.hear(f"# {shown(text)}")
+        return text
 
     def _keep(self, who: str, line: str, reply: str) -> None:
         """Keeps a row of the talk."""
@@ -377,7 +382,8 @@ class Room:
         if self.is_reloading:
             raise Refusal("the file is read anew already")
         self.is_reloading = True
-        reloading.begin_reload(self, member)
+        # (behind the room's turn, which goes on meanwhile)
+        threading.Thread(target=reloading.reload, args=(self, member), daemon=True).start()
         return "begun"
 
     def take(self, member: Member, was: List[str], new: reloading.Reloaded) -> None:
@@ -439,7 +445,7 @@ class Room:
 
     def tell_talk(self, member: Member, count: int) -> str:
         """Tells somebody the last that all were told."""
-        for it in self._heard.last(count):
+        for it in list(self._heard)[-count:]:
             member.hear(f"# {it.row()}")
         return self.tell_place(member)
 
@@ -468,8 +474,7 @@ class Room:
         elif not seat.is_here:
             self._asked.add(member.session)
             member.hear(f"# {seat.name} is away with it: `# wheel` once more gives it back")
-        self.tell(text)
-        return text
+        return self.tell(text)
 
     def free_wheel(self) -> str:
         """Has the wheel given back by who has it, and is away or idle. Answers what all are told.
@@ -481,8 +486,7 @@ class Room:
                 self._keep("room", "# free", f"no: {refusal}")
                 raise
             self._keep("room", "# free", text)
-            self.tell(text)
-            return text
+            return self.tell(text)
 
     def _freed(self) -> str:
         holder = self._program.holder

@@ -10,7 +10,7 @@ from typing import Any, Callable, Dict, Optional
 
 from rdbg.client import LOCAL
 from rdbg.commands import is_number
-from rdbg.door import Door, turn_away
+from rdbg.door import Door, Unheard, turn_away
 from rdbg.failure import Failure, trying
 from rdbg.rooms import web_document
 from rdbg.rooms import web_guard as guard
@@ -29,10 +29,10 @@ HTML, TEXT, EVENTS = "text/html; charset=utf-8", "text/plain; charset=utf-8", "t
 # Where a page is let in by the key of its address.
 ENTRY = "/in"
 # What a page can say, by the path that is asked, and what it is answered.
-SAID: Dict[str, Callable[[Page, str], Dict[str, str]]] = {
+SAID: Dict[str, Callable[[Page, str], Optional[Dict[str, str]]]] = {
     "line": lambda page, line: {"reply": page.ask(line)},
-    "name": lambda page, name: page.rename(name),
-    "run": lambda page, _: page.begin_anew(),
+    "name": lambda page, name: page.member.rename(name),
+    "run": lambda page, _: page.tell("run", ""),  # (where it isn't shown where the target is)
     "save": lambda page, _: {"reply": page.moves()},
     "watches": lambda page, _: {"reply": page.watches()},
 }
@@ -109,7 +109,7 @@ class Handler(BaseHTTPRequestHandler):
             page = self.server.pages.of(said.get("page", ""))
             if name in MOVES:
                 return self._answer(200, guard.JSON, self._moves(name, said.get(name, "")))
-            found = SAID[name](page, said.get(name, ""))
+            found = SAID[name](page, said.get(name, "")) or {}
         except Refusal as refusal:
             found = {"refused": str(refusal)}
         except Failure as failure:
@@ -192,7 +192,7 @@ class Served(ThreadingMixIn, HTTPServer):
         self.room, self._door = room, door
         # (the one lets a browser in, once; the other one it has for it, and says with each request)
         self.key, self.token = Key(), new()
-        self.unread, self.pages = guard.Unread(), Pages(room)
+        self.unread, self.pages = Unheard(guard.MOST_UNREAD, guard.SECONDS), Pages(room)
         self.page = web_document.page()
         self.of_room = as_json(web_document.of_room(room.app_source))
         room.when_reloaded = self._reload

@@ -8,7 +8,6 @@ from email.message import Message
 from typing import BinaryIO, Dict, List, Optional, Tuple
 
 from rdbg.digits import is_digits
-from rdbg.door import Unheard
 
 # A request's head has so many bytes at the most, its body so many, and both take so many seconds.
 MOST_HEAD, MOST_BODY, SECONDS = 16_384, 4_096, 10.0
@@ -54,13 +53,6 @@ class Bounded(io.RawIOBase):
         count = self._connection.recv_into(buffer[: self._left])
         self._left -= count
         return count
-
-
-class Unread(Unheard):
-    """The connections whose request hasn't come yet."""
-
-    def __init__(self) -> None:
-        super().__init__(MOST_UNREAD, SECONDS)
 
 
 def refusal(why: str) -> bytes:

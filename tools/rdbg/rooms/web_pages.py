@@ -36,7 +36,7 @@ class Page:
     def __init__(self, room: Room) -> None:
         self._room = room
         self.key = secrets.token_urlsafe(18)
-        self.member: Optional[Member] = None
+        self.member: Member  # (once it has joined)
         self._guard = threading.Lock()
         self._moves: Deque[Event] = collections.deque()
         self._waiting = 0
@@ -122,14 +122,12 @@ class Page:
 
     def _past(self) -> List[Event]:
         """What all were told before this page came, once."""
-        assert self.member is not None
         before, self.member.before = self.member.before, ()
         told = [[int(1_000 * it.when), it.text] for it in before]
         return [("past", as_json(told))] if told else []
 
     def _who_is_here(self, room: Room) -> List[Event]:
         """Who this page is, and who else is here, where that isn't as it was."""
-        assert self.member is not None
         people = [
             {
                 "name": it.name,
@@ -154,7 +152,6 @@ class Page:
             raise TooMany(f"{MOST_LINES} lines wait for their replies already")
         try:
             with self._turn:
-                assert self.member is not None
                 if web_goals.is_question(line.split()):
                     return self._answered(line.split())
                 if line.split() == ["reload"]:
@@ -172,7 +169,6 @@ class Page:
     def _said(self, line: str) -> str:
         """What is said to a line of rdbg's, or to a word of `sh`; of what is refused with what
         would be right."""
-        assert self.member is not None
         self._prompt = self._prompt or Prompt(self._room, self.member)
         said = self._prompt.said(line)
         self._goal = web_goals.goal_in(line, said) or self._goal
@@ -180,7 +176,6 @@ class Page:
 
     def _gone(self, line: str, way: web_ways.Typed) -> str:
         """Goes to a goal for which rdbg has no line."""
-        assert self.member is not None
         reply = web_ways.gone(self._room, self.member, line, way)
         if reply.startswith("at "):
             self._goal = reply.split(" met: ", 1)[1].split()
@@ -198,7 +193,6 @@ class Page:
 
     def watches(self) -> str:
         """Which watches hold now, which nobody has asked for."""
-        assert self.member is not None
         with self._turn:
             self.member.remark("# does")
             try:
@@ -209,17 +203,6 @@ class Page:
     def moves(self) -> str:
         """The lines that lead to where the target stands, as a file of commands."""
         return "".join(f"{line}\n" for line in self._room.lines())
-
-    def begin_anew(self) -> Dict[str, str]:
-        """Is told all anew: it isn't shown where the target is."""
-        self.tell("run", "")
-        return {}
-
-    def rename(self, name: str) -> Dict[str, str]:
-        """Goes on by another name. Raises `Refusal`."""
-        assert self.member is not None
-        self.member.rename(name)
-        return {}
 
 
 class Pages:
@@ -257,7 +240,7 @@ class Pages:
         try:
             page.member = self._join(name, page.hear)
         except BaseException:
-            self.close(page)
+            self._drop(page)
             raise
         return page
 
@@ -275,7 +258,7 @@ class Pages:
         """The page of a key. Raises `Refusal` where it isn't open."""
         with self._guard:
             page = self._open.get(key)
-        if page is None or page.member is None:
+        if page is None:
             raise Refusal("this page has left the room: load it again")
         return page
 
@@ -293,10 +276,12 @@ class Pages:
 
     def close(self, page: Page) -> None:
         """A page has gone."""
+        self._drop(page)
+        page.member.leave()
+
+    def _drop(self, page: Page) -> None:
         with self._guard:
-            self._open.pop(page.key, None)
-        if page.member is not None:
-            page.member.leave()
+            del self._open[page.key]
         page.close()
 
 
