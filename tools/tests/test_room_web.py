@@ -411,7 +411,7 @@ class Lines(unittest.TestCase):
         room = Room.open(load(LOST), sessions=4)
         here = web.serve(room, 0)
         with page(here) as (_, key):
-            room._program._host._process.kill()
+            room._program.host._process.kill()
             answer = said(here, "line", page=key, line="step 0")
             self.assertEqual(["ended"], list(answer), answer)
         room.kill()

@@ -117,7 +117,8 @@ class Port:
             if key.fileobj is self._listener:
                 self._accept()
             elif key.fileobj is self._woken:
-                self._forget_wakes()
+                with contextlib.suppress(OSError):
+                    self._woken.recv(4_096)
             else:
                 self._move(key.data, mask)
         self._answer_all()
@@ -130,13 +131,8 @@ class Port:
             return 0.0
         now = time.monotonic()
         times = [it.late - now for it in guests if it.is_waiting and not it.client.is_ending]
-        seconds = [it.client.seconds_left() for it in guests]
-        times += [it for it in seconds if it is not None]
+        times += [it for it in (guest.client.seconds_left() for guest in guests) if it is not None]
         return max(0.0, min(times)) if times else None
-
-    def _forget_wakes(self) -> None:
-        with contextlib.suppress(OSError):
-            self._woken.recv(4_096)
 
     def _accept(self) -> None:
         """Takes a connection, as a guest. Where its user isn't let in, there are too many, or

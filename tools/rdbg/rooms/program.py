@@ -35,7 +35,7 @@ class Program:
     def __init__(self, host: Host, source: Source, limits: Limits) -> None:
         assert source.application is not None
         self.source, self.limits = source, limits
-        self._host, self.sessions = host, host.numbers()
+        self.host = host
         self.journal, self.memory = Journal(), Memory()
         self.sight = Sight(source.application)
         # Who has the wheel.
@@ -43,7 +43,7 @@ class Program:
         self.when_over: Callable[[str], None] = lambda why: None
         self._rows: Dict[int, List[str]] = {}
         # (an entry of the history is for the coming of each session, and one for its leaving)
-        self._used = 2 * len(self.sessions)
+        self._used = 2 * len(host.numbers())
         # (programs before this one, whose history was full: each ends in a thread)
         self._ending: List[threading.Thread] = []
         # (when a new one is tried to be had again, where that failed)
@@ -66,13 +66,9 @@ class Program:
         """The program's own reply to a line of a session. Raises `Ended`."""
         return self._ask_all(seat, [line])[0]
 
-    def known(self, seat: Seat, command: Command) -> Optional[str]:
-        """The reply that a line would have, where that is known."""
-        return self.memory.known(seat.number, command)
-
     def _ask_all(self, seat: Seat, lines: List[str]) -> List[str]:
         try:
-            answers = self._host.tell_all(seat.number, lines) if lines else []
+            answers = self.host.tell_all(seat.number, lines) if lines else []
         except Ended as ended:
             self.when_over(str(ended))
             raise
@@ -109,8 +105,7 @@ class Program:
         known: Dict[str, str] = {}
         for line in lines:
             command = read_line(line)
-            assert command is not None
-            found = self.known(seat, command)
+            found = self.memory.known(seat.number, command) if command else None
             if found is not None:
                 known[line] = found
         asked = [line for line in lines if line not in known]
@@ -185,7 +180,7 @@ class Program:
 
     def _go_on_with(self, host: Host, ended: Callable[[Audit], None]) -> None:
         """Goes on with a new program; the old one ends meanwhile."""
-        old, self._host = self._host, host
+        old, self.host = self.host, host
         thread = threading.Thread(target=lambda: ended(old.close()))
         self._ending.append(thread)
         thread.start()
@@ -243,14 +238,6 @@ class Program:
         """Waits until the programs before this one have ended."""
         for thread in self._ending:
             thread.join()
-
-    def kill(self) -> None:
-        """Ends it at once."""
-        self._host.kill()
-
-    def close(self) -> Audit:
-        """Ends it, and answers its audit."""
-        return self._host.close()
 
 
 def watch_again(host: Host, seat: Seat) -> List[str]:

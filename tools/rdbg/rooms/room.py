@@ -245,7 +245,7 @@ class Room:
             if word in remarks.DO:
                 member.hear(f"# a line for the room begins with #: `# {word}`")
             return self._program.ask(member.seat, sent)
-        reply = self._program.known(member.seat, command)
+        reply = self._program.memory.known(member.session, command)
         if reply is None and command.form.is_look:
             return self._program.ask(member.seat, sent)
         if reply is None:
@@ -522,7 +522,7 @@ class Room:
         with self._turns:
             for member in self._members.values():
                 self.end(member, f"broken off, at {self.place}")
-            audit = self._program.close()
+            audit = self._program.host.close()
             for row in self.counts.rows():
                 self._keep("room", "#", row)
                 self.tell(row)
@@ -534,7 +534,7 @@ class Room:
 
     def kill(self) -> None:
         """Ends the program at once, without its audit."""
-        self._program.kill()
+        self._program.host.kill()
 
 
 def plain(line: str) -> str:

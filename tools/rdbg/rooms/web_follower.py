@@ -58,33 +58,28 @@ class Follower:
         self._past.close()
 
     @property
-    def _done(self) -> int:
-        """How many moves are done."""
-        return self._mirror.place
-
-    @property
     def _end(self) -> int:
         """Up to which place moves that were taken back are looked at."""
-        return self._done + min(self._mirror.undone, MOST_AHEAD)
+        return self._mirror.place + min(self._mirror.undone, MOST_AHEAD)
 
     def values(self) -> Values:
         """What a page begins with, for who holds the guard: what is around the target."""
-        place = max(self._known.first, min(self._done, self._known.last))
+        place = max(self._known.first, min(self._mirror.place, self._known.last))
         return {**self._known.around(place), **self._now()}
 
     def before(self, place: int) -> Values:
         """What a page that begins at a place has to add there, for who holds the guard: some of the
         moves before it, if they are known."""
-        return self._known.before(place) or {}
+        return self._known.before(place)
 
     def behind(self, place: int) -> Values:
         """The same of a page that ends at a place, and moves behind it."""
-        return self._known.behind(place) or {}
+        return self._known.behind(place)
 
     def _now(self) -> Values:
         """Where the target is, what is known by now, and how much more is to come."""
         return {
-            "done": self._done,
+            "done": self._mirror.place,
             "undone": self._mirror.undone,
             "known": [self._known.first, self._known.last],
             "toCome": 0 if self.lost else self._known.missing(self._end),
@@ -124,12 +119,11 @@ class Follower:
         with self.guard:
             for it in lines:
                 self._do(it, len(lines) > HEAP)
-            if not self._known.has(self._done):
-                if not self._known.find(self._done):
-                    count = self._known.near(self._done, LAST)
-                    self._known.jump(self._mirror.newest(count))
-                self._tell("run", {})
-            elif self._known.forget():
+            is_there = self._known.has(self._mirror.place)
+            if not is_there and not self._known.find(self._mirror.place):
+                count = self._known.near(self._mirror.place, LAST)
+                self._known.jump(self._mirror.newest(count))
+            if not is_there or self._known.forget():
                 self._tell("run", {})
             else:
                 self._tell("now", self._now())
@@ -151,10 +145,10 @@ class Follower:
 
     def _make(self, told: Told, is_heap: bool) -> None:
         """Makes new moves."""
-        count = told.place - self._done
+        count = told.place - self._mirror.place
         if count < 1:
             raise Differs(f"{told.text} led to {told.place}")
-        is_known = self._known.cut(self._done)
+        is_known = self._known.cut(self._mirror.place)
         if not is_known or is_heap or count > max(1, min(self._mirror.count(SECONDS), SHORT)):
             self._mirror.do(told)
             return

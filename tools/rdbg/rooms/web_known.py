@@ -179,28 +179,22 @@ class Known:
     def around(self, place: int) -> Values:
         """What a page begins with: the blocks at a place that is shown. Scripts stand in the first
         of them alone."""
-        at = self._block_at(place)
-        begin = at
+        at = begin = max(at for at, it in enumerate(self._chain) if first_of(it) <= place)
         while begin and place - first_of(self._chain[begin]) < NEAR:
             begin -= 1
         shown = self._chain[begin : at + 1]
         blocks = [it.values(has_code=not index) for index, it in enumerate(shown)]
         return {"blocks": blocks, "trims": self.trims()}
 
-    def before(self, place: int) -> Optional[Values]:
+    def before(self, place: int) -> Values:
         """The block that ends at a place, which a page has as its first; none where none does."""
         found = [it for it in self._chain if it.last == place and first_of(it) < place]
-        return found[0].values(has_code=False) if found else None
+        return found[0].values(has_code=False) if found else {}
 
-    def behind(self, place: int) -> Optional[Values]:
+    def behind(self, place: int) -> Values:
         """What a page has to add that ends at a place: the moves of one block; none where there are
         none."""
         if not self.first <= place < self.last:
-            return None
+            return {}
         found = next(it for it in self._chain if it.last > place)
         return {"cut": place, "last": found.last, **found.behind(place)}
-
-    def _block_at(self, place: int) -> int:
-        """The last block that has a place."""
-        firsts = [first_of(it) for it in self._chain]
-        return max(at for at, first in enumerate(firsts) if first <= place)

@@ -140,10 +140,8 @@ class Page:
         ]
         watches = dict(self.member.seat.watches)
         who = as_json({"name": self.member.name, "people": people, "watches": watches})
-        if who == self._who:
-            return []
-        self._who = who
-        return [("who", who)]
+        was, self._who = self._who, who
+        return [] if who == was else [("who", who)]
 
     def ask(self, line: str) -> str:
         """The reply to a line; empty of one that begins with `#`, which notices answer. Raises
