@@ -9,9 +9,7 @@ from rdbg.driving.parts import Part
 from rdbg.failure import Failure
 from rdbg.files.source import Source
 from rdbg.goals.claims import Goal
-from rdbg.looks import Look
 from rdbg.tracing.page.asked import Asked
-from rdbg.tracing.page.note import as_html
 from rdbg.tracing.page.ways import file_of
 
 DAY = "%Y-%m-%d"
@@ -41,10 +39,6 @@ class Report:
     other: Optional[Text] = None
     port: Optional[int] = None
 
-    def note_as_html(self) -> str:
-        """The note as a part of the page."""
-        return as_html(self.note)
-
     def values(self, at: Optional[int]) -> Dict[str, object]:
         """What the page has of it, where it opens at a place."""
         source = self.source
@@ -72,22 +66,14 @@ class Opening:
     """Finds the place at which a page opens, as the parts of its run are taken."""
 
     def __init__(self, report: Report) -> None:
-        self._at = report.at
-        self._asked = report.asked
+        self._at, self._asked = report.at, report.asked
         self._found: Optional[int] = None
-        self._is_first = True
 
     def see(self, part: Part) -> None:
         """Looks at a part."""
-        if self._is_first:
-            self._look(part.before)
-            self._is_first = False
-        for look in part.looks:
-            self._look(look)
-
-    def _look(self, look: Look) -> None:
-        if self._found is None and isinstance(self._at, Goal) and self._at.is_so(look):
-            self._found = look.place
+        if self._found is None and isinstance(self._at, Goal):
+            looks, goal = (part.before, *part.looks), self._at
+            self._found = next((it.place for it in looks if goal.is_so(it)), None)
 
     def place(self, first: int, last: int) -> Optional[int]:
         """The place, among these, or none where none is said. Raises `Failure` for another one."""
