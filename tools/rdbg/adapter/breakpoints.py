@@ -98,8 +98,7 @@ def arrival(spot: Spot) -> Stop:
 
 
 def named(shell: Shell, text: Text, name: str) -> List[Stop]:
-    """What a name stands for: a goal, that one is lost, a task's place, or what FreeRTOS calls
-    one."""
+    """What a name stands for: a goal, that one is lost, a task's place, or a call of FreeRTOS."""
     words = name.replace(":", " ").split()
     if not words:
         raise Wrong("a condition, as count jobs > 0, or send, xQueueSend, worker 2")

@@ -345,8 +345,7 @@ class Debugger:
             self.stopped("pause", others, self.focus)
 
     def still(self) -> None:
-        """Tells the editor that the target stands where it stood: once it has asked for a move, it
-        may think that it runs."""
+        """Tells an editor that has asked for a move that the target stands where it stood."""
         if self.is_configured and self.has_shell and not self.is_running and not self.is_done:
             self.stopped("pause", f"still at {self.shell.target.place}", self.focus)
 

@@ -1,9 +1,5 @@
-"""A stop where a goal is lost for good: no order of moves, of whatever length, leads there any
-more.
-
-It is asked of the program that searches, at few places, since what was lost stays so. Where an
-editor has rdbg start at a goal's name, as its breakpoints by name let it, `lost GOAL` is one of
-these."""
+"""A stop where a goal is lost for good: no order of moves leads there any more. It is asked of the
+program that searches, at few places, since what was lost stays so."""
 import time
 import weakref
 from typing import Dict, Hashable, List, Optional, Sequence, Tuple

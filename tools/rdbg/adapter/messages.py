@@ -107,8 +107,7 @@ class Arguments:
         return [Arguments(each, f"{self._of}.{key}[{at}]") for at, each in values]
 
     def all(self, key: str, kind: type = object, kinds: str = "") -> List[Any]:
-        """A list of what is of a kind, whose name for several this is; else of whatever. An empty
-        one where it is absent."""
+        """A list of what is of a kind, which is called so; an empty one where it is absent."""
         values = self._get(key, list, [])
         if not all(isinstance(each, kind) for each in values):
             raise Wrong(f"{self._of}: {key} must be a list of {kinds}")

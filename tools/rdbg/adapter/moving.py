@@ -184,8 +184,7 @@ def step_back(it: Debugger, given: Arguments) -> None:
 
 
 def goto_targets(it: Debugger, given: Arguments) -> Optional[Values]:
-    """`gotoTargets`: of each instruction at a line, where its task was last there, and the edit
-    that puts it there."""
+    """`gotoTargets`: where the task of each instruction at a line was last there, or an edit."""
     if not it.text.is_named(given.part("source")):
         return {"targets": []}
     it.gotos = []

@@ -164,8 +164,7 @@ class Runner:
             size = min(size * WIDER, MOST_WINDOW)
 
     def _keep(self) -> None:
-        """Makes the moves once more that were there behind those of this run, and takes them back:
-        so they can be made again."""
+        """Has the moves that were there behind those of this run be there to be made again."""
         walk, here = self.walk, self.walk.place
         there = here + walk.target.places().undone
         if there < self._end:

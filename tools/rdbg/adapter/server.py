@@ -119,8 +119,7 @@ class Server:
                 self._cancelled.add(number)
 
     def _is_told(self, request: Asked) -> bool:
-        """Whether a request is answered that comes before the token, or says it. Where it isn't
-        the editor is told why."""
+        """Whether a request is answered that comes before the token, or says it."""
         if request.command == BEFORE:
             return True
         try:

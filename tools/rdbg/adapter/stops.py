@@ -185,12 +185,12 @@ class Becomes(Reaches):
         return other + 1
 
     def all_next(self, walk: Walk, limit: int, counts: Counts) -> Tuple[List[int], int]:
-        sweep = Onwards(walk, self.condition, limit)
+        sweep = Onwards(walk, self.condition, walk.place + limit)
         sweep.run(counts)
         return sweep.found, sweep.place
 
     def all_last(self, walk: Walk, low: int) -> List[int]:
-        sweep = Backwards(walk, self.condition, low)
+        sweep = Backwards(walk, self.condition, max(low, walk.target.base))
         while not sweep.is_done:
             walk.interrupt.check()
             sweep.go()
@@ -349,8 +349,7 @@ class Begins(Reaches):
         return self.began(walk, base) if self.look(walk.target) else None
 
     def began(self, walk: Walk, low: int) -> Optional[int]:
-        """The place behind `low` where it has become so, up to here, where it is so; none where it
-        was so before."""
+        """The place behind `low`, up to here, where it has become so, if it wasn't there."""
         high = walk.place
         walk.goto(low)
         return None if self.look(walk.target) else Search(walk, self.goal).between(low, high)
@@ -395,7 +394,7 @@ class Where(Stop):
         while walk.place < end:
             walk.interrupt.check()
             if turns == TURNS and isinstance(self._stop, Becomes) and self._condition:
-                sweep = Onwards(walk, self._stop.condition, end - walk.place, self._condition)
+                sweep = Onwards(walk, self._stop.condition, end, self._condition)
                 sweep.run(bool)
                 return sweep.found[0] if sweep.found else None
             place, turns = self._stop.next(walk, end - walk.place), turns + 1

@@ -158,8 +158,7 @@ class Client:
 
     @property
     def is_done(self) -> bool:
-        """Whether an ending connection can be closed. Its own end of writing is told once all is
-        written."""
+        """Whether an ending connection can be closed, which is told the end of what is written."""
         if self.is_broken or time.monotonic() > self._until or self._left < 0:
             return True
         if self._out:

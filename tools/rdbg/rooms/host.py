@@ -92,8 +92,8 @@ class Host:
 
     @classmethod
     def _begin(cls, words: List[str], count: int) -> "Host":
-        """Starts it, in a network of its own with so many sockets where there is one to be had.
-        Raises `Failure` where it can't be started."""
+        """Starts it, with so many sockets of its own network where there is one. Raises
+        `Failure`."""
         if not apart.IS_TRIED:
             return cls._started(words, words[0], subprocess.DEVNULL)
         with trying(f"start {words[0]}"):

@@ -33,8 +33,7 @@ def receive(number: int) -> bytes:
 
 
 def lines_of(number: int) -> Iterator[str]:
-    """The lines of standard input, up to its end, or to one that is too long. However much there
-    is, it is read slowly."""
+    """The lines of standard input, read slowly, up to its end or to one that is too long."""
     content, tail = b"-", b""
     while content and len(tail) <= MOST_BYTES:
         content = receive(number)

@@ -53,8 +53,7 @@ class Member:
         return self.seat.number
 
     def ask(self, line: str) -> str:
-        """The reply to a line of rdbg. Raises `Refusal` for who has left, `Ended` where the program
-        has ended."""
+        """The reply to a line of rdbg. Raises `Refusal` for who has left, `Ended` at the end."""
         return self._room.ask(self, line)
 
     def remark(self, line: str) -> None:

@@ -20,8 +20,7 @@ class Memory:
         self._kept: Dict[Tuple[object, ...], str] = {}
 
     def _key(self, session: int, command: Command) -> Tuple[object, ...]:
-        """What is answered alike as long as nothing of this changes: a look at what all share has
-        one answer for all."""
+        """What is answered alike as long as this stays: a look at what all share is for all."""
         hangs_on = command.form.hangs_on
         is_shared = command.form.is_look and WATCHES not in hangs_on
         wheel = self._wheel if WHEEL in hangs_on else 0

@@ -1,5 +1,4 @@
-"""The program of a room: what it is asked and what it has answered, where its target is, and who
-has the wheel."""
+"""The program of a room: what it was asked and answered, its target's place, who has the wheel."""
 import threading
 import time
 from typing import Callable, Dict, List, Optional, Sequence
@@ -29,8 +28,7 @@ FULL = "no HistoryFull"
 
 
 class Program:
-    """A program that serves, of which every answer is known. One that answers no more is told to
-    `when_over`."""
+    """A program that serves, whose answers are all known. `when_over` is told of its end."""
 
     def __init__(self, host: Host, source: Source, limits: Limits) -> None:
         assert source.application is not None
@@ -151,9 +149,8 @@ class Program:
 
     def renew(self, seats: Sequence[Seat], ended: Callable[[Audit], None]) -> bool:
         """Goes on with a new program that is where this one is, and whose history has only what
-        leads there; false where that would soon be full again, or where it was tried just now. The
-        old one ends meanwhile; its audit is told to `ended`, from another thread. Raises `Failure`
-        where the new one can't be had."""
+        leads there; false where that would soon be full again, or was tried just now. The old one
+        ends meanwhile, and `ended` is told its audit, from another thread. Raises `Failure`."""
         if time.monotonic() < self._again:
             return False
         watches = sum(len(it.watch_lines()) for it in seats)
@@ -192,9 +189,8 @@ class Program:
         seats: Sequence[Seat],
         ended: Callable[[Audit], None],
     ) -> List[str]:
-        """Goes on with a new program that has another source, where these lines lead, and answers
-        the watches that it refuses, which are dropped. The old one ends as by `renew`. Raises
-        `Failure` where the new one can't be had."""
+        """Goes on with a new program that has another source, where these lines lead, as `renew`
+        does. Answers the watches that it refuses, which are dropped. Raises `Failure`."""
         assert source.application is not None
         host = Host.start(source, self.limits, len(seats), TRIES)
         try:

@@ -1,5 +1,4 @@
-"""A room's file read anew: the same moves are made on it, up to the first that does something
-else."""
+"""A room's file read anew, with the same moves up to the first that does something else."""
 from typing import TYPE_CHECKING, List, NamedTuple
 
 from rdbg import record

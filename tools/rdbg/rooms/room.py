@@ -1,5 +1,4 @@
-"""Several, each by a name, at one program that serves: what each of them asks, and what all are
-told."""
+"""Several, each by a name, at one program that serves: what each asks, and all are told."""
 import collections
 import threading
 import time
@@ -98,8 +97,7 @@ class Room:
         return cls(Host.start(source, limits, sessions), source, limits, talk)
 
     def join(self, name: Optional[str], hear: Hear, is_told: bool = True) -> Member:
-        """Somebody comes, by a name, or by none as a guest; who isn't told to the others yet is
-        by `announce`. Raises `Refusal`."""
+        """Somebody comes, by a name or as a guest, told now or by `announce`. Raises `Refusal`."""
         with self._turns:
             if self.is_over:
                 raise Refusal("the room has ended")
@@ -151,8 +149,7 @@ class Room:
             self.rename_in_turn(member, name)
 
     def rename_in_turn(self, member: Member, name: str) -> None:
-        """The same, where the room has its turn already. A new name keeps the session; that of
-        somebody who is away has one of its own."""
+        """The same in the room's turn. A name of nobody keeps the session, others have theirs."""
         check(name)
         old, seat = member.name, member.seat
         if name != old and name in self._seats.by_name():
@@ -477,8 +474,7 @@ class Room:
         return self.tell(text)
 
     def free_wheel(self) -> str:
-        """Has the wheel given back by who has it, and is away or idle. Answers what all are told.
-        Raises `Refusal`."""
+        """Has the wheel given back by who is away or idle; what all are told. Raises `Refusal`."""
         with self._turns:
             try:
                 text = self._freed()
@@ -514,8 +510,7 @@ class Room:
             self.when_over()
 
     def close(self) -> List[Audit]:
-        """Ends the program, tells all its audit, and answers it, behind those of the programs
-        before it whose history was full."""
+        """Ends the program; all are told its audit. Answers that behind those of others before."""
         with self._turns:
             self.is_over = True
         self._program.wait()

@@ -71,9 +71,8 @@ class Seats:
         return self.all[number - 1]
 
     def find(self, name: Optional[str]) -> Seat:
-        """The session that somebody gets who comes by a name, or as a guest. Raises `Refusal` where
-        that name is here, or everybody is. Where another name is away with it, that one loses it:
-        nothing has changed yet."""
+        """The session of who comes by a name, or as a guest; who is away with it loses it, once it
+        is taken. Raises `Refusal` where that name is here, or all are."""
         names = self.by_name()
         if name is None:
             return names.get(self.guest_name()) or self._for_guest()
@@ -99,8 +98,7 @@ class Seats:
         return next(it for it in map(f"{GUEST}{{}}".format, itertools.count(1)) if it not in here)
 
     def _free(self, seats: List[Seat]) -> Seat:
-        """The one of these sessions that nobody has, or whose name was away longest. Raises
-        `Refusal` where all who have one are here."""
+        """That which nobody has, or whose name was away longest. Raises `Refusal` for none."""
         away = [it for it in seats if not it.is_here]
         if not away:
             raise Refusal(f"{all_of(len(self.all))} taken by who is here")

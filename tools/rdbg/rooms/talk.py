@@ -32,8 +32,7 @@ class Talk:
     """A file to which rows are added. Each is written whole, at once."""
 
     def __init__(self, path: str) -> None:
-        """Opens it, behind the talk that stands there. Raises `Failure` where it can't be written,
-        or something else stands there."""
+        """Opens it, behind the talk that is there. Raises `Failure` where that can't be."""
         self.path = path
         # Why no more can be written, if so.
         self.fault = ""

@@ -40,7 +40,7 @@ class Follower:
         lines = room.follow(self.told)
         self._mirror = Mirror(source, lines)
         self._known = Known(source.application, self._mirror.newest(LAST))
-        self._past = Past(source, lines, self.guard, self._wanted, self._found, self.lose)
+        self._past = Past(self, source, lines)
         self._thread = threading.Thread(target=self._follow, daemon=True)
         self._thread.start()
 
@@ -68,8 +68,7 @@ class Follower:
         return {**self._known.around(place), **self._now()}
 
     def before(self, place: int) -> Values:
-        """What a page that begins at a place has to add there, for who holds the guard: some of the
-        moves before it, if they are known."""
+        """Moves that a page which begins at a place has to add there, for who holds the guard."""
         return self._known.before(place)
 
     def behind(self, place: int) -> Values:
@@ -86,12 +85,12 @@ class Follower:
             "lost": self.lost,
         }
 
-    def _wanted(self, count: int) -> Optional[Piece]:
-        """The moves that are to be looked at next, so many at the most."""
+    def wanted(self, count: int) -> Optional[Piece]:
+        """The moves that are to be looked at next, so many at the most, for who holds the guard."""
         return None if self.lost else self._known.wanted(count, self._end)
 
-    def _found(self, piece: Piece, part: Part) -> None:
-        """What earlier moves did, or moves that were taken back."""
+    def found(self, piece: Piece, part: Part) -> None:
+        """What earlier moves did, or moves that were taken back, for who holds the guard."""
         behind = self._known.put(piece, part)
         self._tell("more" if behind else "now", {**(behind or {}), **self._now()})
 

@@ -17,8 +17,7 @@ def new() -> str:
 
 
 class Key:
-    """What stands in the address of a room's page. Once it was used there is another one, which is
-    said by `say`."""
+    """What stands in the address of a room's page. Once it was used `say` says another one."""
 
     def __init__(self) -> None:
         self.text = new()
@@ -26,8 +25,7 @@ class Key:
         self._guard = threading.Lock()
 
     def use(self, given: str) -> None:
-        """Uses it up. Raises `Denied` for another one, and where the next one can't be said: then
-        it is good still."""
+        """Uses it up. Raises `Denied` for another one; it stays where the next can't be said."""
         self._check(given)  # (who has another one doesn't wait for who is let in)
         with self._guard:
             self._check(given)

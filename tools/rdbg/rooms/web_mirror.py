@@ -101,9 +101,8 @@ class Mirror:
         return Part(before, (trail.between(self._target, before, after),), (after,))
 
     def part(self, first: int, last: int) -> Part:
-        """The moves to these places, done or undone, with looks. The program stays there, and comes
-        back before it does anything else: so earlier and earlier moves aren't gone to again and
-        again."""
+        """The moves to these places, done or undone, with looks. The program comes back only before
+        it does anything else: so earlier and earlier moves aren't gone to again and again."""
         lines = trail.lines_for(last - first + 1, self._target.names) + last - first
         self._room(lines + abs(self._target.place - first) // LEAST_PIECE)
         walk = Walk(self._target, Interrupt())
@@ -127,8 +126,7 @@ class Mirror:
         Walk(self._target, Interrupt()).goto(self.place)
 
     def _room(self, lines: int) -> None:
-        """Begins a new program where the history has no room for so many lines: it does what the
-        one before did."""
+        """Has a new program do what this one did where there is no room for so many lines."""
         left = self._target.left()
         if left is None or left >= lines + 2 * RESERVE:
             return

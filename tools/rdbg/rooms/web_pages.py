@@ -144,8 +144,7 @@ class Page:
         return [] if who == was else [("who", who)]
 
     def ask(self, line: str) -> str:
-        """The reply to a line; empty of one that begins with `#`, which notices answer. Raises
-        `Refusal`."""
+        """The reply to a line; empty of one with `#`, which notices answer. Raises `Refusal`."""
         if not self._lines.acquire(blocking=False):
             raise TooMany(f"{MOST_LINES} lines wait for their replies already")
         try:
@@ -165,8 +164,7 @@ class Page:
             self._lines.release()
 
     def _said(self, line: str) -> str:
-        """What is said to a line of rdbg's, or to a word of `sh`; of what is refused with what
-        would be right."""
+        """What is said to a line of rdbg's or a word of `sh`, and behind a refusal."""
         self._prompt = self._prompt or Prompt(self._room, self.member)
         said = self._prompt.said(line)
         self._goal = web_goals.goal_in(line, said) or self._goal
@@ -243,8 +241,7 @@ class Pages:
         return page
 
     def _join(self, name: Optional[str], hear: Callable[[str], None]) -> Member:
-        """Joins by a name. Who says none gets one that is nobody's, here or away: with a number,
-        where others have it without."""
+        """Joins by a name; without one as `web`, with a number where anybody has that name."""
         if name is not None:
             return self._room.join(name, hear)
         with self._naming:

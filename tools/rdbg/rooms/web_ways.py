@@ -23,8 +23,7 @@ SYNTAX = "no Syntax"
 
 
 class Typed(NamedTuple):
-    """What was typed: whether it goes forwards, whether to where a goal becomes so, and the words
-    of the goal."""
+    """What was typed: whether it goes forwards, and to where a goal becomes so; and its words."""
 
     is_forwards: bool
     becoming: bool
@@ -32,8 +31,7 @@ class Typed(NamedTuple):
 
 
 def typed(line: str) -> Optional[Typed]:
-    """The run or the way back that a line asks for, which is no command of rdbg's; none where it
-    asks for something else."""
+    """The run or the way back that a line asks for, where rdbg has no line for it."""
     words = line.split()
     head, behind = words[:1], words[1:]
     if head == [record.BACK] and behind[:1] in (["until"], ["until!"]):

@@ -1,5 +1,4 @@
-"""What `rdbg trace` does, once its words are read: a run is looked at or asked for, and written as
-rows, as events or as a page."""
+"""What `rdbg trace` does, once its words are read: it writes a run as rows, events or a page."""
 import argparse
 import dataclasses
 import functools
@@ -46,8 +45,7 @@ Answered = Tuple[Question, str, Answer, List[str]]
 
 @dataclasses.dataclass(frozen=True)
 class Lost:
-    """What is answered of a goal that a run may have lost, in words; and the place of the move that
-    lost it, where one did."""
+    """What is answered of a goal that a run may have lost, and the place of the move that did."""
 
     goal: str
     said: str
@@ -172,14 +170,12 @@ def write_page(
         for part in found:
             opening.see(part)
             recorder.add(part)
-        assert recorder.first is not None
         at = opening.place(recorder.first, recorder.last)
         file.write(page(recorder.values(trims), way(recorder), report, at, other))
 
 
 def wanted(only: Optional[str], names: Names, cores: int) -> Optional[List[str]]:
-    """The names that rows are wanted of; none where all are. Raises `Failure` where nothing has one
-    of them."""
+    """The names that rows are wanted of, none where all are. Raises `Failure` for others."""
     if only is None:
         return None
     numbers = [str(core) for core in range(cores)]

@@ -1,5 +1,4 @@
-"""The page of a run: a file of HTML in which style, scripts and the run's values stand, and that
-needs nothing else."""
+"""The page of a run: a file of HTML with style, scripts and values, which needs nothing else."""
 import pathlib
 from typing import Mapping, Optional
 

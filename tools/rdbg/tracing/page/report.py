@@ -25,10 +25,9 @@ class Text:
 
 @dataclasses.dataclass(frozen=True)
 class Report:
-    """What is said beside a run: a title and a note in Markdown by whoever makes the page, the
-    place at which it opens, by number or as the first where a goal holds, the question that it
-    answers, the application, the lines, those of another run beside it, and the port at which it
-    was done."""
+    """What is said beside a run: a title and a note in Markdown, the place at which the page opens,
+    by number or as the first where a goal holds, the question that it answers, the application, the
+    lines, those of another run beside it, and the port at which it was done."""
 
     title: str = ""
     note: str = ""
