@@ -255,13 +255,13 @@ class Told(unittest.TestCase):
             left.ask("back 2")
             right, heard = come(here, "right")
             for _ in range(2):
-                before = here.free()
+                before = here._program.left()
                 heard.clear()
                 right.remark("# moves 3")
                 self.assertEqual(heard[0], "# .. 2 moves before these")
                 self.assertEqual([row[:3] for row in heard[1:4]], ["# 3", "# 4", "# 5"])
                 self.assertEqual(heard[4:], ["# at 5; `redo` can make 2 more"])
-            self.assertEqual(here.free(), before)
+            self.assertEqual(here._program.left(), before)
             self.assertEqual(left.ask("redo 2"), "ok at 7")
             left.ask("trim 2")
             right.remark("# moves")
@@ -304,13 +304,13 @@ class Memory(unittest.TestCase):
             left.ask("wheel take")
             lines = (*LOOKS, "show wheel", "show watches", "step 0", "watch w", "unwatch 3")
             for _ in range(2):
-                before = here.free()
+                before = here._program.left()
                 first = [right.ask(line) for line in lines]
-                taken = before - here.free()
+                taken = before - here._program.left()
             self.assertEqual(taken, 0)
             self.assertEqual([right.ask(line) for line in lines], first)
             self.assertEqual(left.ask("show cores"), first[0])
-            self.assertEqual(here.free(), before)
+            self.assertEqual(here._program.left(), before)
 
     def test_no_answer_is_stale(self) -> None:
         for seed in range(3):

@@ -182,14 +182,12 @@ class Breakpoints:
         self._of[kind] = found
         return [it.value for it in found]
 
-    def put_lines(
-        self, shell: Shell, text: Text, source: Arguments, given: Arguments
-    ) -> List[Values]:
+    def put_lines(self, shell: Shell, text: Text, given: Arguments) -> List[Values]:
         """Sets the breakpoints at lines of a source."""
         asked = given.parts("breakpoints")
         if not given.has("breakpoints"):
             asked = [Arguments({"line": it}, "setBreakpoints.lines") for it in given.all("lines")]
-        if text.is_named(source):
+        if text.is_named(given.part("source")):
             return self.put(LINE, shell, text, asked)
         found = "no file is known here" if text.source is None else f"it isn't {text.source.path}"
         return [{"verified": False, "message": found} for _ in asked]
@@ -203,7 +201,8 @@ def told(number: int, said: str) -> Values:
 def at_line(shell: Shell, text: Text, given: Arguments, number: int) -> Breakpoint:
     """A breakpoint at a line, and a column where one is given."""
     log = given.text("logMessage", "").strip()
-    spot = text.found(text.line_in(given), text.column_in(given))
+    column = given.number("column") + 1 - text.first_column if given.has("column") else None
+    spot = text.found(text.line_in(given), column)
     spots = text.same(spot)
     for each in {it.task for it in spots}:
         names.check(shell, log, each)

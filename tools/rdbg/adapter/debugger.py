@@ -217,7 +217,7 @@ class Debugger:
         """The session's watches, which were made by typing."""
         found: List[Stop] = []
         for number, text in sorted(self.shell.target.watches.items()):
-            key = watch_text(number, text)
+            key = f"w{number}, {text}"
             condition = conditions.read(text.split())
             if condition is not None:
                 found.append(self._watches.setdefault(key, Becomes(condition, key)))
@@ -421,7 +421,7 @@ class Debugger:
         self.stopped(reason, f"at {self.shell.target.place}: {text}", thread, hit)
         texts = {stop.text for stop in met}
         watches = self.shell.target.watches.items()
-        self.shell.drop_temporary([it for it, goal in watches if watch_text(it, goal) in texts])
+        self.shell.drop_temporary([it for it, goal in watches if f"w{it}, {goal}" in texts])
 
     def end(self) -> None:
         """Ends the program, and tells the editor so."""
@@ -440,8 +440,3 @@ class Debugger:
 
 # What a request does; its answer has the values, if any.
 Request = Callable[[Debugger, Arguments], Optional[Values]]
-
-
-def watch_text(number: int, text: str) -> str:
-    """What a stop at a watch says."""
-    return f"w{number}, {text}"

@@ -172,11 +172,6 @@ LOOKING: Dict[str, Request] = {
 }
 
 
-def in_source(it: Debugger, given: Arguments) -> Optional[Values]:
-    """`setBreakpoints`."""
-    return {"breakpoints": it.breakpoints.put_lines(it.shell, it.text, given.part("source"), given)}
-
-
 def all_of(kind: str, it: Debugger, given: Arguments) -> Optional[Values]:
     """`setFunctionBreakpoints`, by names, and `setDataBreakpoints`."""
     return {"breakpoints": it.breakpoints.put(kind, it.shell, it.text, given.parts("breakpoints"))}
@@ -224,7 +219,9 @@ def data_info(it: Debugger, given: Arguments) -> Optional[Values]:
 
 
 SETTING: Dict[str, Request] = {
-    "setBreakpoints": in_source,
+    "setBreakpoints": lambda it, given: {
+        "breakpoints": it.breakpoints.put_lines(it.shell, it.text, given)
+    },
     "setFunctionBreakpoints": functools.partial(all_of, NAME),
     "setDataBreakpoints": functools.partial(all_of, DATA),
     "setExceptionBreakpoints": on_failures,

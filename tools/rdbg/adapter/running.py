@@ -100,9 +100,8 @@ class Runner:
             if sure > low:
                 low = sure
                 continue
-            is_of_run = facts.would_come_again(low, end)
-            if is_of_run and looked >= LOOKED_OF_RUNS:
-                return None
+            if facts.runs.end(low) >= end and looked >= LOOKED_OF_RUNS:
+                return None  # (since a run makes the same)
             high = min(end, low + size)
             self._learn(stops, low, high, looked < LOOKED)
             looked += high - low

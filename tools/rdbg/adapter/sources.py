@@ -100,10 +100,6 @@ class Text:
             return absent
         return given.number(key) + 1 - self.first_line
 
-    def column_in(self, given: Arguments) -> Optional[int]:
-        """A column that the editor gives, counted from 1."""
-        return given.number("column") + 1 - self.first_column if given.has("column") else None
-
     def at(self, line: int) -> List[Spot]:
         """The instructions at a line, of one that is several the first."""
         return [it for it in self.spots if it.line == line and it.instruction.begins]

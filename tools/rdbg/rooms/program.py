@@ -19,10 +19,10 @@ from rdbg.wording import counted
 # So many entries have room for some 30,000 moves of a small application, with the looks that tell
 # them; then a new program goes on, and the memory of the old one is free.
 HISTORY = 250_000
-# With so little of the history left, the room looks no more by itself: one part of so many.
+# With so little of the history left, the room looks no more by itself, one part of so many, and a
+# new program should go on.
 SCARCE = 10
-# Then a new program goes on. It is tried to be had for so many seconds, while nobody is answered,
-# and where it can't be had once more after so many.
+# That is tried to be had for so many seconds, while nobody is answered, and again after so many.
 TRIES, AGAIN = 0.3, 1.0
 FULL = "no HistoryFull"
 
@@ -142,10 +142,6 @@ class Program:
             looks.append(self.sight.taken(value.at, seen))
         more = [f".. {counted(made - count, 'move')} before these"] if made > count else []
         return more + self.sight.rows(looks)
-
-    def is_scarce(self) -> bool:
-        """Whether so little of the history is left, that a new program should go on."""
-        return self.left() * SCARCE < self.limits.history
 
     def renew(self, seats: Sequence[Seat], ended: Callable[[Audit], None]) -> bool:
         """Goes on with a new program that is where this one is, and whose history has only what

@@ -80,11 +80,6 @@ class Room:
         """How many moves are done, as last told."""
         return self._program.place
 
-    def free(self) -> int:
-        """For how many entries the history has room."""
-        with self._turns:
-            return self._program.left()
-
     @classmethod
     def open(
         cls,
@@ -202,7 +197,7 @@ class Room:
             except Ended:
                 self._keep(member.name, line, "")
                 raise
-            command = command_of(line)
+            command = read_line(plain(line))
             is_part = member.doing is not None and member.doing.has(command)
             if line.strip() and not is_part:
                 self._keep(member.name, line, reply)
@@ -236,7 +231,8 @@ class Room:
             return TOO_LONG
         if "\n" in line:
             return NO_COMMAND
-        sent, command = plain(line), command_of(line)
+        sent = plain(line)
+        command = read_line(sent)
         if command is None:
             word = sent.split(" ")[0]
             if word in remarks.DO:
@@ -247,8 +243,10 @@ class Room:
             return self._program.ask(member.seat, sent)
         if reply is None:
             reply = self._change(member, command, sent)
-        if reply.startswith(HELD):
-            self._say_who_has_it(member)
+        if reply.startswith(HELD) and self._program.holder is not None:
+            seat = self._seats.of_number(self._program.holder)
+            away = "" if seat.is_here else " and is away"
+            member.hear(f"# {seat.name} has the wheel{away}: '# wheel' asks for it")
         return reply
 
     def _change(self, member: Member, command: Command, line: str) -> str:
@@ -290,13 +288,6 @@ class Room:
         for line in lines:
             self.tell(line)
 
-    def _say_who_has_it(self, member: Member) -> None:
-        """Says to who was refused it who has the wheel."""
-        if self._program.holder is not None:
-            seat = self._seats.of_number(self._program.holder)
-            away = "" if seat.is_here else " and is away"
-            member.hear(f"# {seat.name} has the wheel{away}: '# wheel' asks for it")
-
     def tell(self, text: str, but: Optional[Member] = None) -> str:
         """Tells all who are here, but for one, and answers it."""
         self._heard.append(Notice(time.time(), shown(text)))
@@ -319,7 +310,7 @@ class Room:
         if reply == FULL:
             member.hear("# the history is full: what was seen is still answered, nothing else is")
         left, limit = self._program.left(), self._program.limits.history
-        if self._program.is_scarce() and self._renew():
+        if left * SCARCE < limit and self._renew():
             return
         if self._warned < len(NEARLY) and left * NEARLY[self._warned] < limit:
             self._warned += 1
@@ -474,15 +465,14 @@ class Room:
         return self.tell(text)
 
     def free_wheel(self) -> str:
-        """Has the wheel given back by who is away or idle; what all are told. Raises `Refusal`."""
+        """Has the wheel given back by who is away or idle. Answers what all are told, or why not."""
         with self._turns:
             try:
                 text = self._freed()
             except Refusal as refusal:
-                self._keep("room", "# free", f"no: {refusal}")
-                raise
+                text = f"no: {refusal}"
             self._keep("room", "# free", text)
-            return self.tell(text)
+            return text if text.startswith("no: ") else self.tell(text)
 
     def _freed(self) -> str:
         holder = self._program.holder
@@ -535,8 +525,3 @@ class Room:
 def plain(line: str) -> str:
     """A line as it goes to the program."""
     return line.encode("ascii", "replace").decode()
-
-
-def command_of(line: str) -> Optional[Command]:
-    """The command that a line is, if any."""
-    return read_line(plain(line))

@@ -79,7 +79,8 @@ class Handler(BaseHTTPRequestHandler):
             self.server.unread.remove(self.connection)
             return self._answer(200, HTML, self.server.page)
         if self.path == ENTRY and method == "POST":
-            return self._trade(self._said())
+            self.server.key.use(self._said().get("key", ""))
+            return self._answer(200, guard.JSON, as_json({"token": self.server.token}))
         name, query = guard.check_token(self.path, self.server.token)
         if method == "POST":
             if name not in SAID and name not in MOVES:
@@ -97,11 +98,6 @@ class Handler(BaseHTTPRequestHandler):
         said = guard.body_of(self.headers, self.rfile)
         self.server.unread.remove(self.connection)
         return said
-
-    def _trade(self, said: Dict[str, str]) -> None:
-        """Lets a page in for the key of the address. Raises `Denied`."""
-        self.server.key.use(said.get("key", ""))
-        self._answer(200, guard.JSON, as_json({"token": self.server.token}))
 
     def _line(self, name: str, said: Dict[str, str]) -> None:
         """Does what a page says."""

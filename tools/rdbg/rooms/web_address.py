@@ -9,12 +9,7 @@ from rdbg import own_file
 
 FILE = "address"
 # What is printed at the start, and what says another address in its place.
-Said = Tuple[str, Callable[[str], None]]
-
-
-def print_one(address: str) -> None:
-    """Says it at the terminal, in one piece, whatever else is printed meanwhile."""
-    os.write(sys.stdout.fileno(), f"web {address}\n".encode())
+Said = Tuple[str, Callable[[str], object]]
 
 
 @contextlib.contextmanager
@@ -23,7 +18,8 @@ def said(address: str, is_terminal: bool) -> Iterator[Said]:
     address, for its user alone, as long as the block goes on. Raises `Failure` where that can't be
     written; what says another one, `OSError`."""
     if is_terminal:
-        yield address, print_one
+        # (in one piece, whatever else is printed meanwhile)
+        yield address, lambda it: os.write(sys.stdout.fileno(), f"web {it}\n".encode())
         return
     with own_file.kept(FILE, f"{address}\n", "the page's address") as path:
 

@@ -19,11 +19,6 @@ from rdbg.rooms.room import Room
 SECONDS, MEBIBYTES = 20.0, 256
 
 
-def is_question(words: Sequence[str]) -> bool:
-    """Whether a line asks for what can still come."""
-    return words[:1] != [] and words[0] in QUESTIONS
-
-
 def lacks_goal(room: Room, words: Sequence[str]) -> str:
     """What is answered to a question behind which no goal stands, nor was one asked for before."""
     application = room.app_source.application

@@ -21,7 +21,7 @@ class Key:
 
     def __init__(self) -> None:
         self.text = new()
-        self.say: Callable[[], None] = lambda: None
+        self.say: Callable[[], object] = lambda: None
         self._guard = threading.Lock()
 
     def use(self, given: str) -> None:

@@ -9,6 +9,7 @@ import threading
 import time
 from typing import Callable, Deque, Dict, List, Optional, Sequence, Tuple
 
+from rdbg.reaching.asking import QUESTIONS
 from rdbg.rooms import web_goals, web_ways
 from rdbg.rooms.room import Member, Refusal, Room
 from rdbg.rooms.web_follower import Follower, Values
@@ -149,9 +150,10 @@ class Page:
             raise TooMany(f"{MOST_LINES} lines wait for their replies already")
         try:
             with self._turn:
-                if web_goals.is_question(line.split()):
-                    return self._answered(line.split())
-                if line.split() == ["reload"]:
+                words = line.split()
+                if words and words[0] in QUESTIONS:
+                    return self._answered(words)
+                if words == ["reload"]:
                     line = "# reload"
                 if line.lstrip(" ").startswith("#"):
                     self.member.remark(line)
