@@ -403,7 +403,6 @@ class Debugger:
         return f"{Stuck().text}: no task waits, and one has failed at the least"
 
     def _tell_met(self, met: Sequence[Stop]) -> None:
-        """Stops at what was met."""
         failures = [name for name, stop in self.begins.items() if stop in met]
         points = [it for it in self.breakpoints.all() if not it.log]
         hit = [it for it in points if any(stop in met for stop in it.stops)]

@@ -63,7 +63,6 @@ class Editors:
                 print(f"rdbg dap: a connection was closed: {why}", file=sys.stderr, flush=True)
 
     def _serve(self, connection: socket.socket) -> None:
-        """Serves one editor."""
         try:
             with connection, connection.makefile("rb") as lines, connection.makefile("wb") as out:
                 try:

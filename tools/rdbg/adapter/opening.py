@@ -36,7 +36,6 @@ class EditorShell(Shell):
     hear: Optional[Tell] = None
 
     def _notice(self, notice: str) -> None:
-        """Tells what others do."""
         if self.hear is None:
             print(notice)
         else:

@@ -131,7 +131,6 @@ class Server:
         return self._is_fine(request, why)
 
     def _is_served(self, request: Asked) -> bool:
-        """Whether the editor is served whose request this is."""
         comes, self._comes = self._comes, lambda: ""
         return self._is_fine(request, comes())
 
@@ -199,6 +198,5 @@ class Server:
             self.debugger.still()
 
     def _end(self, why: str) -> None:
-        """Tells the editor that the program has ended."""
         self.debugger.say(why, category="stderr")
         self.debugger.end()

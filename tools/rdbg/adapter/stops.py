@@ -15,7 +15,7 @@ from rdbg.driving.walk import Walk
 from rdbg.goals.changes import HIDING, Changes
 from rdbg.goals.claims import Goal, Holds
 from rdbg.goals.conditions import Condition
-from rdbg.goals.ways import Search, To, is_so, latest, nearest, otherwise
+from rdbg.goals.ways import Search, To, Way, is_so, latest, nearest, otherwise
 from rdbg.looks import Key, Look, content_of
 
 # So many places are looked at one by one before one asks rdbg for the last where it was otherwise.
@@ -29,10 +29,8 @@ PUTTING = ("send", "front", "over")
 MOST_HITS = 100_000
 
 
-class Stop:
+class Stop(Way):
     """Something at which a run stops: `text` says what."""
-
-    text = ""
 
     @property
     def plain(self) -> "Stop":
@@ -59,14 +57,6 @@ class Stop:
     def is_met_by(self, before: Any, after: Any) -> bool:
         """Whether a move meets it, by what it hangs on before and after: mostly that it changes."""
         return bool(before != after)
-
-    def next(self, walk: Walk, limit: int) -> Optional[int]:
-        """The first place behind this one, at most so many moves on, where it is met."""
-        raise NotImplementedError
-
-    def last(self, walk: Walk) -> Optional[int]:
-        """The last place before this one where it is met."""
-        raise NotImplementedError
 
     def is_met_at_start(self, walk: Walk) -> bool:
         """Whether it is met at the first place, to which no move leads."""
@@ -124,12 +114,11 @@ class Stop:
         facts.met(self.key).learn(low, high, places)
 
 
-class Reaches(Stop):
+class Reaches(Stop, To):
     """A goal becomes so: it didn't hold before a move, and does after it."""
 
     def __init__(self, goal: Goal, text: str = "") -> None:
-        self.goal, self.text = goal, text or goal.text
-        self._way = To(goal, True)
+        super().__init__(goal, True, text)
 
     @property
     def key(self) -> Hashable:
@@ -143,12 +132,6 @@ class Reaches(Stop):
 
     def is_met_by(self, before: bool, after: bool) -> bool:
         return after and not before
-
-    def next(self, walk: Walk, limit: int) -> Optional[int]:
-        return self._way.next(walk, limit)
-
-    def last(self, walk: Walk) -> Optional[int]:
-        return self._way.last(walk)
 
 
 class Becomes(Reaches):
@@ -239,27 +222,26 @@ class Amount(Stop):
         return None if other is None else other + 1
 
 
-class Content(Stop):
+class Content(Stop, Changes):
     """What an object holds changes, whoever waits at it."""
 
     def __init__(self, target: Target, key: Key) -> None:
-        self._goal, application = Changes(target, *key), target.application
-        self.text = self._goal.text
-        self._parts = parts_of(application, *key) if application else []
+        super().__init__(target, *key)
+        self._parts = parts_of(target.application, *key) if target.application else []
 
     @property
     def key(self) -> Hashable:
-        return "content", self._goal.view
+        return "content", self.view
 
     def views(self, target: Target) -> List[str]:
-        return [self._goal.view]
+        return [self.view]
 
     def seen(self, answers: Sequence[Any]) -> Any:
         return content_of(answers[0])
 
     def next(self, walk: Walk, limit: int) -> Optional[int]:
         if not self._parts:
-            return self._goal.next(walk, limit)
+            return super().next(walk, limit)
         start, end, found = walk.place, walk.place + limit, None
         for part in self._parts:
             walk.reach(start)
@@ -275,7 +257,7 @@ class Content(Stop):
 
     def last(self, walk: Walk) -> Optional[int]:
         if not self._parts or not walk.target.is_own or walk.target.by_hand:
-            return self._goal.last(walk)
+            return super().last(walk)
         start, found = walk.place, -1
         for part in self._parts:
             walk.goto(start)

@@ -62,7 +62,6 @@ class Client:
         self._wake(self)
 
     def _put(self, line: str) -> None:
-        """Adds a line to what is to be sent."""
         if not self.is_broken and not self.is_ending:
             content = line.encode("utf-8", "replace") + b"\n"
             if not self._out:

@@ -175,7 +175,6 @@ class Port:
         return bool(silent)
 
     def _move(self, client: Client, mask: int) -> None:
-        """Reads and writes what can be."""
         if mask & selectors.EVENT_READ:
             client.read()
         if mask & selectors.EVENT_WRITE:
@@ -183,7 +182,6 @@ class Port:
         self._touched.add(client)
 
     def _answer_all(self) -> None:
-        """Answers some lines of each."""
         now = time.monotonic()
         for client, guest in list(self._guests.items()):
             if guest.is_waiting and now > guest.late:

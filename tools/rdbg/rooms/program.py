@@ -74,7 +74,6 @@ class Program:
         return answers
 
     def _take(self, seat: Seat, lines: Sequence[str], answers: Sequence[str]) -> None:
-        """Takes note of what was answered to lines."""
         for line, reply in zip(lines, answers):
             self._used += reply[len("no ") :] not in UNCOUNTED
             command = read_line(line)
@@ -83,7 +82,6 @@ class Program:
                 self._learn(seat, command, reply)
 
     def _learn(self, seat: Seat, command: Command, reply: str) -> None:
-        """Keeps account of moves, the wheel and watches."""
         if command.form.is_look or reply.startswith("no "):
             return
         value = read(reply)
@@ -172,7 +170,6 @@ class Program:
         return True
 
     def _go_on_with(self, host: Host, ended: Callable[[Audit], None]) -> None:
-        """Goes on with a new program; the old one ends meanwhile."""
         old, self.host = self.host, host
         thread = threading.Thread(target=lambda: ended(old.close()))
         self._ending.append(thread)

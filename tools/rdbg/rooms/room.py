@@ -298,7 +298,6 @@ class Room:
         return text
 
     def _keep(self, who: str, line: str, reply: str) -> None:
-        """Keeps a row of the talk."""
         if self._talk is None or self._talk.fault:
             return
         self._talk.keep(who, line, reply)

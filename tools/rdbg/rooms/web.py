@@ -100,7 +100,6 @@ class Handler(BaseHTTPRequestHandler):
         return said
 
     def _line(self, name: str, said: Dict[str, str]) -> None:
-        """Does what a page says."""
         try:
             page = self.server.pages.of(said.get("page", ""))
             if name in MOVES:

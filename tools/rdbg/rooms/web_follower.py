@@ -131,7 +131,6 @@ class Follower:
         return len(lines) == len(heap)
 
     def _do(self, told: Told, is_heap: bool) -> None:
-        """Does what a line did."""
         self._past.told(told)
         word = told.text.split(" ")[0]
         if word == record.TRIM:
@@ -143,7 +142,6 @@ class Follower:
             self._make(told, is_heap)
 
     def _make(self, told: Told, is_heap: bool) -> None:
-        """Makes new moves."""
         count = told.place - self._mirror.place
         if count < 1:
             raise Differs(f"{told.text} led to {told.place}")

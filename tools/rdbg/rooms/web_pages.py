@@ -101,12 +101,9 @@ class Page:
         if self._is_old:
             return [("anew", "null")]
         found = self._past()
-        with self._guard:
-            needs_run = self._needs_run
-        if needs_run:
+        if self._needs_run:
             with follower.guard:
-                with self._guard:
-                    self._needs_run = False
+                self._needs_run = False
                 found.append(("run", as_json(follower.values())))
         with self._guard:
             moves = [] if self._needs_run else list(self._moves)

@@ -202,7 +202,6 @@ class Cases:
         return found
 
     def _case(self, node: Node, label: str) -> None:
-        """A case."""
         before = len(self.faults)
         found = self._members(node, label, NAMES)
         if not isinstance(node.value, Object):
