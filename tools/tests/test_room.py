@@ -30,7 +30,7 @@ LOOKS = ("show cores", "show moves", "show task worker", "show queue jobs", "sho
 @contextlib.contextmanager
 def room(sessions: int = 4, path: str = LOST, limits: Limits = Limits()) -> Iterator[Room]:
     """A room, whose history is found right at its end."""
-    opened = Room.open(load(path), limits, sessions)
+    opened = Room(load(path), limits, sessions)
     try:
         yield opened
     finally:
@@ -175,7 +175,7 @@ class Names(unittest.TestCase):
             self.assertEqual(len(heard), 1)
 
     def test_a_room_that_has_ended(self) -> None:
-        here = Room.open(load(LOST), sessions=2)
+        here = Room(load(LOST), sessions=2)
         left, heard = come(here, "left")
         self.assertEqual([it.is_good for it in here.close()], [True])
         self.assertEqual(heard[-1], "# the room has ended: closed 4")

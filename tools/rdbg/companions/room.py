@@ -114,7 +114,7 @@ def open_room(source: Source, limits: Limits, sessions: int, talk: Optional[Talk
     which is said."""
     while True:
         try:
-            return Room.open(source, limits, sessions, talk)
+            return Room(source, limits, sessions, talk)
         except Hindered as hindered:
             print(f"rdbg room: {hindered}; it is tried again", file=sys.stderr, flush=True)
 

@@ -136,10 +136,6 @@ class Host:
             greet(session)
             session.wait_at_most(None)
 
-    def numbers(self) -> range:
-        """The numbers of all sessions."""
-        return range(1, len(self._sessions) + 1)
-
     def tell_all(self, number: int, lines: List[str]) -> List[str]:
         """The replies to lines of one session. Raises `Ended` where the program has ended."""
         try:

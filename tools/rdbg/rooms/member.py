@@ -31,11 +31,10 @@ class Notice(NamedTuple):
 class Member:
     """Somebody at a room, with a session of the program."""
 
-    def __init__(self, room: "Room", seat: Seat, hear: Hear, is_told: bool) -> None:
-        self._room, self.seat, self.hear, self.is_told = room, seat, hear, is_told
-        # What all were told before it came.
-        self.before: Sequence[Notice] = ()
-        self.is_here = True
+    def __init__(self, room: "Room", seat: Seat, hear: Hear, before: Sequence[Notice]) -> None:
+        # (`before` is what all were told before it came)
+        self._room, self.seat, self.hear, self.before = room, seat, hear, before
+        self.is_here, self.is_told = True, False
         # What it is in the midst of, by several lines.
         self.doing: Optional[Doing] = None
         # (when it last said something to the room, and when it last said a line of any kind)

@@ -30,10 +30,10 @@ FULL = "no HistoryFull"
 class Program:
     """A program that serves, whose answers are all known. `when_over` is told of its end."""
 
-    def __init__(self, host: Host, source: Source, limits: Limits) -> None:
+    def __init__(self, source: Source, limits: Limits, sessions: int) -> None:
         assert source.application is not None
         self.source, self.limits = source, limits
-        self.host = host
+        self.host = Host.start(source, limits, sessions)
         self.journal, self.memory = Journal(), Memory()
         self.sight = Sight(source.application)
         # Who has the wheel.
@@ -41,7 +41,7 @@ class Program:
         self.when_over: Callable[[str], None] = lambda why: None
         self._rows: Dict[int, List[str]] = {}
         # (an entry of the history is for the coming of each session, and one for its leaving)
-        self._used = 2 * len(host.numbers())
+        self._used = 2 * sessions
         # (programs before this one, whose history was full: each ends in a thread)
         self._ending: List[threading.Thread] = []
         # (when a new one is tried to be had again, where that failed)

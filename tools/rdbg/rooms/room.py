@@ -11,7 +11,7 @@ from rdbg.rooms import reloading, remarks
 from rdbg.rooms.counts import Counts
 from rdbg.rooms.doings import Doing
 
-from rdbg.rooms.host import MOST_SESSIONS, Audit, Ended, Host
+from rdbg.rooms.host import MOST_SESSIONS, Audit, Ended
 from rdbg.rooms.member import Hear, Member, Notice
 from rdbg.rooms.program import FULL, HISTORY, SCARCE, Program
 from rdbg.rooms.seats import Refusal, Seat, Seats, check
@@ -50,8 +50,13 @@ class Room:
     """One program, with a session for each name. What anyone does, all are told."""
 
     def __init__(
-        self, host: Host, source: Source, limits: Limits, talk: Optional[Talk] = None
+        self,
+        source: Source,
+        limits: Limits = Limits(history=HISTORY),
+        sessions: int = MOST_SESSIONS,
+        talk: Optional[Talk] = None,
     ) -> None:
+        """Starts the program. Raises `Failure` where that can't be."""
         self.app_source = source
         # Is called once the program has ended by itself. Nothing is answered then, nor at the end.
         self.when_over: Callable[[], None] = lambda: None
@@ -60,7 +65,7 @@ class Room:
         self.is_over = self.is_reloading = False
         # Who has said no line for so many seconds is idle.
         self.idle = IDLE
-        self._program, self._seats = Program(host, source, limits), Seats(host.numbers())
+        self._program, self._seats = Program(source, limits, sessions), Seats(sessions)
         self._talk, self.counts = talk, Counts()
         # (what all were told last, for who comes late)
         self._heard: Deque[Notice] = collections.deque(maxlen=MOST_HEARD)
@@ -80,17 +85,6 @@ class Room:
         """How many moves are done, as last told."""
         return self._program.place
 
-    @classmethod
-    def open(
-        cls,
-        source: Source,
-        limits: Limits = Limits(history=HISTORY),
-        sessions: int = MOST_SESSIONS,
-        talk: Optional[Talk] = None,
-    ) -> "Room":
-        """A room over a program of its own. Raises `Failure` where that can't be started."""
-        return cls(Host.start(source, limits, sessions), source, limits, talk)
-
     def join(self, name: Optional[str], hear: Hear, is_told: bool = True) -> Member:
         """Somebody comes, by a name or as a guest, told now or by `announce`. Raises `Refusal`."""
         with self._turns:
@@ -100,8 +94,7 @@ class Room:
             called = name or self._seats.guest_name()
             if seat.name and (name is None or seat.name != name):
                 self._hand_over(seat)
-            member = Member(self, seat, hear, False)
-            member.before = list(self._heard)
+            member = Member(self, seat, hear, list(self._heard))
             self._seats.sit(seat, called)
             self._members[seat.number] = member
             self._asked.clear()

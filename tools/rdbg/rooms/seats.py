@@ -54,8 +54,8 @@ class Seats:
     Guests have half of the sessions at the most, and nobody's who is away, so that however many
     connections come, names get in."""
 
-    def __init__(self, numbers: range) -> None:
-        self.all: List[Seat] = [Seat(number) for number in numbers]
+    def __init__(self, count: int) -> None:
+        self.all: List[Seat] = [Seat(number) for number in range(1, count + 1)]
         self._times = itertools.count(1)
 
     def by_name(self) -> Dict[str, Seat]:
