@@ -37,7 +37,7 @@ class Program:
         self.journal, self.memory = Journal(), Memory()
         self.sight = Sight(source.application)
         # Who has the wheel.
-        self.holder: Optional[int] = None
+        self.holder: Optional[Seat] = None
         self.when_over: Callable[[str], None] = lambda why: None
         self._rows: Dict[int, List[str]] = {}
         # (an entry of the history is for the coming of each session, and one for its leaving)
@@ -90,7 +90,7 @@ class Program:
             self.sight.moved(command, value, self.place)
             self.journal.moved(command, value)
         elif isinstance(value, replies.WheelDone):
-            self.holder = seat.number if command.words[1] == "take" else None
+            self.holder = seat if command.words[1] == "take" else None
         elif isinstance(value, replies.WatchDone) and command.form.word == "watch":
             seat.watches[value.number] = " ".join(command.condition_words())
         elif isinstance(value, replies.WatchDone):
@@ -194,7 +194,7 @@ class Program:
             used = sum(2 * len(it.watches) + len(it.watch_lines()) for it in seats)
             dropped = [it for seat in seats for it in watch_again(host, seat)]
             if self.holder is not None:
-                host.tell_all(self.holder, ["wheel take"])
+                host.tell_all(self.holder.number, ["wheel take"])
         except BaseException:
             host.kill()
             raise
@@ -215,7 +215,7 @@ class Program:
         for seat in seats:
             answers += host.tell_all(seat.number, seat.watch_lines())
         if self.holder is not None:
-            answers += host.tell_all(self.holder, ["wheel take"])
+            answers += host.tell_all(self.holder.number, ["wheel take"])
         refused = [it for it in answers if it.startswith("no ")]
         if refused:
             raise Failure(f"the new rdbg answered {refused[0]}")

@@ -122,7 +122,7 @@ class Room:
 
     def _hand_over(self, seat: Seat) -> None:
         """Takes a session from who is away, for another one, with what was kept there."""
-        has = self._program.holder == seat.number
+        has = self._program.holder is seat
         lines = [f"unwatch {number}" for number in sorted(seat.watches)]
         for line in lines + (["wheel give"] if has else []):
             self._program.ask(seat, line)
@@ -171,7 +171,7 @@ class Room:
             if not member.is_told:  # (nobody knows of it, and it has said nothing)
                 self._seats.clear(member.seat)
                 return
-            has = ", with the wheel" if self._program.holder == member.session else ""
+            has = ", with the wheel" if self._program.holder is member.seat else ""
             text = f"is away{has}" + (f" ({why})" if why else "")
             self._keep(member.name, "#", text)
             self.tell(f"{member.name} {text}")
@@ -236,16 +236,16 @@ class Room:
             return self._program.ask(member.seat, sent)
         if reply is None:
             reply = self._change(member, command, sent)
-        if reply.startswith(HELD) and self._program.holder is not None:
-            seat = self._seats.of_number(self._program.holder)
-            away = "" if seat.is_here else " and is away"
-            member.hear(f"# {seat.name} has the wheel{away}: '# wheel' asks for it")
+        holder = self._program.holder
+        if reply.startswith(HELD) and holder is not None:
+            away = "" if holder.is_here else " and is away"
+            member.hear(f"# {holder.name} has the wheel{away}: '# wheel' asks for it")
         return reply
 
     def _change(self, member: Member, command: Command, line: str) -> str:
         """The reply to a line that changes something, or is refused; all are told what it did."""
         seat, place = member.seat, self.place
-        single = is_single(command) and self._program.holder in (None, seat.number)
+        single = is_single(command) and self._program.holder in (None, seat)
         before = self._program.look(seat) if single else None
         reply = self._program.ask(seat, line)
         if reply.startswith("no "):
@@ -357,7 +357,7 @@ class Room:
 
     def begin_reload(self, member: Member) -> str:
         """Begins to read the file anew, for who has the wheel. Raises `Refusal`."""
-        if self._program.holder != member.session:
+        if self._program.holder is not member.seat:
             raise Refusal("who has the wheel reads the file anew: `wheel take`")
         if self.is_reloading:
             raise Refusal("the file is read anew already")
@@ -370,7 +370,7 @@ class Room:
         """Goes on with a source that somebody had read anew while these lines led here. Raises
         `Refusal`, and `Failure` where no new program can be had."""
         with self._turns:
-            if self.is_over or not member.is_here or self._program.holder != member.session:
+            if self.is_over or not member.is_here or self._program.holder is not member.seat:
                 raise Refusal("the wheel was given back, or the room has ended, before it was read")
             if self._program.journal.lines() != was:
                 raise Refusal("the target was moved before it was read: once more")
@@ -390,7 +390,7 @@ class Room:
         seats = self._seats.by_name().items()
         holder = self._program.holder
         return [
-            Person(name, it.number, it.is_here, it.number == holder, self._silence(it))
+            Person(name, it.number, it.is_here, it is holder, self._silence(it))
             for name, it in seats
         ]
 
@@ -412,8 +412,7 @@ class Room:
     def tell_moves(self, member: Member, count: int) -> str:
         """Tells somebody the last moves. They are looked at with the session that may move."""
         program = self._program
-        seat = member.seat if program.holder is None else self._seats.of_number(program.holder)
-        for row in program.last_rows(seat, count):
+        for row in program.last_rows(program.holder or member.seat, count):
             member.hear(f"# {row}")
         return self.tell_place(member)
 
@@ -442,11 +441,11 @@ class Room:
     def wheel_wanted(self, member: Member) -> str:
         """Somebody asks for the wheel. Who has it is told; where that one is away, it is given up
         by who asks once more. Answers what all are told. Raises `Refusal`."""
-        if self._program.holder is None:
+        seat = self._program.holder
+        if seat is None:
             raise Refusal("the wheel is free: `wheel take`")
-        if self._program.holder == member.session:
+        if seat is member.seat:
             raise Refusal("you have the wheel: `wheel give` gives it back")
-        seat = self._seats.of_number(self._program.holder)
         text = f"{member.name} asks for the wheel"
         if not seat.is_here and member.session in self._asked:
             self._program.ask(seat, "wheel give")
@@ -467,13 +466,12 @@ class Room:
             return text if text.startswith("no: ") else self.tell(text)
 
     def _freed(self) -> str:
-        holder = self._program.holder
+        seat = self._program.holder
         if self.is_over:
             raise Refusal("the room has ended")
-        if holder is None:
+        if seat is None:
             raise Refusal("nobody has the wheel")
-        seat, member = self._seats.of_number(holder), self._members.get(holder)
-        silence = self._silence(seat)
+        member, silence = self._members.get(seat.number), self._silence(seat)
         if member is not None and silence < self.idle:
             waited, enough = (counted(it, "second") for it in (silence, self.idle))
             why = f"{waited} without a line, {enough} would do"

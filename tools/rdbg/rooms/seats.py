@@ -66,10 +66,6 @@ class Seats:
         """The sessions of those who are here."""
         return (it for it in self.all if it.is_here)
 
-    def of_number(self, number: int) -> Seat:
-        """The session of a number."""
-        return self.all[number - 1]
-
     def find(self, name: Optional[str]) -> Seat:
         """The session of who comes by a name, or as a guest; who is away with it loses it, once it
         is taken. Raises `Refusal` where that name is here, or all are."""
