@@ -362,28 +362,32 @@ class Room:
         if self.is_reloading:
             raise Refusal("the file is read anew already")
         self.is_reloading = True
-        # (behind the room's turn, which goes on meanwhile)
-        threading.Thread(target=reloading.reload, args=(self, member), daemon=True).start()
+        threading.Thread(target=self._reload, args=(member,), daemon=True).start()
         return "begun"
 
-    def take(self, member: Member, was: List[str], new: reloading.Reloaded) -> None:
-        """Goes on with a source that somebody had read anew while these lines led here. Raises
-        `Refusal`, and `Failure` where no new program can be had."""
-        with self._turns:
-            if self.is_over or not member.is_here or self._program.holder is not member.seat:
-                raise Refusal("the wheel was given back, or the room has ended, before it was read")
-            if self._program.journal.lines() != was:
-                raise Refusal("the target was moved before it was read: once more")
-            seats = self._seats.all
-            dropped = self._program.reload(new.source, new.lines, seats, self._has_ended)
-            self.app_source = new.source
-            self._followers.clear()
-            first, *rows = [*new.said, *dropped]
-            self._keep("room", "#", f"opens {new.source.path}")
-            self.tell(f"{member.name} has the file read anew: {first}")
-            for row in rows:
-                self.tell(row)
-        self.when_reloaded()
+    def _reload(self, member: Member) -> None:
+        """Reads the file anew behind the room's turn, and goes on with it; all are told then."""
+        try:
+            was = self.lines()
+            source, lines, said = reloading.made_again(self.app_source, was)
+            with self._turns:
+                if self.is_over or not member.is_here or self._program.holder is not member.seat:
+                    why = "the wheel was given back, or the room has ended, before it was read"
+                    raise Refusal(why)
+                if self._program.journal.lines() != was:
+                    raise Refusal("the target was moved before it was read: once more")
+                dropped = self._program.reload(source, lines, self._seats.all, self._has_ended)
+                self.app_source = source
+                self._followers.clear()
+                self._keep("room", "#", f"opens {source.path}")
+                self.tell(f"{member.name} has the file read anew: {said[0]}")
+                for row in (*said[1:], *dropped):
+                    self.tell(row)
+            self.when_reloaded()
+        except (Refusal, Failure) as wrong:
+            member.hear(f"# no: {'; '.join(str(wrong).splitlines())}")
+        finally:
+            self.is_reloading = False
 
     def people(self) -> List[Person]:
         """Who has a session, here or away."""

@@ -10,7 +10,7 @@ import time
 from typing import Callable, Deque, Dict, List, Optional, Sequence, Tuple
 
 from rdbg.reaching.asking import QUESTIONS
-from rdbg.rooms import web_goals, web_ways
+from rdbg.rooms import web_goals
 from rdbg.rooms.room import Member, Refusal, Room
 from rdbg.rooms.web_follower import Follower, Values
 from rdbg.rooms.web_prompt import Prompt
@@ -155,7 +155,7 @@ class Page:
                 if line.lstrip(" ").startswith("#"):
                     self.member.remark(line)
                     return ""
-                way = web_ways.typed(line)
+                way = web_goals.typed(line)
                 if way is not None:
                     return self._gone(line, way)
                 return self._said(line)
@@ -169,9 +169,9 @@ class Page:
         self._goal = web_goals.goal_in(line, said) or self._goal
         return said
 
-    def _gone(self, line: str, way: web_ways.Typed) -> str:
+    def _gone(self, line: str, way: web_goals.Typed) -> str:
         """Goes to a goal for which rdbg has no line."""
-        reply = web_ways.gone(self._room, self.member, line, way)
+        reply = web_goals.gone(self._room, self.member, line, way)
         if reply.startswith("at "):
             self._goal = reply.split(" met: ", 1)[1].split()
         return reply
@@ -179,8 +179,6 @@ class Page:
     def _answered(self, words: Sequence[str]) -> str:
         """The answer to a question, of the goal before where it says none."""
         asked = words if words[1:] else [*words, *self._goal]
-        if not asked[1:]:
-            return web_goals.lacks_goal(self._room, words)
         reply = web_goals.answered(self._room, asked)
         if not reply.startswith("no: "):
             self._goal = asked[1:]
