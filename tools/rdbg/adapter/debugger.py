@@ -10,8 +10,7 @@ from rdbg.adapter.hearing import MOVED, Hearing
 from rdbg.adapter.known import Facts
 from rdbg.adapter.losing import Loses, listen
 from rdbg.adapter.messages import Arguments, Values, Wrong, event
-from rdbg.adapter.pausing import Pause
-from rdbg.adapter.running import Outcome, PacedRunner, Runner
+from rdbg.adapter.running import Outcome, PacedRunner, Pause, Runner
 from rdbg.adapter.sources import Spot, Text
 from rdbg.adapter.stops import Becomes, Begins, Stop
 from rdbg.adapter.threads import TIME, Threads

@@ -8,7 +8,7 @@ from typing import Callable, List, Optional
 
 from rdbg import children, client, commands
 from rdbg.adapter.messages import Arguments, Wrong
-from rdbg.adapter.pausing import Pause
+from rdbg.adapter.running import Pause
 from rdbg.driving.opening import attach as attached, begin, builtin
 from rdbg.driving.pacing import IS, pace
 from rdbg.driving.target import Limits, Unable

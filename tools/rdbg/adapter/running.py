@@ -10,7 +10,7 @@ from rdbg import record, replies
 from rdbg.adapter.known import Facts
 from rdbg.adapter.messages import Wrong
 from rdbg.adapter.stops import Begins, Stop, met_here
-from rdbg.driving.interrupt import Interrupted
+from rdbg.driving.interrupt import Interrupt, Interrupted
 from rdbg.driving.target import Unable, read
 from rdbg.driving.walk import MOST_PIECE, Walk
 from rdbg.goals.ways import is_stuck
@@ -21,6 +21,18 @@ FIRST_WINDOW, WIDER, MOST_WINDOW = 64, 8, 65_536
 # those that a run would make again, and so many of others.
 FIRST_LOOKED, MOST_LOOKED = 16, 256
 LOOKED_OF_RUNS, LOOKED = 64, 8_192
+
+
+class Pause(Interrupt):
+    """Whether a pause was asked for. What is long looks between two of its pieces."""
+
+    def ask(self) -> None:
+        """Asks for a pause, from any thread."""
+        self._count = 1
+
+    def forget(self) -> None:
+        """Forgets what was asked before."""
+        self._count = 0
 
 
 @dataclasses.dataclass(frozen=True)

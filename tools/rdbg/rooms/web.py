@@ -17,7 +17,6 @@ from rdbg.rooms import web_guard as guard
 from rdbg.rooms.room import Refusal, Room
 from rdbg.rooms.web_follower import Follower, Values
 from rdbg.rooms.web_guard import Denied
-from rdbg.rooms.web_key import Key, new
 from rdbg.rooms.web_pages import Page, Pages, as_json
 
 # A page is told that it is still told something after so many seconds.
@@ -186,7 +185,7 @@ class Served(ThreadingMixIn, HTTPServer):
     def __init__(self, room: Room, port: int, door: Door) -> None:
         self.room, self._door = room, door
         # (the one lets a browser in, once; the other one it has for it, and says with each request)
-        self.key, self.token = Key(), new()
+        self.key, self.token = guard.Key(), guard.new()
         self.unread, self.pages = Unheard(guard.MOST_UNREAD, guard.SECONDS), Pages(room)
         self.page = web_document.page()
         self.of_room = as_json(web_document.of_room(room.app_source))
