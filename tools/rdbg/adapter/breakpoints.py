@@ -145,8 +145,8 @@ class Breakpoints:
     def __init__(self) -> None:
         self._count = 0
         self._of: Dict[str, List[Breakpoint]] = {}
-        # What was asked for last, to be looked at anew where the file is another.
-        self._asked: Dict[str, Sequence[Arguments]] = {}
+        # What was asked for last, with its number, to be looked at anew where the file is another.
+        self._asked: Dict[str, List[Tuple[int, Arguments]]] = {}
         self.failures = [name for name, (_, is_on) in FAILURES.items() if is_on]
 
     def all(self) -> List[Breakpoint]:
@@ -161,19 +161,17 @@ class Breakpoints:
         """Sets all of a kind."""
         if len(asked) > MOST:
             raise Wrong(f"there are {len(asked)} breakpoints; {MOST} are looked at")
-        numbers = range(self._count + 1, self._count + 1 + len(asked))
+        self._asked[kind] = list(enumerate(asked, self._count + 1))
         self._count += len(asked)
-        self._asked[kind] = asked
-        return self._made(kind, shell, text, numbers)
+        return self._made(kind, shell, text)
 
     def again(self, shell: Shell, text: Text) -> List[Values]:
         """All of them, each with its number, for a target and a text that are others now."""
-        numbers = {kind: [it.number for it in self._of[kind]] for kind in self._asked}
-        return [value for it in numbers for value in self._made(it, shell, text, numbers[it])]
+        return [value for kind in self._asked for value in self._made(kind, shell, text)]
 
-    def _made(self, kind: str, shell: Shell, text: Text, numbers: Sequence[int]) -> List[Values]:
+    def _made(self, kind: str, shell: Shell, text: Text) -> List[Values]:
         found: List[Breakpoint] = []
-        for asked, number in zip(self._asked[kind], numbers):
+        for number, asked in self._asked[kind]:
             try:
                 found.append(MAKERS[kind](shell, text, asked, number))
             except Wrong as wrong:
@@ -208,9 +206,7 @@ def at_line(shell: Shell, text: Text, given: Arguments, number: int) -> Breakpoi
         names.check(shell, log, each)
     stops = tuple(limited(shell, arrival(it), given) for it in spots)
     value = {**told(number, "; ".join(map(str, spots))), **text.place(spot)}
-    source = text.value()
-    if source is not None:
-        value["source"] = source
+    value["source"] = text.value()
     return Breakpoint(number, LINE, stops, value, tuple(spots), log)
 
 

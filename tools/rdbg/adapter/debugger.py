@@ -188,10 +188,9 @@ class Debugger:
     def say_at(self, text: str, spot: Optional[Spot], category: str = "stdout") -> None:
         """A line of output, with the place that it is of."""
         body: Values = {"category": category, "output": f"{text}\n"}
-        source = self.text.value()
-        if spot is not None and source is not None:
+        if spot is not None:
             place = self.text.place(spot)
-            body.update(source=source, line=place["line"], column=place["column"])
+            body.update(source=self.text.value(), line=place["line"], column=place["column"])
         self.send(event("output", body))
 
     @contextlib.contextmanager
