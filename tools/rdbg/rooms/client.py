@@ -22,7 +22,7 @@ LAST_SECONDS, MOST_SECONDS, LAST_BYTES = 1.0, 30.0, 4_194_304
 class Client:
     """A connection. `wake` is called where something is to be written, from any thread."""
 
-    def __init__(self, connection: socket.socket, wake: "Callable[[Client], None]") -> None:
+    def __init__(self, connection: socket.socket, wake: Callable[[], None]) -> None:
         connection.setblocking(False)
         self.connection, self._wake = connection, wake
         with contextlib.suppress(OSError):
@@ -53,13 +53,13 @@ class Client:
                 self._put(f"# {self._missed} notices are left out here, for it read too little")
                 self._missed = 0
             self._put(notice)
-        self._wake(self)
+        self._wake()
 
     def answer(self, reply: str) -> None:
         """Sends a reply."""
         with self._guard:
             self._put(reply)
-        self._wake(self)
+        self._wake()
 
     def _put(self, line: str) -> None:
         if not self.is_broken and not self.is_ending:
