@@ -36,6 +36,8 @@ NO_TOKEN = "`launch` or `attach` says first, as token, what `rdbg dap` said at i
 HEARD = Asked(0, "", Arguments({}, ""))
 # So many requests may wait.
 MOST_WAITING = 1_000
+# Why an editor that comes isn't served, if so.
+Comes = Callable[[], str]
 
 
 def said_of(error: Exception) -> str:
@@ -50,11 +52,7 @@ class Server:
     where it has, or where its first request has come, and says why it isn't served, if so."""
 
     def __init__(
-        self,
-        lines: IO[bytes],
-        answers: IO[bytes],
-        comes: Callable[[], str] = lambda: "",
-        token: str = "",
+        self, lines: IO[bytes], answers: IO[bytes], comes: Comes = lambda: "", token: str = ""
     ) -> None:
         self._comes, self._token = comes, token
         self._frames, self._sender = Frames(lines), Sender(answers)

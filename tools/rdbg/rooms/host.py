@@ -59,11 +59,7 @@ class Host:
 
     @classmethod
     def start(
-        cls,
-        source: Source,
-        limits: Limits,
-        count: int = MOST_SESSIONS,
-        seconds: Optional[float] = None,
+        cls, source: Source, limits: Limits, count: int, seconds: Optional[float] = None
     ) -> "Host":
         """Starts it on an application as it was read, and tries so long at the most. Ctrl-C at the
         terminal doesn't reach it. Raises `Failure` where it can't be started, and `Hindered` where

@@ -30,18 +30,20 @@ FULL = "no HistoryFull"
 class Program:
     """A program that serves, whose answers are all known. `when_over` is told of its end."""
 
-    def __init__(self, source: Source, limits: Limits, sessions: int) -> None:
+    def __init__(self, source: Source, limits: Limits, seats: Sequence[Seat]) -> None:
         assert source.application is not None
-        self.source, self.limits = source, limits
-        self.host = Host.start(source, limits, sessions)
+        self.source, self.limits, self._seats = source, limits, seats
+        self.host = Host.start(source, limits, len(seats))
         self.journal, self.memory = Journal(), Memory()
         self.sight = Sight(source.application)
         # Who has the wheel.
         self.holder: Optional[Seat] = None
         self.when_over: Callable[[str], None] = lambda why: None
+        # Is told the audit of each program before this one, from another thread.
+        self.when_ended: Callable[[Audit], None] = lambda audit: None
         self._rows: Dict[int, List[str]] = {}
         # (an entry of the history is for the coming of each session, and one for its leaving)
-        self._used = 2 * sessions
+        self._used = 2 * len(seats)
         # (programs before this one, whose history was full: each ends in a thread)
         self._ending: List[threading.Thread] = []
         # (when a new one is tried to be had again, where that failed)
@@ -141,13 +143,13 @@ class Program:
         more = [f".. {counted(made - count, 'move')} before these"] if made > count else []
         return more + self.sight.rows(looks)
 
-    def renew(self, seats: Sequence[Seat], ended: Callable[[Audit], None]) -> bool:
+    def renew(self) -> bool:
         """Goes on with a new program that is where this one is, and whose history has only what
         leads there; false where that would soon be full again, or was tried just now. The old one
-        ends meanwhile, and `ended` is told its audit, from another thread. Raises `Failure`."""
+        ends meanwhile. Raises `Failure`."""
         if time.monotonic() < self._again:
             return False
-        watches = sum(len(it.watch_lines()) for it in seats)
+        seats, watches = self._seats, sum(len(it.watch_lines()) for it in self._seats)
         checks = [*self.sight.lines, "show moves", "show wheel"]
         lines = self.journal.lines()
         used = 2 * len(seats) + watches + len(lines) + len(checks) + 1
@@ -155,8 +157,7 @@ class Program:
         try:
             if 2 * used <= self.limits.history:
                 host = Host.start(self.source, self.limits, len(seats), TRIES)
-                was = self._looks(seats[0], checks)
-                self._bring_here(host, lines, seats, dict(zip(checks, was)))
+                self._bring_here(host, lines, dict(zip(checks, self._looks(seats[0], checks))))
         except Failure:
             if host is not None:
                 host.kill()
@@ -165,26 +166,21 @@ class Program:
         if host is None:
             self._again = time.monotonic() + AGAIN
             return False
-        self._go_on_with(host, ended)
+        self._go_on_with(host)
         self._used = used
         return True
 
-    def _go_on_with(self, host: Host, ended: Callable[[Audit], None]) -> None:
+    def _go_on_with(self, host: Host) -> None:
         old, self.host = self.host, host
-        thread = threading.Thread(target=lambda: ended(old.close()))
+        thread = threading.Thread(target=lambda: self.when_ended(old.close()))
         self._ending.append(thread)
         thread.start()
 
-    def reload(
-        self,
-        source: Source,
-        lines: List[str],
-        seats: Sequence[Seat],
-        ended: Callable[[Audit], None],
-    ) -> List[str]:
+    def reload(self, source: Source, lines: List[str]) -> List[str]:
         """Goes on with a new program that has another source, where these lines lead, as `renew`
         does. Answers the watches that it refuses, which are dropped. Raises `Failure`."""
         assert source.application is not None
+        seats = self._seats
         host = Host.start(source, self.limits, len(seats), TRIES)
         try:
             answers = host.tell_all(seats[0].number, lines)
@@ -198,21 +194,19 @@ class Program:
         except BaseException:
             host.kill()
             raise
-        self._go_on_with(host, ended)
+        self._go_on_with(host)
         self.source, self.sight = source, Sight(source.application)
         self.journal, self.memory, self._used = Journal(), Memory(), 2 * len(seats) + used + 1
         self._rows.clear()
         self._take(seats[0], lines, answers)
         return dropped
 
-    def _bring_here(
-        self, host: Host, lines: List[str], seats: Sequence[Seat], was: Dict[str, str]
-    ) -> None:
+    def _bring_here(self, host: Host, lines: List[str], was: Dict[str, str]) -> None:
         """Brings a new program where this one is. Raises `Failure` where it doesn't do what it is
         told, or shows something else than this one does. (One whose history is full shows nothing
         any more: then the same moves have to do.)"""
         answers = host.tell_all(1, lines)
-        for seat in seats:
+        for seat in self._seats:
             answers += host.tell_all(seat.number, seat.watch_lines())
         if self.holder is not None:
             answers += host.tell_all(self.holder.number, ["wheel take"])

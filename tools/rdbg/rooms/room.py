@@ -65,11 +65,12 @@ class Room:
         self.is_over = self.is_reloading = False
         # Who has said no line for so many seconds is idle.
         self.idle = IDLE
-        self._program, self._seats = Program(source, limits, sessions), Seats(sessions)
+        self._seats = Seats(sessions)
+        self._program = Program(source, limits, self._seats.all)
+        self._program.when_over, self._program.when_ended = self._is_over, self._has_ended
         self._talk, self.counts = talk, Counts()
         # (what all were told last, for who comes late)
         self._heard: Deque[Notice] = collections.deque(maxlen=MOST_HEARD)
-        self._program.when_over = self._is_over
         self._members: Dict[int, Member] = {}
         self._turns = Turns()
         self._followers: List[Callable[[str, str], None]] = []
@@ -313,7 +314,7 @@ class Room:
     def _renew(self) -> bool:
         """Goes on with a new program, and answers whether that could be had."""
         try:
-            if not self._program.renew(self._seats.all, self._has_ended):
+            if not self._program.renew():
                 return False
         except Failure as failure:
             if not self._is_told_why:
@@ -376,7 +377,7 @@ class Room:
                     raise Refusal(why)
                 if self._program.journal.lines() != was:
                     raise Refusal("the target was moved before it was read: once more")
-                dropped = self._program.reload(source, lines, self._seats.all, self._has_ended)
+                dropped = self._program.reload(source, lines)
                 self.app_source = source
                 self._followers.clear()
                 self._keep("room", "#", f"opens {source.path}")
