@@ -17,7 +17,7 @@ from rdbg.rooms.host import MOST_SESSIONS, Hindered
 from rdbg.rooms.program import HISTORY
 from rdbg.rooms.port import Port, listening
 from rdbg.rooms.room import IDLE, Room
-from rdbg.rooms.talk import Talk, opened
+from rdbg.rooms.talk import Talk
 from rdbg.rooms.web import Served
 from rdbg.driving.target import Limits
 
@@ -175,7 +175,7 @@ def open_and_serve(given: argparse.Namespace, ends: contextlib.ExitStack) -> int
         least = 4 * given.sessions
         raise Failure(f"--history is {least} at the least for {given.sessions} sessions", 2)
     listener, door = listening(given.port), Door(given.anyone)
-    talk = opened(given.talk)
+    talk = None if given.talk is None else Talk(given.talk)
     signals = Signals()
     room = open_room(source, limits, given.sessions, talk)
     signals.port = port = Port(room, listener, door)

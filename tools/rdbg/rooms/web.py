@@ -55,20 +55,15 @@ class Handler(BaseHTTPRequestHandler):
         self.rfile = io.BufferedReader(self.bounded)
 
     def do_GET(self) -> None:
-        """The page, or what comes to it."""
-        self._do("GET")
-
-    def do_POST(self) -> None:
-        """A line."""
-        self._do("POST")
-
-    def _do(self, method: str) -> None:
+        """The page, or what comes to it; of a POST, a line."""
         try:
-            self._let_in(method)
+            self._let_in(self.command)
         except Denied as denied:
             self.send_error(denied.status, denied.text)
         except OSError:
             pass  # (the connection has gone)
+
+    do_POST = do_GET
 
     def _let_in(self, method: str) -> None:
         if self.bounded.is_over:

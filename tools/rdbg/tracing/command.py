@@ -32,7 +32,7 @@ from rdbg.tracing.events import Events
 from rdbg.tracing.page import ways
 from rdbg.tracing.page.asked import Asked, asked
 from rdbg.tracing.page.document import page
-from rdbg.tracing.page.report import Opening, Report, Text
+from rdbg.tracing.page.report import Report, Text
 from rdbg.tracing.run import Line, Plan, Run, parts, plan
 from rdbg.tracing.table import Row, Table, rows
 from rdbg.whole_file import written
@@ -165,12 +165,12 @@ def write_page(
     other: Optional[Dict[str, object]] = None,
 ) -> None:
     """Writes the page of all parts, of which there is one at the least, and of another run."""
-    opening = Opening(report)
+    seen: Optional[int] = None
     with written(path) as file:
         for part in found:
-            opening.see(part)
+            seen = report.seen_in(part) if seen is None else seen
             recorder.add(part)
-        at = opening.place(recorder.first, recorder.last)
+        at = report.opens(seen, recorder.first, recorder.last)
         file.write(page(recorder.values(trims), way(recorder), report, at, other))
 
 

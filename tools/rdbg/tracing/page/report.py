@@ -55,36 +55,28 @@ class Report:
             "other": named(self.other) if self.other else None,
         }
 
+    def seen_in(self, part: Part) -> Optional[int]:
+        """The first place of a part where the goal holds at which the page opens, if any."""
+        if not isinstance(self.at, Goal):
+            return None
+        return next((it.place for it in (part.before, *part.looks) if self.at.is_so(it)), None)
+
+    def opens(self, seen: Optional[int], first: int, last: int) -> Optional[int]:
+        """The place among these at which the page opens, `seen` where a goal says it; none where
+        none is said. Raises `Failure` for another one."""
+        if isinstance(self.at, Goal):
+            if seen is None:
+                why = f"--at: {self.at.text} is so at none of the places {first} to {last}"
+                raise Failure(why, 2)
+            return seen
+        if self.at is not None:
+            if not first <= self.at <= last:
+                raise Failure(f"--at {self.at}: the page has the places {first} to {last}", 2)
+            return self.at
+        found = self.asked.at if self.asked else None
+        return None if found is None else max(first, min(found, last))
+
 
 def named(it: Text, otherwise: str = "") -> Dict[str, str]:
     """A text as values, with the name that a file of it can have."""
     return {"name": pathlib.PurePath(it.name).name or otherwise, "text": it.text}
-
-
-class Opening:
-    """Finds the place at which a page opens, as the parts of its run are taken."""
-
-    def __init__(self, report: Report) -> None:
-        self._at, self._asked = report.at, report.asked
-        self._found: Optional[int] = None
-
-    def see(self, part: Part) -> None:
-        """Looks at a part."""
-        if self._found is None and isinstance(self._at, Goal):
-            looks, goal = (part.before, *part.looks), self._at
-            self._found = next((it.place for it in looks if goal.is_so(it)), None)
-
-    def place(self, first: int, last: int) -> Optional[int]:
-        """The place, among these, or none where none is said. Raises `Failure` for another one."""
-        if isinstance(self._at, Goal):
-            if self._found is None:
-                raise Failure(
-                    f"--at: {self._at.text} is so at none of the places {first} to {last}", 2
-                )
-            return self._found
-        if self._at is not None:
-            if not first <= self._at <= last:
-                raise Failure(f"--at {self._at}: the page has the places {first} to {last}", 2)
-            return self._at
-        found = self._asked.at if self._asked else None
-        return None if found is None else max(first, min(found, last))
