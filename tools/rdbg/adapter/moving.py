@@ -1,7 +1,6 @@
 """Requests that move the target, both ways, a move or to where something is met; what log points
 say where they are met, and `evaluate`, by which lines are typed."""
 import contextlib
-import dataclasses
 import re
 from typing import Callable, Dict, List, Optional, Sequence
 
@@ -47,47 +46,43 @@ def tell(it: Debugger, met: Sequence[Stop]) -> bool:
     return bool(told_of) and all(stop in told_of for stop in met)
 
 
-@dataclasses.dataclass(frozen=True)
-class Going:
-    """A run: how it goes, at what it stops, and in which thread where nothing is met."""
-
-    run: Callable[[Runner], Outcome]
-    stops: Callable[[], List[Stop]]
-    thread: Optional[int] = None
+# How a run goes, and at what it stops.
+Run = Callable[[Runner], Outcome]
+Stops = Callable[[], List[Stop]]
 
 
-def begin_run(it: Debugger, going: Going) -> None:
-    """Takes the wheel, and lets the target run once the request was answered."""
+def begin_run(it: Debugger, run: Run, stops: Stops, thread: Optional[int] = None) -> None:
+    """Takes the wheel, and lets the target run once the request was answered; where nothing is met
+    it may be said in which thread it stops."""
     held = contextlib.ExitStack()
     with it.asking("wheel take"):
         held.enter_context(it.wheel())
     it.pause.forget()
     it.is_running, it.failure = True, ""
-    it.later.append(lambda: end_run(it, held, going))
+
+    def go() -> None:
+        it.is_held = True
+        it.progress.begin()
+        try:
+            with held:
+                run_held(it, run, stops, thread)
+        finally:
+            it.progress.end()
+            it.is_held = False
+            it.tell_waiting()
+
+    it.later.append(go)
 
 
-def end_run(it: Debugger, held: contextlib.ExitStack, going: Going) -> None:
-    """Runs, gives the wheel back, and tells where that has ended."""
-    it.is_held = True
-    it.progress.begin()
-    try:
-        with held:
-            run_held(it, going)
-    finally:
-        it.progress.end()
-        it.is_held = False
-        it.tell_waiting()
-
-
-def run_held(it: Debugger, going: Going) -> None:
+def run_held(it: Debugger, run: Run, stops: Stops, thread: Optional[int]) -> None:
     """Runs, while nobody else may move the target."""
     start = it.shell.target.place
     end = start + it.shell.target.places().undone
     try:
-        outcome = going.run(it.runner(going.stops))
+        outcome = run(it.runner(stops))
         while outcome.how == "met" and tell(it, outcome.met):
             left = it.limit - max(0, it.shell.target.place - end)
-            runner = it.runner(going.stops)
+            runner = it.runner(stops)
             outcome = runner.forwards(left) if left > 0 else Outcome("limit")
         it.serve()
         it.is_running = False
@@ -98,7 +93,7 @@ def run_held(it: Debugger, going: Going) -> None:
         it.shell.walk.reach(start)
         it.changed()
         it.say(str(wrong), category="stderr")
-        it.stopped("pause", f"at {it.shell.target.place}: {wrong}", going.thread or it.focus)
+        it.stopped("pause", f"at {it.shell.target.place}: {wrong}", thread or it.focus)
     finally:
         it.is_running = False
 
@@ -106,14 +101,14 @@ def run_held(it: Debugger, going: Going) -> None:
 def go_on(it: Debugger, given: Arguments) -> Optional[Values]:
     """`continue`."""
     it.threads.task(given.number("threadId", TIME))
-    begin_run(it, Going(lambda runner: runner.forwards(it.limit), it.stops))
+    begin_run(it, lambda runner: runner.forwards(it.limit), it.stops)
     return {"allThreadsContinued": True}
 
 
 def go_back(it: Debugger, given: Arguments) -> None:
     """`reverseContinue`."""
     it.threads.task(given.number("threadId", TIME))
-    begin_run(it, Going(lambda runner: runner.backwards(), it.halts))
+    begin_run(it, lambda runner: runner.backwards(), it.halts)
 
 
 def step(it: Debugger, given: Arguments) -> None:
@@ -157,7 +152,7 @@ def step_out(it: Debugger, given: Arguments) -> None:
     done = Amount(f"pc {task}")
     done.text = f"{task} goes on"
     stops = lambda: [*it.stops(), done]
-    begin_run(it, Going(lambda runner: runner.forwards(it.limit), stops, thread))
+    begin_run(it, lambda runner: runner.forwards(it.limit), stops, thread)
 
 
 def step_back(it: Debugger, given: Arguments) -> None:

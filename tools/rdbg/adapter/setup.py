@@ -6,7 +6,7 @@ from rdbg.adapter.breakpoints import FAILURES
 from rdbg.adapter.debugger import LIMIT, Debugger, Request
 from rdbg.adapter.hearing import Hearing
 from rdbg.adapter.messages import Arguments, Values, Wrong, event
-from rdbg.adapter.moving import Going, begin_run
+from rdbg.adapter.moving import begin_run
 from rdbg.adapter.threads import TIME
 from rdbg.shell.shell import Shell
 
@@ -89,7 +89,7 @@ def configured(it: Debugger, given: Arguments) -> None:
     elif it.given.flag("stopOnEntry", True):
         it.later.append(lambda: it.stopped("entry", START, it.focus))
     else:
-        begin_run(it, Going(lambda runner: runner.begin(it.limit), it.stops))
+        begin_run(it, lambda runner: runner.begin(it.limit), it.stops)
 
 
 def restart(it: Debugger, given: Arguments) -> None:

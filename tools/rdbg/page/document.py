@@ -5,6 +5,7 @@ import hashlib
 import html
 import json
 import pathlib
+import re
 from typing import Mapping, Sequence
 
 Files = Sequence[pathlib.Path]
@@ -49,12 +50,7 @@ def digest(text: str) -> str:
 
 def filled(text: str, values: Mapping[str, str]) -> str:
     """A text in which values stand where it names them."""
-    first, *rest = text.split("{{")
-    found = [first]
-    for part in rest:
-        name, behind = part.split("}}", 1)
-        found += [values[name], behind]
-    return "".join(found)
+    return re.sub(r"\{\{(.*?)\}\}", lambda found: values[found[1]], text)
 
 
 def body_of(file: pathlib.Path, values: Mapping[str, str], beside_slider: str = "") -> str:

@@ -207,8 +207,7 @@ def moves_in(found: Iterable[Part], goal: Optional[Goal]) -> Iterator[Move]:
 def goal_of(option: str, words: Optional[str], scope: Scope) -> Optional[Goal]:
     """The goal that an option is given, if it is. Raises `Failure` where words are none."""
     with turned(of_words, NoGoal, of=option):
-        goal = None if words is None else read(words.split(), scope)
-    return goal
+        return None if words is None else read(words.split(), scope)
 
 
 def report_of(given: argparse.Namespace, scope: Scope) -> Report:
