@@ -1,5 +1,4 @@
 """The pages that are open, each with a member of the room and with what it is still to be told."""
-import collections
 import contextlib
 import itertools
 import json
@@ -7,7 +6,7 @@ import secrets
 import socket
 import threading
 import time
-from typing import Callable, Deque, Dict, List, Optional, Sequence, Tuple
+from typing import Callable, Dict, List, Optional, Sequence, Tuple
 
 from rdbg.reaching.asking import QUESTIONS
 from rdbg.rooms import web_goals
@@ -39,10 +38,9 @@ class Page:
         self.key = secrets.token_urlsafe(18)
         self.member: Member  # (once it has joined)
         self._guard = threading.Lock()
-        self._moves: Deque[Event] = collections.deque()
-        self._waiting = 0
-        self._notices: Deque[str] = collections.deque()
-        self._dropped = 0
+        # (how many signs the moves have that wait, and how many notices were dropped)
+        self._moves, self._waiting = [], 0  # type: List[Event], int
+        self._notices, self._dropped = [], 0  # type: List[str], int
         self._needs_run, self._is_old = True, False
         self._who = ""
         # The goal that was asked for or gone to last.
@@ -74,7 +72,7 @@ class Page:
         with self._guard:
             self._notices.append(notice)
             if len(self._notices) > MOST_NOTICES:
-                self._notices.popleft()
+                del self._notices[0]
                 self._dropped += 1
             self._wake()
 
@@ -106,17 +104,13 @@ class Page:
                 self._needs_run = False
                 found.append(("run", as_json(follower.values())))
         with self._guard:
-            moves = [] if self._needs_run else list(self._moves)
-            self._moves.clear()
-            self._waiting = 0
-            notices, dropped = list(self._notices), self._dropped
-            self._notices.clear()
-            self._dropped = 0
-        found += moves
+            moves, self._moves, self._waiting = self._moves, [], 0
+            notices, self._notices = self._notices, []
+            dropped, self._dropped = self._dropped, 0
         if dropped:
-            found.append(("notice", as_json(f"# {dropped} notices before these weren't kept")))
-        found += [("notice", as_json(it)) for it in notices]
-        return found + self._who_is_here(room)
+            notices.insert(0, f"# {dropped} notices before these weren't kept")
+        told = [("notice", as_json(it)) for it in notices]
+        return [*found, *moves, *told, *self._who_is_here(room)]
 
     def _past(self) -> List[Event]:
         """What all were told before this page came, once."""
