@@ -16,6 +16,7 @@ from rdbg.rooms import web_document
 from rdbg.rooms import web_guard as guard
 from rdbg.rooms.room import Refusal, Room
 from rdbg.rooms.web_follower import Follower, Values
+from rdbg.rooms.web_known import Known
 from rdbg.rooms.web_guard import Denied
 from rdbg.rooms.web_pages import Page, Pages, as_json
 
@@ -36,9 +37,9 @@ SAID: Dict[str, Callable[[Page, str], Optional[Dict[str, str]]]] = {
     "watches": lambda page, _: {"reply": page.watches()},
 }
 # For which moves it can ask, by the place at which those begin or end that it has.
-MOVES: Dict[str, Callable[[Follower, int], Values]] = {
-    "before": Follower.before,
-    "behind": Follower.behind,
+MOVES: Dict[str, Callable[[Known, int], Values]] = {
+    "before": Known.before,
+    "behind": Known.behind,
 }
 
 
@@ -111,7 +112,7 @@ class Handler(BaseHTTPRequestHandler):
             raise Refusal(f"'{place[:16]}' is no place")
         follower = self.server.follower
         with follower.guard:
-            return as_json(MOVES[name](follower, int(place)))
+            return as_json(MOVES[name](follower.known, int(place)))
 
     def _events(self, query: str) -> None:
         """Tells a page what comes, until it goes."""

@@ -1,9 +1,9 @@
 """What is known of a room's moves: blocks, one behind the other, of which a page shows a chain."""
-from typing import Dict, List, NamedTuple, Optional
+from typing import Any, Dict, List, NamedTuple, Optional
 
 from rdbg.application import Application
 from rdbg.page.recorder import Recorder
-from rdbg.driving.parts import Part, Trim
+from rdbg.driving.parts import Part
 
 # So many moves are kept at the least, and so many more until the oldest are forgotten.
 MOST_MOVES, SLACK = 20_000, 4_096
@@ -38,7 +38,8 @@ class Known:
         self._application = application
         self._chain: List[Recorder] = [block(application, part)]
         self._older: List[Recorder] = []
-        self._trims: List[Trim] = []
+        # The trims, each with its place and line, also those whose places aren't known yet.
+        self.trims: List[List[Any]] = []
         # Whether other moves than those of the chain have been made since.
         self._is_void = False
         # Counts how often moves were dropped, or others are shown. (What was looked at meanwhile
@@ -90,7 +91,7 @@ class Known:
 
     def cut(self, place: int) -> bool:
         """Forgets the moves behind a place, where others are made; whether the chain ends there."""
-        self._trims = [it for it in self._trims if it.place <= place]
+        self.trims = [it for it in self.trims if it[0] <= place]
         if place != self.last:
             self.version += 1
         if place < self.first and self._older:
@@ -155,17 +156,9 @@ class Known:
             return False
         while len(self._chain) > 1 and self.last - self._chain[0].last >= MOST_MOVES:
             self._chain.pop(0)
-        self._trims = [it for it in self._trims if it.place >= self.first]
+        self.trims = [it for it in self.trims if it[0] >= self.first]
         self.version += 1
         return True
-
-    def trim(self, trim: Trim) -> None:
-        """Takes note of a trim."""
-        self._trims.append(trim)
-
-    def trims(self) -> List[List[object]]:
-        """The trims, each with its place and line, also those whose places aren't known yet."""
-        return [[it.place, it.line] for it in self._trims]
 
     def around(self, place: int) -> Values:
         """The blocks at a place, with which a page begins; the first of them alone has scripts."""
@@ -174,7 +167,7 @@ class Known:
             begin -= 1
         shown = self._chain[begin : at + 1]
         blocks = [it.values(has_code=not index) for index, it in enumerate(shown)]
-        return {"blocks": blocks, "trims": self.trims()}
+        return {"blocks": blocks, "trims": self.trims}
 
     def before(self, place: int) -> Values:
         """The block that ends at a place, which a page has as its first; none where none does."""
