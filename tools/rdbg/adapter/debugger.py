@@ -133,12 +133,10 @@ class Debugger:
 
     def take(self, shell: Shell) -> None:
         """Goes on with this shell and its file."""
-        first, column = self.text.first_line, self.text.first_column
         self._shell = shell
         Facts.of(shell.walk)  # (which hears of all moves from here on)
         listen(shell)
-        self.text = Text(shell.source)
-        self.text.count_from(first, column)
+        self.text = Text(shell.source, self.text.first_line, self.text.first_column)
         self.threads.learn(shell.target.names.tasks)
         self._seen = None
 

@@ -20,9 +20,6 @@ class Hearing:
         self._session, self._came = session, came
         self._done, self._handled = threading.Event(), threading.Event()
         self._number = session.waited_for()
-
-    def begin(self) -> None:
-        """Begins to wait, where there is something to wait for."""
         if self._number is not None:
             threading.Thread(target=self._wait, daemon=True).start()
 

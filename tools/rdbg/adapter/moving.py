@@ -12,12 +12,10 @@ from rdbg.adapter.looking import value_of
 from rdbg.adapter.messages import Arguments, Values, Wrong
 from rdbg.adapter.printing import gathered, text_of
 from rdbg.adapter.running import Outcome, Runner
-from rdbg.adapter.sources import Spot
 from rdbg.adapter.stops import Amount, Stop
 from rdbg.adapter.threads import TIME
 from rdbg.driving import trail
 from rdbg.driving.target import Unable
-from rdbg.effects import Move
 from rdbg.replies import Refused
 from rdbg.shell.steps import why_on_none
 

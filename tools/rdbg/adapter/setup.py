@@ -32,8 +32,8 @@ def initialize(it: Debugger, given: Arguments) -> Optional[Values]:
     """`initialize`: what rdbg can do for an editor."""
     if given.text("pathFormat", "path") != "path":
         raise Wrong("paths are paths; URIs aren't known")
-    line = int(given.flag("linesStartAt1", True))
-    it.text.count_from(line, int(given.flag("columnsStartAt1", True)))
+    firsts = [int(given.flag(f"{each}StartAt1", True)) for each in ("lines", "columns")]
+    it.text.first_line, it.text.first_column = firsts
     it.shows_invalidated = given.flag("supportsInvalidatedEvent")
     it.progress.is_asked_for = given.flag("supportsProgressReporting")
     body: Values = {f"supports{name}": True for name in CAN}
@@ -75,7 +75,6 @@ def attach(it: Debugger, given: Arguments) -> None:
     it.later.append(lambda: it.send(event("capabilities", {"capabilities": off})))
     started(it, given, shell)
     it.hearing = Hearing(it.shell.target.session, it.came)
-    it.hearing.begin()
 
 
 def configured(it: Debugger, given: Arguments) -> None:

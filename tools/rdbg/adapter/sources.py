@@ -37,9 +37,9 @@ def spot(lines: Sequence[str], task: str, pc: int, code: Instruction) -> Spot:
 class Text:
     """The text of an application, where known. An editor may count lines and columns from 0."""
 
-    def __init__(self, source: Optional[Source]) -> None:
-        self.source = source
-        self.first_line = self.first_column = 1
+    def __init__(self, source: Optional[Source], line: int = 1, column: int = 1) -> None:
+        # (from where the editor counts)
+        self.source, self.first_line, self.first_column = source, line, column
         application = source.application if source else None
         lines = source.text.split("\n") if source else []
         tasks = application.tasks if application else ()
@@ -54,10 +54,6 @@ class Text:
     def is_generated(self) -> bool:
         """Whether it is in no file."""
         return self.source is not None and self.source.path == BUILTIN
-
-    def count_from(self, line: int, column: int) -> None:
-        """From where the editor counts."""
-        self.first_line, self.first_column = line, column
 
     def of(self, task: str, pc: int) -> Optional[Spot]:
         """The instruction of a task."""

@@ -13,7 +13,7 @@ from rdbg.driving.journal import Journal
 from rdbg.driving import trail
 from rdbg.driving.interrupt import Interrupt
 from rdbg.driving.opening import begin
-from rdbg.driving.target import RESERVE, SINGLE, Limits, Target, read, read_line
+from rdbg.driving.target import RESERVE, SINGLE, Limits, read, read_line
 from rdbg.driving.walk import LEAST_PIECE, Walk
 from rdbg.files.source import Source
 from rdbg.driving.parts import Part, Told, walk_through
@@ -34,15 +34,12 @@ class Mirror:
     def __init__(self, source: Source, lines: Sequence[str]) -> None:
         self._source, self._limits = source, Limits(MOST_COUNT, HISTORY)
         self._journal = Journal()
-        self._target = self._begin()
+        self._target = begin(self._source, self._limits)
         # What there is at the place, where that is known.
         self._look: Optional[Look] = None
         self._seconds = GUESS
         for line in lines:
             self.tell(line)
-
-    def _begin(self) -> Target:
-        return begin(self._source, self._limits)
 
     @property
     def place(self) -> int:
@@ -132,7 +129,7 @@ class Mirror:
             return
         with contextlib.suppress(OSError):
             self._target.session.kill()
-        self._target = self._begin()
+        self._target = begin(self._source, self._limits)
         for reply in self._target.session.tell_all(self._journal.lines()):
             if reply.startswith("no "):
                 raise Differs(f"the moves were made again, and one was answered {reply}")
