@@ -33,18 +33,14 @@ class Lines:
     def __init__(self, target: Target, before: Sequence[str]) -> None:
         self._journal = Journal()
         for place, line in enumerate(before, 1):
-            self._take(line, replies.Moved(place))
+            self._seen(line, f"ok at {place}", place - 1)
         target.hearing.append(self._seen)
 
     def _seen(self, line: str, reply: str, before: int) -> None:
         value = read(reply) if reply.startswith("ok at ") else None
-        if isinstance(value, replies.Moved):
-            self._take(line, value)
-
-    def _take(self, line: str, moved: replies.Moved) -> None:
         command = commands.read(line)
-        if command is not None:
-            self._journal.moved(command, moved)
+        if isinstance(value, replies.Moved) and command is not None:
+            self._journal.moved(command, value)
 
     def now(self) -> Tuple[str, ...]:
         """They. (Behind a trim `back` leads less far, but the target stands where it stood.)"""

@@ -88,8 +88,7 @@ class Host:
 
     @classmethod
     def _begin(cls, words: List[str], count: int) -> "Host":
-        """Starts it, with so many sockets of its own network where there is one. Raises
-        `Failure`."""
+        """Starts it, with sockets of its own network where there is one. Raises `Failure`."""
         if not apart.IS_TRIED:
             return cls._started(words, words[0], subprocess.DEVNULL)
         with trying(f"start {words[0]}"):
