@@ -1,6 +1,7 @@
 """What is debugged for one editor: the target with its threads, sources and breakpoints, how it is
 moved, and what the editor is told of it."""
 import contextlib
+import itertools
 import time
 from typing import Callable, Dict, Iterator, List, Optional, Sequence, Tuple
 
@@ -33,17 +34,13 @@ class Progress:
     """How far the run is that goes on. An editor ends it by its name."""
 
     def __init__(self, send: Callable[[Values], None]) -> None:
-        self._send, self._runs, self._next = send, 0, 0.0
+        self._send, self._numbers, self._next = send, itertools.count(1), 0.0
         self.is_asked_for = self._is_shown = False
-
-    @property
-    def name(self) -> str:
-        """The name of what goes on."""
-        return f"run {self._runs}"
+        self.name = ""
 
     def begin(self) -> None:
         """Something begins."""
-        self._runs += 1
+        self.name = f"run {next(self._numbers)}"
         self._next, self._is_shown = time.monotonic() + MOMENT, False
 
     def show(self, text: str) -> None:
