@@ -166,8 +166,7 @@ class Debugger:
 
     def shown(self, is_hex: bool = False) -> Shown:
         """What there is, to be shown as variables."""
-        look = self.look()
-        return Shown(look, look.place, self.shell.target.undone, is_hex)
+        return Shown(self.look(), self.shell.target.undone, is_hex)
 
     def changed(self) -> None:
         """Takes note that the target isn't as it was looked at."""

@@ -75,7 +75,6 @@ class Shown:
     """A look, and how numbers are shown."""
 
     look: Look
-    place: int
     undone: int
     is_hex: bool = False
 
@@ -144,7 +143,7 @@ def of_time(shown: Shown) -> List[Variable]:
     """The time, the cores, and where in the moves one is."""
     cores = shown.look.cores
     found = [
-        Variable("place", f"{shown.place}", expression="place"),
+        Variable("place", f"{shown.look.place}", expression="place"),
         Variable("undone", f"{shown.undone}"),
         Variable("tick", shown.number(cores.tick), watched="tick", expression="tick"),
         Variable("turn", str(cores.turn), expression="turn"),
