@@ -8,8 +8,7 @@ import unittest
 from typing import Callable, Dict, Iterator, List, Sequence, Set, Tuple
 
 from rdbg import replies
-from rdbg.adapter.pausing import Pause
-from rdbg.adapter.running import Runner
+from rdbg.adapter.running import Pause, Runner
 from rdbg.adapter.stops import Amount, Becomes, Begins, Content, Counted, Reaches, Stop, Where
 from rdbg.looks import Look
 from rdbg.goals.conditions import Condition

@@ -6,8 +6,7 @@ import time
 import unittest
 from typing import Any, Callable, List
 
-from rdbg.adapter.pausing import Pause
-from rdbg.adapter.running import Runner
+from rdbg.adapter.running import Pause, Runner
 from rdbg.adapter.stops import Amount, Becomes, Begins, Counted, Stop, Where
 from rdbg.goals.claims import ASLEEP, Holds, SomeFailed
 from rdbg.goals.conditions import Condition

@@ -86,7 +86,7 @@ class Everywhere(unittest.TestCase):
 
     def test_at_a_rooms_page(self) -> None:
         def told() -> Iterator[Tuple[str, str, str]]:
-            room = Room.open(load(FILE), sessions=4)
+            room = Room(load(FILE), sessions=4)
             pages = Pages(room)
             page = pages.open("ada")
             try:

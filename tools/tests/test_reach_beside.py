@@ -93,7 +93,7 @@ class Come(InFolder):
             self.assertFalse([it for it in errors if it in (WITH, WITHOUT)])
 
     def test_a_page_of_a_room(self) -> None:
-        room = Room.open(load(self.file), sessions=4)
+        room = Room(load(self.file), sessions=4)
         try:
             pages = Pages(room)
             page = pages.open("ada")

@@ -30,7 +30,7 @@ LOOKS = ("show cores", "show moves", "show task worker", "show queue jobs", "sho
 @contextlib.contextmanager
 def room(sessions: int = 4, path: str = LOST, limits: Limits = Limits()) -> Iterator[Room]:
     """A room, whose history is found right at its end."""
-    opened = Room.open(load(path), limits, sessions)
+    opened = Room(load(path), limits, sessions)
     try:
         yield opened
     finally:
@@ -175,7 +175,7 @@ class Names(unittest.TestCase):
             self.assertEqual(len(heard), 1)
 
     def test_a_room_that_has_ended(self) -> None:
-        here = Room.open(load(LOST), sessions=2)
+        here = Room(load(LOST), sessions=2)
         left, heard = come(here, "left")
         self.assertEqual([it.is_good for it in here.close()], [True])
         self.assertEqual(heard[-1], "# the room has ended: closed 4")
@@ -255,13 +255,13 @@ class Told(unittest.TestCase):
             left.ask("back 2")
             right, heard = come(here, "right")
             for _ in range(2):
-                before = here.free()
+                before = here._program.left()
                 heard.clear()
                 right.remark("# moves 3")
                 self.assertEqual(heard[0], "# .. 2 moves before these")
                 self.assertEqual([row[:3] for row in heard[1:4]], ["# 3", "# 4", "# 5"])
                 self.assertEqual(heard[4:], ["# at 5; `redo` can make 2 more"])
-            self.assertEqual(here.free(), before)
+            self.assertEqual(here._program.left(), before)
             self.assertEqual(left.ask("redo 2"), "ok at 7")
             left.ask("trim 2")
             right.remark("# moves")
@@ -304,13 +304,13 @@ class Memory(unittest.TestCase):
             left.ask("wheel take")
             lines = (*LOOKS, "show wheel", "show watches", "step 0", "watch w", "unwatch 3")
             for _ in range(2):
-                before = here.free()
+                before = here._program.left()
                 first = [right.ask(line) for line in lines]
-                taken = before - here.free()
+                taken = before - here._program.left()
             self.assertEqual(taken, 0)
             self.assertEqual([right.ask(line) for line in lines], first)
             self.assertEqual(left.ask("show cores"), first[0])
-            self.assertEqual(here.free(), before)
+            self.assertEqual(here._program.left(), before)
 
     def test_no_answer_is_stale(self) -> None:
         for seed in range(3):

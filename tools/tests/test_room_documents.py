@@ -18,7 +18,7 @@ class Together(unittest.TestCase):
     def test_the_afternoon(self) -> None:
         text = (DOCS / "TOGETHER.md").read_text()
         heard: List[str] = []
-        room = Room.open(load(LOST))
+        room = Room(load(LOST))
         members: Dict[str, Member] = {
             name: room.join(name.lower(), heard.append) for name in ("Ada", "Bo")
         }

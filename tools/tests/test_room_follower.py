@@ -134,13 +134,13 @@ class Shown:
             self._take(block)
         self.begun = min(self.at)
         while True:
-            before: Any = follower.before(min(self.at))
+            before: Any = follower.known.before(min(self.at))
             if not before:
                 break
             assert before["last"] == min(self.at), before
             self._take(before)
         while True:
-            behind: Any = follower.behind(max(self.at))
+            behind: Any = follower.known.behind(max(self.at))
             if not behind:
                 break
             assert behind["cut"] == max(self.at), behind

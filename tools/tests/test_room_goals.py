@@ -15,7 +15,7 @@ class Goals(unittest.TestCase):
 
     def said(self, file: str, *lines: str) -> List[str]:
         """The replies to lines that somebody types at a page."""
-        room = Room.open(load(file), sessions=4)
+        room = Room(load(file), sessions=4)
         try:
             pages = Pages(room)
             page = pages.open("ada")
@@ -101,7 +101,7 @@ class Goals(unittest.TestCase):
         self.assertEqual(expected, found)
 
     def test_others_are_told_of_one_line(self) -> None:
-        room = Room.open(load(LOST), sessions=4)
+        room = Room(load(LOST), sessions=4)
         try:
             heard: List[str] = []
             other = room.join("bo", heard.append)

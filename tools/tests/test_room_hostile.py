@@ -22,7 +22,7 @@ FEW = 100_000
 def served(sessions: int = 6) -> Iterator[Tuple[int, Room]]:
     """A room at a port in this process."""
     number = free_port()
-    room = Room.open(load(LOST), sessions=sessions)
+    room = Room(load(LOST), sessions=sessions)
     port = Port(room, listening(number))
     thread = threading.Thread(target=port.serve)
     thread.start()

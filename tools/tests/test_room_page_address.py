@@ -14,9 +14,7 @@ from unittest import mock
 
 from rdbg.client import LOCAL
 from rdbg.failure import Failure
-from rdbg.rooms.web_address import said
-from rdbg.rooms.web_guard import Denied
-from rdbg.rooms.web_key import Key
+from rdbg.rooms.web_guard import Denied, Key, said
 from tests.chromium import Browser
 from tests.paths import COMPANION
 from tests.rooms import LOST, free_port

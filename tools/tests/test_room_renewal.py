@@ -44,7 +44,7 @@ def taken(most: int) -> Iterator[List[int]]:
 def nearly_full(history: int) -> Iterator[Tuple[Member, List[str], Session]]:
     """Somebody at a room whose history has so many entries, what is heard there, and a program
     without a limit beside it."""
-    here = Room.open(load(LOST), Limits(1_000, history), sessions=3)
+    here = Room(load(LOST), Limits(1_000, history), sessions=3)
     heard: List[str] = []
     with Session.run(LOST) as alone:
         yield here.join("left", heard.append), heard, alone
@@ -143,7 +143,7 @@ class Renewal(unittest.TestCase):
             with mock.patch.object(host, "connected", silent):
                 with mock.patch.object(apart, "IS_TRIED", False):
                     thread = threading.Thread(
-                        target=lambda: found.append(Room.open(load(LOST), sessions=3)), daemon=True
+                        target=lambda: found.append(Room(load(LOST), sessions=3)), daemon=True
                     )
                     thread.start()
                     thread.join(PATIENCE)

@@ -168,7 +168,7 @@ class Doings(unittest.TestCase):
         kept = talk()
         self.file = kept.__enter__()
         self.addCleanup(kept.__exit__, None, None, None)
-        self.room = Room.open(load(LOST), sessions=4, talk=Talk(str(self.file)))
+        self.room = Room(load(LOST), sessions=4, talk=Talk(str(self.file)))
         self.addCleanup(self.room.close)
         self.own: List[str] = []
         self.ada = self.room.join("ada", self.own.append)

@@ -17,7 +17,7 @@ from tests.rooms import LOST, until
 @contextlib.contextmanager
 def page_of(path: str = LOST) -> Iterator[Tuple[Room, Page, Member, List[str]]]:
     """A room with a page, and somebody beside it with what that one hears."""
-    room, heard = Room.open(load(path), sessions=4), []  # type: Tuple[Room, List[str]]
+    room, heard = Room(load(path), sessions=4), []  # type: Tuple[Room, List[str]]
     try:
         other = room.join("bo", heard.append)
         pages = Pages(room)
@@ -167,7 +167,7 @@ class Reloaded(unittest.TestCase):
             self.assertEqual([], [it for it in heard if "anew" in it])
 
     def test_pages_are_loaded_anew(self) -> None:
-        room = Room.open(load(str(self.path)), sessions=6)
+        room = Room(load(str(self.path)), sessions=6)
         served = web.serve(room, 0)
         try:
             page = served.pages.open("ada")

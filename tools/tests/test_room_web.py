@@ -27,7 +27,7 @@ PATIENCE = 30.0
 @contextlib.contextmanager
 def served(sessions: int = 20) -> Iterator[Served]:
     """A room whose page is served; its audit is good at the end."""
-    room = Room.open(load(LOST), sessions=sessions)
+    room = Room(load(LOST), sessions=sessions)
     found = web.serve(room, 0)
     try:
         yield found
@@ -395,7 +395,7 @@ class Lines(unittest.TestCase):
             )
 
     def test_the_room_ends(self) -> None:
-        room = Room.open(load(LOST), sessions=4)
+        room = Room(load(LOST), sessions=4)
         here = web.serve(room, 0)
         with page(here) as (raw, key):
             said(here, "line", page=key, line="forward 5")
@@ -408,10 +408,10 @@ class Lines(unittest.TestCase):
             Raw(here)
 
     def test_a_program_that_has_ended(self) -> None:
-        room = Room.open(load(LOST), sessions=4)
+        room = Room(load(LOST), sessions=4)
         here = web.serve(room, 0)
         with page(here) as (_, key):
-            room._program._host._process.kill()
+            room._program.host._process.kill()
             answer = said(here, "line", page=key, line="step 0")
             self.assertEqual(["ended"], list(answer), answer)
         room.kill()
@@ -428,7 +428,7 @@ class Lines(unittest.TestCase):
             here.close()
             raw.expect("end")
             self.assertEqual(b"", raw.rest())
-        again = Room.open(load(LOST), sessions=4)
+        again = Room(load(LOST), sessions=4)
         try:
             pages = web.serve(again, port)
             self.assertEqual(200, status(got(pages, "/")))
@@ -542,7 +542,7 @@ class Hostile(unittest.TestCase):
                 left.expect("notice", "forward 3 -> ok at 3")
 
     def test_notices_that_are_too_many(self) -> None:
-        room = Room.open(load(LOST), sessions=4)
+        room = Room(load(LOST), sessions=4)
         pages = web_pages.Pages(room)
         followed = Follower(room, pages.tell)
         try:

@@ -18,7 +18,7 @@ Who = Tuple[Member, List[str]]
 @contextlib.contextmanager
 def together(*names: str) -> Iterator[Tuple[Room, Dict[str, Who]]]:
     """A room with these people, each with what it hears from now on."""
-    room = Room.open(load(LOST), sessions=4)
+    room = Room(load(LOST), sessions=4)
     try:
         found: Dict[str, Who] = {}
         for name in names:

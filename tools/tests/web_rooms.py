@@ -79,7 +79,7 @@ def session(room: WebRoom, name: str) -> Iterator[Session]:
 def in_process(path: str) -> Iterator[Tuple[Room, str]]:
     """A room with a page in this process, and the address of its page; its audit is good at the
     end."""
-    room = Room.open(load(path), sessions=6)
+    room = Room(load(path), sessions=6)
     pages = web.serve(room, 0)
     try:
         yield room, pages.address

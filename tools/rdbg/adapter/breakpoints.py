@@ -98,15 +98,17 @@ def arrival(spot: Spot) -> Stop:
 
 
 def named(shell: Shell, text: Text, name: str) -> List[Stop]:
-    """What a name stands for: a goal, that one is lost, a task's place, or what FreeRTOS calls
-    one."""
+    """What a name stands for: a goal, that one is lost, a task's place, or a call of FreeRTOS."""
     words = name.replace(":", " ").split()
     if not words:
         raise Wrong("a condition, as count jobs > 0, or send, xQueueSend, worker 2")
     if words[0] in reading.OF_MOVES:
         return [of_move(shell, words)]
     if words[0] == LOST.word and LOST.word not in shell.target.names.tasks:
-        return [Loses(shell, goal_in(shell, lost_goal(shell, words)))]
+        goal = " ".join(words[1:]) or shell.goal
+        if not goal:
+            raise Wrong(shell.in_its_names(LOST.lacks_goal("worker")))
+        return [Loses(shell, goal_in(shell, goal))]
     if words[0] in shell.target.names.tasks and len(words) <= 2:
         number = words[1] if words[1:] else "0"
         spot = text.of(words[0], int(number)) if commands.is_number(number) else None
@@ -115,14 +117,6 @@ def named(shell: Shell, text: Text, name: str) -> List[Stop]:
         return [arrival(spot)]
     calls = [spot for spot in text.spots if is_call(spot, words)]
     return [arrival(spot) for spot in calls] or [becoming(goal_in(shell, name))]
-
-
-def lost_goal(shell: Shell, words: Sequence[str]) -> str:
-    """The goal behind `lost`, or the one before. Raises `Wrong` where there is none."""
-    text = " ".join(words[1:]) or shell.goal
-    if not text:
-        raise Wrong(shell.in_its_names(LOST.lacks_goal("worker")))
-    return text
 
 
 def is_call(spot: Spot, words: Sequence[str]) -> bool:
@@ -151,8 +145,8 @@ class Breakpoints:
     def __init__(self) -> None:
         self._count = 0
         self._of: Dict[str, List[Breakpoint]] = {}
-        # What was asked for last, to be looked at anew where the file is another.
-        self._asked: Dict[str, Sequence[Arguments]] = {}
+        # What was asked for last, with its number, to be looked at anew where the file is another.
+        self._asked: Dict[str, List[Tuple[int, Arguments]]] = {}
         self.failures = [name for name, (_, is_on) in FAILURES.items() if is_on]
 
     def all(self) -> List[Breakpoint]:
@@ -167,19 +161,17 @@ class Breakpoints:
         """Sets all of a kind."""
         if len(asked) > MOST:
             raise Wrong(f"there are {len(asked)} breakpoints; {MOST} are looked at")
-        numbers = range(self._count + 1, self._count + 1 + len(asked))
+        self._asked[kind] = list(enumerate(asked, self._count + 1))
         self._count += len(asked)
-        self._asked[kind] = asked
-        return self._made(kind, shell, text, numbers)
+        return self._made(kind, shell, text)
 
     def again(self, shell: Shell, text: Text) -> List[Values]:
         """All of them, each with its number, for a target and a text that are others now."""
-        numbers = {kind: [it.number for it in self._of[kind]] for kind in self._asked}
-        return [value for it in numbers for value in self._made(it, shell, text, numbers[it])]
+        return [value for kind in self._asked for value in self._made(kind, shell, text)]
 
-    def _made(self, kind: str, shell: Shell, text: Text, numbers: Sequence[int]) -> List[Values]:
+    def _made(self, kind: str, shell: Shell, text: Text) -> List[Values]:
         found: List[Breakpoint] = []
-        for asked, number in zip(self._asked[kind], numbers):
+        for number, asked in self._asked[kind]:
             try:
                 found.append(MAKERS[kind](shell, text, asked, number))
             except Wrong as wrong:
@@ -188,14 +180,12 @@ class Breakpoints:
         self._of[kind] = found
         return [it.value for it in found]
 
-    def put_lines(
-        self, shell: Shell, text: Text, source: Arguments, given: Arguments
-    ) -> List[Values]:
+    def put_lines(self, shell: Shell, text: Text, given: Arguments) -> List[Values]:
         """Sets the breakpoints at lines of a source."""
         asked = given.parts("breakpoints")
         if not given.has("breakpoints"):
             asked = [Arguments({"line": it}, "setBreakpoints.lines") for it in given.all("lines")]
-        if text.is_named(source):
+        if text.is_named(given.part("source")):
             return self.put(LINE, shell, text, asked)
         found = "no file is known here" if text.source is None else f"it isn't {text.source.path}"
         return [{"verified": False, "message": found} for _ in asked]
@@ -209,15 +199,14 @@ def told(number: int, said: str) -> Values:
 def at_line(shell: Shell, text: Text, given: Arguments, number: int) -> Breakpoint:
     """A breakpoint at a line, and a column where one is given."""
     log = given.text("logMessage", "").strip()
-    spot = text.found(text.line_in(given), text.column_in(given))
+    column = given.number("column") + 1 - text.first_column if given.has("column") else None
+    spot = text.found(text.line_in(given), column)
     spots = text.same(spot)
     for each in {it.task for it in spots}:
         names.check(shell, log, each)
     stops = tuple(limited(shell, arrival(it), given) for it in spots)
     value = {**told(number, "; ".join(map(str, spots))), **text.place(spot)}
-    source = text.value()
-    if source is not None:
-        value["source"] = source
+    value["source"] = text.value()
     return Breakpoint(number, LINE, stops, value, tuple(spots), log)
 
 

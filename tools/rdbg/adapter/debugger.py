@@ -1,8 +1,9 @@
 """What is debugged for one editor: the target with its threads, sources and breakpoints, how it is
 moved, and what the editor is told of it."""
 import contextlib
+import itertools
 import time
-from typing import Any, Callable, Dict, Iterator, List, Optional, Sequence, Tuple
+from typing import Callable, Dict, Iterator, List, Optional, Sequence, Tuple
 
 from rdbg import record, replies
 from rdbg.adapter.breakpoints import Breakpoint, Breakpoints, wrong_line
@@ -10,8 +11,7 @@ from rdbg.adapter.hearing import MOVED, Hearing
 from rdbg.adapter.known import Facts
 from rdbg.adapter.losing import Loses, listen
 from rdbg.adapter.messages import Arguments, Values, Wrong, event
-from rdbg.adapter.pausing import Pause
-from rdbg.adapter.running import Outcome, PacedRunner, Runner
+from rdbg.adapter.running import Outcome, PacedRunner, Pause, Runner
 from rdbg.adapter.sources import Spot, Text
 from rdbg.adapter.stops import Becomes, Begins, Stop
 from rdbg.adapter.threads import TIME, Threads
@@ -34,17 +34,13 @@ class Progress:
     """How far the run is that goes on. An editor ends it by its name."""
 
     def __init__(self, send: Callable[[Values], None]) -> None:
-        self._send, self._runs, self._next = send, 0, 0.0
+        self._send, self._numbers, self._next = send, itertools.count(1), 0.0
         self.is_asked_for = self._is_shown = False
-
-    @property
-    def name(self) -> str:
-        """The name of what goes on."""
-        return f"run {self._runs}"
+        self.name = ""
 
     def begin(self) -> None:
         """Something begins."""
-        self._runs += 1
+        self.name = f"run {next(self._numbers)}"
         self._next, self._is_shown = time.monotonic() + MOMENT, False
 
     def show(self, text: str) -> None:
@@ -125,8 +121,7 @@ class Debugger:
     @property
     def own_name(self) -> Optional[str]:
         """The name by which a room knows this session; none where it is at no room."""
-        session: Any = self._shell.target.session if self._shell else None
-        return getattr(session, "name", None)
+        return self._shell.target.session.name if self._shell else None
 
     def standing(self) -> None:
         """Raises `Wrong` while the target runs, or before there is one."""
@@ -135,12 +130,10 @@ class Debugger:
 
     def take(self, shell: Shell) -> None:
         """Goes on with this shell and its file."""
-        first, column = self.text.first_line, self.text.first_column
         self._shell = shell
         Facts.of(shell.walk)  # (which hears of all moves from here on)
         listen(shell)
-        self.text = Text(shell.source)
-        self.text.count_from(first, column)
+        self.text = Text(shell.source, self.text.first_line, self.text.first_column)
         self.threads.learn(shell.target.names.tasks)
         self._seen = None
 
@@ -157,11 +150,9 @@ class Debugger:
         drift, target.drift = target.drift, None
         if drift is not None:
             self._seen = None
-        if self.own_name is not None:
-            return  # (what moved it was told)
-        if drift is not None and drift[0] != drift[1]:
-            self._seen = None
-            self.say(f"others have moved the target: {drift[0]} -> {drift[1]}")
+            # (in a room, what moved it was told)
+            if self.own_name is None and drift[0] != drift[1]:
+                self.say(f"others have moved the target: {drift[0]} -> {drift[1]}")
 
     def look(self) -> Look:
         """What there is, looked at once as long as nothing moves."""
@@ -175,8 +166,7 @@ class Debugger:
 
     def shown(self, is_hex: bool = False) -> Shown:
         """What there is, to be shown as variables."""
-        look = self.look()
-        return Shown(look, look.place, self.shell.target.undone, is_hex)
+        return Shown(self.look(), self.shell.target.undone, is_hex)
 
     def changed(self) -> None:
         """Takes note that the target isn't as it was looked at."""
@@ -192,10 +182,9 @@ class Debugger:
     def say_at(self, text: str, spot: Optional[Spot], category: str = "stdout") -> None:
         """A line of output, with the place that it is of."""
         body: Values = {"category": category, "output": f"{text}\n"}
-        source = self.text.value()
-        if spot is not None and source is not None:
+        if spot is not None:
             place = self.text.place(spot)
-            body.update({"source": source, "line": place["line"], "column": place["column"]})
+            body.update(source=self.text.value(), line=place["line"], column=place["column"])
         self.send(event("output", body))
 
     @contextlib.contextmanager
@@ -220,15 +209,11 @@ class Debugger:
         """The session's watches, which were made by typing."""
         found: List[Stop] = []
         for number, text in sorted(self.shell.target.watches.items()):
-            key = watch_text(number, text)
+            key = f"w{number}, {text}"
             condition = conditions.read(text.split())
             if condition is not None:
                 found.append(self._watches.setdefault(key, Becomes(condition, key)))
         return found
-
-    def of(self, stop: Stop) -> Optional[Breakpoint]:
-        """The breakpoint that a stop belongs to."""
-        return next((it for it in self.breakpoints.all() if stop in it.stops), None)
 
     def runner(self, stops: Callable[[], List[Stop]]) -> Runner:
         """What runs to some stops."""
@@ -295,13 +280,11 @@ class Debugger:
                 self.say(move.row(len(str(here))), move)
                 self._last = move
 
-    def mover(self, default: Optional[int] = None) -> int:
-        """The thread that made the last move; another where no task did."""
-        known = self._last if self._last and self._last.place == self.shell.target.place else None
-        moves = (known,) if known else self.last_moves(1)
-        if moves and moves[0].task:
-            return self.threads.number(moves[0].task)
-        return self.focus if default is None else default
+    def mover(self) -> int:
+        """The thread that made the last move; the one that stopped last where no task did."""
+        is_known = self._last is not None and self._last.place == self.shell.target.place
+        last = self._last if is_known else next(iter(self.last_moves(1)), None)
+        return self.threads.number(last.task) if last and last.task else self.focus
 
     def stopped(
         self, reason: str, description: str, thread: int, hit: Sequence[Breakpoint] = ()
@@ -309,7 +292,7 @@ class Debugger:
         """Tells the editor that the target stands, and why."""
         self.focus = thread
         body: Values = {"reason": reason, "description": description, "threadId": thread}
-        body.update({"text": description, "allThreadsStopped": True, "preserveFocusHint": False})
+        body.update(text=description, allThreadsStopped=True, preserveFocusHint=False)
         if hit:
             body["hitBreakpointIds"] = [it.number for it in hit]
         self.waiting.append(event("stopped", body))
@@ -323,8 +306,7 @@ class Debugger:
 
     def went(self) -> None:
         """Tells the editor that the target went on, so that it follows to where it stops."""
-        body: Values = {"threadId": self.focus, "allThreadsContinued": True}
-        self.send(event("continued", body))
+        self.send(event("continued", {"threadId": self.focus, "allThreadsContinued": True}))
 
     def restarted(self, where: str) -> None:
         """Says what has become of the breakpoints in the file as it is now, and stops."""
@@ -355,8 +337,7 @@ class Debugger:
             self.stopped("pause", others, self.focus)
 
     def still(self) -> None:
-        """Tells the editor that the target stands where it stood: once it has asked for a move, it
-        may think that it runs."""
+        """Tells an editor that has asked for a move that the target stands where it stood."""
         if self.is_configured and self.has_shell and not self.is_running and not self.is_done:
             self.stopped("pause", f"still at {self.shell.target.place}", self.focus)
 
@@ -402,7 +383,7 @@ class Debugger:
             "paused": "paused",
         }
         reason = "entry" if outcome.how == "start" else "pause"
-        self.stopped(reason, f"at {here}: {texts[outcome.how]}", self.mover(self.focus))
+        self.stopped(reason, f"at {here}: {texts[outcome.how]}", self.mover())
 
     def _ending(self) -> str:
         """Why nothing goes on, where that is so, and the goal that this is."""
@@ -414,7 +395,6 @@ class Debugger:
         return f"{Stuck().text}: no task waits, and one has failed at the least"
 
     def _tell_met(self, met: Sequence[Stop]) -> None:
-        """Stops at what was met."""
         failures = [name for name, stop in self.begins.items() if stop in met]
         points = [it for it in self.breakpoints.all() if not it.log]
         hit = [it for it in points if any(stop in met for stop in it.stops)]
@@ -432,7 +412,7 @@ class Debugger:
         self.stopped(reason, f"at {self.shell.target.place}: {text}", thread, hit)
         texts = {stop.text for stop in met}
         watches = self.shell.target.watches.items()
-        self.shell.drop_temporary([it for it, goal in watches if watch_text(it, goal) in texts])
+        self.shell.drop_temporary([it for it, goal in watches if f"w{it}, {goal}" in texts])
 
     def end(self) -> None:
         """Ends the program, and tells the editor so."""
@@ -451,8 +431,3 @@ class Debugger:
 
 # What a request does; its answer has the values, if any.
 Request = Callable[[Debugger, Arguments], Optional[Values]]
-
-
-def watch_text(number: int, text: str) -> str:
-    """What a stop at a watch says."""
-    return f"w{number}, {text}"

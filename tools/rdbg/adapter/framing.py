@@ -4,6 +4,7 @@ import re
 import threading
 from typing import IO, Any, Dict, Optional
 
+from rdbg.adapter.messages import Unreadable
 from rdbg.door import is_of_a_browser
 
 # A line of a header, and a message, have at most so many bytes.
@@ -15,10 +16,6 @@ MOST_END = 64
 OF_A_BROWSER = re.compile(rb"(Host|Origin|Referer|Cookie):", re.IGNORECASE)
 
 
-class Broken(Exception):
-    """Why bytes are no frame, in a sentence. What comes behind them can still be read."""
-
-
 class Frames:
     """The frames of a stream, one after the other."""
 
@@ -28,15 +25,15 @@ class Frames:
         self._length: Optional[int] = None
 
     def read(self) -> Optional[bytes]:
-        """The next message, or none at the end. Raises `Broken` for bytes that are no frame, and
-        goes on behind them when it is called again."""
+        """The next message, or none at the end. Raises `Unreadable` for bytes that are no frame,
+        and goes on behind them when it is called again."""
         try:
             length, self._length = self._length, None
-            if length is None:
-                length = self._header()
-            return None if length is None else self._body(length)
+            length = self._header() if length is None else length
+            body = b"" if length is None else self._stream.read(length)
         except (OSError, ValueError):
             return None
+        return body if len(body) == length else None
 
     def _header(self) -> Optional[int]:
         """The length that the next header says."""
@@ -56,12 +53,12 @@ class Frames:
             elif length is not None:
                 break
             elif wrong:
-                raise Broken(wrong)
+                raise Unreadable(wrong)
         if length > MOST_BODY:
-            raise Broken(f"a message has at most {MOST_BODY} bytes; this one says {length}")
+            raise Unreadable(f"a message has at most {MOST_BODY} bytes; this one says {length}")
         if wrong:
             self._length = length
-            raise Broken(wrong)
+            raise Unreadable(wrong)
         return length
 
     def _line(self) -> bytes:
@@ -72,16 +69,6 @@ class Frames:
             piece = self._stream.readline(MOST_LINE)
             end = (end + piece)[-MOST_END:]
         return line + end
-
-    def _body(self, length: int) -> Optional[bytes]:
-        """So many bytes; none where the stream ends before."""
-        body = b""
-        while len(body) < length:
-            piece = self._stream.read(length - len(body))
-            if not piece:
-                return None
-            body += piece
-        return body
 
 
 def of_line(text: bytes) -> str:

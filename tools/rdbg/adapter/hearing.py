@@ -3,7 +3,7 @@ import contextlib
 import re
 import select
 import threading
-from typing import Any, Callable, Optional
+from typing import Callable
 
 from rdbg.client import Session
 
@@ -17,13 +17,9 @@ class Hearing:
     """Waits for what comes by a session's connection, in a thread of its own."""
 
     def __init__(self, session: Session, came: Callable[[], None]) -> None:
-        self._session: Any = session
-        self._came, self._done = came, threading.Event()
-        self._handled = threading.Event()
-        self._number: Optional[int] = getattr(session, "waited_for", lambda: None)()
-
-    def begin(self) -> None:
-        """Begins to wait, where there is something to wait for."""
+        self._session, self._came = session, came
+        self._done, self._handled = threading.Event(), threading.Event()
+        self._number = session.waited_for()
         if self._number is not None:
             threading.Thread(target=self._wait, daemon=True).start()
 

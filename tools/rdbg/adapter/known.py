@@ -81,7 +81,8 @@ class Facts:
         self._target = target
         target.hearing.append(self._seen)
         self._met: Dict[Hashable, Met] = {}
-        self._runs = Stretches()
+        # Where a run makes just the moves that there are.
+        self.runs = Stretches()
 
     @classmethod
     def of(cls, walk: Walk) -> "Facts":
@@ -102,11 +103,7 @@ class Facts:
     def forget(self) -> None:
         """Forgets all, where others may have moved the target."""
         self._met.clear()
-        self._runs = Stretches()
-
-    def would_come_again(self, low: int, high: int) -> bool:
-        """Whether a run from `low` makes just the moves that lead to `high`."""
-        return self._runs.end(low) >= high
+        self.runs = Stretches()
 
     def _seen(self, line: str, reply: str, before: int) -> None:
         word = line.split(" ", 1)[0]
@@ -116,12 +113,12 @@ class Facts:
             self._cut(before)
         elif word in RUNS:
             # (from here a run makes the moves that a run has made here)
-            self._cut(self._runs.end(before))
-            self._runs.add(before, self._target.place)
+            self._cut(self.runs.end(before))
+            self.runs.add(before, self._target.place)
 
     def _cut(self, place: int) -> None:
         """Forgets what was known of moves that are others now."""
-        self._runs.cut(place)
+        self.runs.cut(place)
         for met in self._met.values():
             met.cut(place)
 

@@ -41,33 +41,28 @@ class Editors:
         self._door, self._silent = door, Unheard(MOST_SILENT, SECONDS)
         self._guard = threading.Lock()
         self._served: Set[socket.socket] = set()
-        self._has_said = False
 
     def serve(self, listening: socket.socket) -> None:
         """Takes connections, for ever."""
         listening.settimeout(TURN)
+        has_said = False
         while True:
             self._silent.drop_late()
             try:
                 connection, _ = listening.accept()
             except OSError:
                 continue  # (nobody came, or one who has gone)
-            if self._is_let_in(connection):
+            why = self._door.why_not(connection, "this adapter")
+            if not why:
                 self._silent.add(connection)
                 threading.Thread(target=self._serve, args=(connection,), daemon=True).start()
-
-    def _is_let_in(self, connection: socket.socket) -> bool:
-        """Whether a connection is let in. One that isn't is closed; of the first it is said why."""
-        why = self._door.why_not(connection, "this adapter")
-        if why:
+                continue
             turn_away(connection)
-            if not self._has_said:
-                self._has_said = True
+            if not has_said:
+                has_said = True
                 print(f"rdbg dap: a connection was closed: {why}", file=sys.stderr, flush=True)
-        return not why
 
     def _serve(self, connection: socket.socket) -> None:
-        """Serves one editor."""
         try:
             with connection, connection.makefile("rb") as lines, connection.makefile("wb") as out:
                 try:

@@ -1,5 +1,6 @@
 """Requests that look: threads, frames, variables, the text, expressions; and those that set a
 variable or breakpoints, and say where there can be some."""
+import functools
 from typing import Dict, Optional
 
 from rdbg.adapter import names
@@ -119,9 +120,10 @@ def source(it: Debugger, given: Arguments) -> Optional[Values]:
     """`source`: the text of an application that is in no file."""
     asked = given.part("source")
     number = asked.number("sourceReference", 0) or given.number("sourceReference", 0)
-    if number != REFERENCE or not it.text.is_generated:
+    text = it.text.source
+    if number != REFERENCE or text is None or not it.text.is_generated:
         raise Wrong(f"there is no text {number}")
-    return {"content": it.text.content(), "mimeType": "text/plain"}
+    return {"content": text.text, "mimeType": "text/plain"}
 
 
 def sources(it: Debugger, given: Arguments) -> Optional[Values]:
@@ -170,19 +172,9 @@ LOOKING: Dict[str, Request] = {
 }
 
 
-def in_source(it: Debugger, given: Arguments) -> Optional[Values]:
-    """`setBreakpoints`."""
-    return {"breakpoints": it.breakpoints.put_lines(it.shell, it.text, given.part("source"), given)}
-
-
-def by_name(it: Debugger, given: Arguments) -> Optional[Values]:
-    """`setFunctionBreakpoints`: a condition, a goal, an instruction or what FreeRTOS calls one."""
-    return {"breakpoints": it.breakpoints.put(NAME, it.shell, it.text, given.parts("breakpoints"))}
-
-
-def on_data(it: Debugger, given: Arguments) -> Optional[Values]:
-    """`setDataBreakpoints`."""
-    return {"breakpoints": it.breakpoints.put(DATA, it.shell, it.text, given.parts("breakpoints"))}
+def all_of(kind: str, it: Debugger, given: Arguments) -> Optional[Values]:
+    """`setFunctionBreakpoints`, by names, and `setDataBreakpoints`."""
+    return {"breakpoints": it.breakpoints.put(kind, it.shell, it.text, given.parts("breakpoints"))}
 
 
 def on_failures(it: Debugger, given: Arguments) -> Optional[Values]:
@@ -207,13 +199,12 @@ def locations(it: Debugger, given: Arguments) -> Optional[Values]:
 
 def data_info(it: Debugger, given: Arguments) -> Optional[Values]:
     """`dataBreakpointInfo`: whether a variable can be watched."""
-    name = given.text("name")
-    variable: Optional[Variable]
-    if given.number("variablesReference", 0):
-        path = it.references.path(given.number("variablesReference"))
-        variable = named(it.shown(), path, name)
-    else:
-        variable = names.found(it.shown(), it.threads.task(it.focus), name)
+    name, number = given.text("name"), given.number("variablesReference", 0)
+    variable = (
+        named(it.shown(), it.references.path(number), name)
+        if number
+        else names.found(it.shown(), it.threads.task(it.focus), name)
+    )
     watched = variable.watched if variable else ""
     if variable and variable.within and variable.within[0] == "object":
         watched = f"changes {' '.join(variable.within[1:])}"
@@ -228,9 +219,11 @@ def data_info(it: Debugger, given: Arguments) -> Optional[Values]:
 
 
 SETTING: Dict[str, Request] = {
-    "setBreakpoints": in_source,
-    "setFunctionBreakpoints": by_name,
-    "setDataBreakpoints": on_data,
+    "setBreakpoints": lambda it, given: {
+        "breakpoints": it.breakpoints.put_lines(it.shell, it.text, given)
+    },
+    "setFunctionBreakpoints": functools.partial(all_of, NAME),
+    "setDataBreakpoints": functools.partial(all_of, DATA),
     "setExceptionBreakpoints": on_failures,
     "breakpointLocations": locations,
     "dataBreakpointInfo": data_info,

@@ -1,9 +1,5 @@
-"""A stop where a goal is lost for good: no order of moves, of whatever length, leads there any
-more.
-
-It is asked of the program that searches, at few places, since what was lost stays so. Where an
-editor has rdbg start at a goal's name, as its breakpoints by name let it, `lost GOAL` is one of
-these."""
+"""A stop where a goal is lost for good: no order of moves leads there any more. It is asked of the
+program that searches, at few places, since what was lost stays so."""
 import time
 import weakref
 from typing import Dict, Hashable, List, Optional, Sequence, Tuple
@@ -37,18 +33,14 @@ class Lines:
     def __init__(self, target: Target, before: Sequence[str]) -> None:
         self._journal = Journal()
         for place, line in enumerate(before, 1):
-            self._take(line, replies.Moved(place))
+            self._seen(line, f"ok at {place}", place - 1)
         target.hearing.append(self._seen)
 
     def _seen(self, line: str, reply: str, before: int) -> None:
         value = read(reply) if reply.startswith("ok at ") else None
-        if isinstance(value, replies.Moved):
-            self._take(line, value)
-
-    def _take(self, line: str, moved: replies.Moved) -> None:
         command = commands.read(line)
-        if command is not None:
-            self._journal.moved(command, moved)
+        if isinstance(value, replies.Moved) and command is not None:
+            self._journal.moved(command, value)
 
     def now(self) -> Tuple[str, ...]:
         """They. (Behind a trim `back` leads less far, but the target stands where it stood.)"""

@@ -16,7 +16,8 @@ class Wrong(Exception):
 
 
 class Unreadable(Exception):
-    """A message that is no request; with its number and command where these can be read."""
+    """Bytes that are no message, behind which others can still be read, or a message that is no
+    request; with its number and command where these can be read."""
 
     def __init__(self, message: str, seq: int = 0, command: str = "") -> None:
         super().__init__(message)
@@ -102,21 +103,19 @@ class Arguments:
 
     def parts(self, key: str) -> List["Arguments"]:
         """A list of objects; an empty one where it is absent."""
-        values = self._get(key, list, [])
-        if not all(isinstance(each, dict) for each in values):
-            raise Wrong(f"{self._of}: {key} must be a list of objects")
-        return [Arguments(each, f"{self._of}.{key}[{at}]") for at, each in enumerate(values)]
+        values = enumerate(self.all(key, dict, "objects"))
+        return [Arguments(each, f"{self._of}.{key}[{at}]") for at, each in values]
 
-    def all(self, key: str) -> List[Any]:
-        """A list of whatever; an empty one where it is absent."""
-        return self._get(key, list, [])
+    def all(self, key: str, kind: type = object, kinds: str = "") -> List[Any]:
+        """A list of what is of a kind, which is called so; an empty one where it is absent."""
+        values = self._get(key, list, [])
+        if not all(isinstance(each, kind) for each in values):
+            raise Wrong(f"{self._of}: {key} must be a list of {kinds}")
+        return values
 
     def texts(self, key: str) -> List[str]:
         """A list of texts; an empty one where it is absent."""
-        values: List[str] = self._get(key, list, [])
-        if not all(isinstance(each, str) for each in values):
-            raise Wrong(f"{self._of}: {key} must be a list of texts")
-        return values
+        return self.all(key, str, "texts")
 
 
 @dataclasses.dataclass(frozen=True)
@@ -133,40 +132,31 @@ def whole(text: str) -> Any:
     return int(text) if len(text) <= MOST_DIGITS else Long()
 
 
-def constant(text: str) -> Any:
-    """NaN and its kin, which JSON doesn't have."""
-    raise ValueError(text)
-
-
 def read(body: bytes) -> Request:
     """The request that a message is. Raises `Unreadable` where it is none."""
     try:
-        value = clean(json.loads(body.decode("utf-8"), parse_int=whole, parse_constant=constant))
+        # (NaN and its kin, which JSON doesn't have, are no whole numbers either)
+        value = clean(json.loads(body.decode("utf-8"), parse_int=whole, parse_constant=int))
     except (ValueError, RecursionError):
         raise Unreadable("the message is no JSON") from None
     if not isinstance(value, dict):
         raise Unreadable("the message is no object")
     seq, command = value.get("seq"), value.get("command")
-    number = seq if isinstance(seq, int) and not isinstance(seq, bool) else 0
+    is_number = isinstance(seq, int) and not isinstance(seq, bool)
+    number: int = value["seq"] if is_number else 0
     name = command if isinstance(command, str) else ""
     if isinstance(seq, Long):
         raise Unreadable(f"the message is no JSON that is read: its seq is {kind_of(seq)}", 0, name)
     if value.get("type") != "request":
         raise Unreadable("the message is no request: its type is another", number, name)
     if not name or seq is None or number != seq:
-        raise Unreadable(numbered(seq), number, name)
+        said = "a request has a number as seq, and a text as command"
+        more = "" if is_number else f"; its seq must be {unlike(int, seq)}"
+        raise Unreadable(said + more, number, name)
     arguments = {} if value.get("arguments") is None else value["arguments"]
     if not isinstance(arguments, dict):
         raise Unreadable(f"{name}: arguments must be an object", number, name)
     return Request(number, name, Arguments(arguments, name))
-
-
-def numbered(seq: Any) -> str:
-    """What a request has, and what seq is where it is no number."""
-    said = "a request has a number as seq, and a text as command"
-    if isinstance(seq, int) and not isinstance(seq, bool):
-        return said
-    return f"{said}; its seq must be {unlike(int, seq)}"
 
 
 def event(name: str, body: Values) -> Values:
@@ -177,21 +167,12 @@ def event(name: str, body: Values) -> Values:
 def done(request: Request, body: Optional[Values]) -> Values:
     """The answer to a request that was done."""
     found: Values = {"type": "response", "request_seq": request.seq, "success": True}
-    found["command"] = request.command
-    if body is not None:
-        found["body"] = body
-    return found
+    return {**found, "command": request.command, **({} if body is None else {"body": body})}
 
 
 def failed(seq: int, command: str, why: str) -> Values:
     """The answer to a request that wasn't done, which an editor shows."""
     # (in a format braces would stand for variables)
     error = {"id": 1, "format": why.replace("{", "(").replace("}", ")"), "showUser": True}
-    return {
-        "type": "response",
-        "request_seq": seq,
-        "success": False,
-        "command": command,
-        "message": why,
-        "body": {"error": error},
-    }
+    found: Values = {"type": "response", "request_seq": seq, "success": False, "command": command}
+    return {**found, "message": why, "body": {"error": error}}

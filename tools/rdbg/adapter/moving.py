@@ -1,7 +1,6 @@
 """Requests that move the target, both ways, a move or to where something is met; what log points
 say where they are met, and `evaluate`, by which lines are typed."""
 import contextlib
-import dataclasses
 import re
 from typing import Callable, Dict, List, Optional, Sequence
 
@@ -13,12 +12,10 @@ from rdbg.adapter.looking import value_of
 from rdbg.adapter.messages import Arguments, Values, Wrong
 from rdbg.adapter.printing import gathered, text_of
 from rdbg.adapter.running import Outcome, Runner
-from rdbg.adapter.sources import Spot
 from rdbg.adapter.stops import Amount, Stop
 from rdbg.adapter.threads import TIME
 from rdbg.driving import trail
 from rdbg.driving.target import Unable
-from rdbg.effects import Move
 from rdbg.replies import Refused
 from rdbg.shell.steps import why_on_none
 
@@ -47,54 +44,43 @@ def tell(it: Debugger, met: Sequence[Stop]) -> bool:
     return bool(told_of) and all(stop in told_of for stop in met)
 
 
-def tell_here(it: Debugger) -> None:
-    """Says what log points say that the move to this place has met."""
-    stops = [stop for point in it.breakpoints.logs() for stop in point.stops]
-    if stops:
-        tell(it, it.runner(lambda: stops).met().met)
+# How a run goes, and at what it stops.
+Run = Callable[[Runner], Outcome]
+Stops = Callable[[], List[Stop]]
 
 
-@dataclasses.dataclass(frozen=True)
-class Going:
-    """A run: how it goes, at what it stops, and in which thread where nothing is met."""
-
-    run: Callable[[Runner], Outcome]
-    stops: Callable[[], List[Stop]]
-    thread: Optional[int] = None
-
-
-def begin_run(it: Debugger, going: Going) -> None:
-    """Takes the wheel, and lets the target run once the request was answered."""
+def begin_run(it: Debugger, run: Run, stops: Stops, thread: Optional[int] = None) -> None:
+    """Takes the wheel, and lets the target run once the request was answered; where nothing is met
+    it may be said in which thread it stops."""
     held = contextlib.ExitStack()
     with it.asking("wheel take"):
         held.enter_context(it.wheel())
     it.pause.forget()
     it.is_running, it.failure = True, ""
-    it.later.append(lambda: end_run(it, held, going))
+
+    def go() -> None:
+        it.is_held = True
+        it.progress.begin()
+        try:
+            with held:
+                run_held(it, run, stops, thread)
+        finally:
+            it.progress.end()
+            it.is_held = False
+            it.tell_waiting()
+
+    it.later.append(go)
 
 
-def end_run(it: Debugger, held: contextlib.ExitStack, going: Going) -> None:
-    """Runs, gives the wheel back, and tells where that has ended."""
-    it.is_held = True
-    it.progress.begin()
-    try:
-        with held:
-            run_held(it, going)
-    finally:
-        it.progress.end()
-        it.is_held = False
-        it.tell_waiting()
-
-
-def run_held(it: Debugger, going: Going) -> None:
+def run_held(it: Debugger, run: Run, stops: Stops, thread: Optional[int]) -> None:
     """Runs, while nobody else may move the target."""
     start = it.shell.target.place
     end = start + it.shell.target.places().undone
     try:
-        outcome = going.run(it.runner(going.stops))
+        outcome = run(it.runner(stops))
         while outcome.how == "met" and tell(it, outcome.met):
             left = it.limit - max(0, it.shell.target.place - end)
-            runner = it.runner(going.stops)
+            runner = it.runner(stops)
             outcome = runner.forwards(left) if left > 0 else Outcome("limit")
         it.serve()
         it.is_running = False
@@ -105,7 +91,7 @@ def run_held(it: Debugger, going: Going) -> None:
         it.shell.walk.reach(start)
         it.changed()
         it.say(str(wrong), category="stderr")
-        it.stopped("pause", f"at {it.shell.target.place}: {wrong}", going.thread or it.focus)
+        it.stopped("pause", f"at {it.shell.target.place}: {wrong}", thread or it.focus)
     finally:
         it.is_running = False
 
@@ -113,18 +99,17 @@ def run_held(it: Debugger, going: Going) -> None:
 def go_on(it: Debugger, given: Arguments) -> Optional[Values]:
     """`continue`."""
     it.threads.task(given.number("threadId", TIME))
-    begin_run(it, Going(lambda runner: runner.forwards(it.limit), it.stops))
+    begin_run(it, lambda runner: runner.forwards(it.limit), it.stops)
     return {"allThreadsContinued": True}
 
 
-def go_back(it: Debugger, given: Arguments) -> Optional[Values]:
+def go_back(it: Debugger, given: Arguments) -> None:
     """`reverseContinue`."""
     it.threads.task(given.number("threadId", TIME))
-    begin_run(it, Going(lambda runner: runner.backwards(), it.halts))
-    return None
+    begin_run(it, lambda runner: runner.backwards(), it.halts)
 
 
-def step(it: Debugger, given: Arguments) -> Optional[Values]:
+def step(it: Debugger, given: Arguments) -> None:
     """`next` and `stepIn`: one instruction of a task; a tick, of the time."""
     thread = given.number("threadId")
     task = it.threads.task(thread)
@@ -132,19 +117,15 @@ def step(it: Debugger, given: Arguments) -> Optional[Values]:
         before = it.look()
         move = it.make("tick" if task is None else f"step {core_of(it, task)}")
         after = it.look()
-        tell_here(it)
+        stops = [stop for point in it.breakpoints.logs() for stop in point.stops]
+        if stops:
+            tell(it, it.runner(lambda: stops).met().met)
     failure = it.failed_here(before, after)
     it.failure = ""
-    it.later.append(lambda: tell_step(it, thread, failure, move))
-    return None
-
-
-def tell_step(it: Debugger, thread: int, failure: str, move: Move) -> None:
-    """Stops behind a step."""
     if failure:
-        it.tell_failure(failure, thread)
+        it.later.append(lambda: it.tell_failure(failure, thread))
     else:
-        it.stopped("step", f"at {move.place}: {move.text()}", thread)
+        it.later.append(lambda: it.stopped("step", f"at {move.place}: {move.text()}", thread))
 
 
 def core_of(it: Debugger, name: str) -> int:
@@ -157,7 +138,7 @@ def core_of(it: Debugger, name: str) -> int:
     return task.core
 
 
-def step_out(it: Debugger, given: Arguments) -> Optional[Values]:
+def step_out(it: Debugger, given: Arguments) -> None:
     """`stepOut`: the others run, too, until a task has done its instruction."""
     thread = given.number("threadId")
     task = it.threads.task(thread)
@@ -169,11 +150,10 @@ def step_out(it: Debugger, given: Arguments) -> Optional[Values]:
     done = Amount(f"pc {task}")
     done.text = f"{task} goes on"
     stops = lambda: [*it.stops(), done]
-    begin_run(it, Going(lambda runner: runner.forwards(it.limit), stops, thread))
-    return None
+    begin_run(it, lambda runner: runner.forwards(it.limit), stops, thread)
 
 
-def step_back(it: Debugger, given: Arguments) -> Optional[Values]:
+def step_back(it: Debugger, given: Arguments) -> None:
     """`stepBack`: takes the last move back, whosever it is."""
     it.threads.task(given.number("threadId", TIME))
     target = it.shell.target
@@ -183,7 +163,7 @@ def step_back(it: Debugger, given: Arguments) -> Optional[Values]:
         if not places.kept:
             start = "the start" if not places.done else record.given_up("what was before")
             it.later.append(lambda: it.stopped("entry", f"at {places.done}: {start}", it.focus))
-            return None
+            return
         after = target.look()
         target.ask(record.back(1), replies.Moved)
         before = target.look()
@@ -194,37 +174,27 @@ def step_back(it: Debugger, given: Arguments) -> Optional[Values]:
         it.threads.number(move.task) if move.task else TIME if move.kind == "tick" else it.focus
     )
     it.later.append(lambda: it.stopped("step", f"at {target.place}, before: {move.text()}", thread))
-    return None
 
 
 def goto_targets(it: Debugger, given: Arguments) -> Optional[Values]:
-    """`gotoTargets`: of each instruction at a line, where its task was last there, and the edit
-    that puts it there."""
+    """`gotoTargets`: where the task of each instruction at a line was last there, or an edit."""
     if not it.text.is_named(given.part("source")):
         return {"targets": []}
     it.gotos = []
+    targets: List[Values] = []
     for spot in it.text.at(it.text.line_in(given)):
-        walk = it.shell.walk
-        with it.wheel():
-            start = walk.place
-            place = arrival(spot).last(walk)
-            walk.goto(start)
-        if place is not None:
+        with it.wheel(), it.shell.walk.staying():
+            there = arrival(spot).last(it.shell.walk)
+        for place in (None,) if there is None else (there, None):
             it.gotos.append((spot, place))
-        it.gotos.append((spot, None))
-    targets = enumerate(it.gotos, 1)
-    return {"targets": [target(it, number, spot, place) for number, (spot, place) in targets]}
+            label = f"an edit: {spot.task} goes on at {spot.pc}"
+            if place is not None:
+                label = f"back to place {place}, where {spot.task} came to {spot.pc}"
+            targets.append({"id": len(it.gotos), "label": label, **it.text.place(spot)})
+    return {"targets": targets}
 
 
-def target(it: Debugger, number: int, spot: Spot, place: Optional[int]) -> Values:
-    """A target of `goto`."""
-    label = f"an edit: {spot.task} goes on at {spot.pc}"
-    if place is not None:
-        label = f"back to place {place}, where {spot.task} came to {spot.pc}"
-    return {"id": number, "label": label, **it.text.place(spot)}
-
-
-def goto(it: Debugger, given: Arguments) -> Optional[Values]:
+def goto(it: Debugger, given: Arguments) -> None:
     """`goto`: to the target that was chosen."""
     number = given.number("targetId")
     if not 0 < number <= len(it.gotos):
@@ -239,21 +209,18 @@ def goto(it: Debugger, given: Arguments) -> Optional[Values]:
             it.say(f"back at {place}")
     it.changed()
     it.later.append(lambda: it.stopped("goto", f"at {it.shell.target.place}", thread))
-    return None
 
 
-def pause(it: Debugger, given: Arguments) -> Optional[Values]:
+def pause(it: Debugger, given: Arguments) -> None:
     """`pause`: what runs ends soon."""
     if it.is_running:
         it.pause.ask()
-    return None
 
 
-def cancel(it: Debugger, given: Arguments) -> Optional[Values]:
+def cancel(it: Debugger, given: Arguments) -> None:
     """`cancel`: what it names was told to end as the request came."""
     given.number("requestId", 0)
     given.text("progressId", "")
-    return None
 
 
 MOVING: Dict[str, Request] = {
@@ -265,8 +232,6 @@ MOVING: Dict[str, Request] = {
     "stepBack": step_back,
     "goto": goto,
 }
-
-
 # Contexts in which an expression changes nothing.
 LOOKS = ("watch", "hover", "variables", "clipboard")
 # So many lines at once are done.
@@ -292,8 +257,7 @@ def evaluate(it: Debugger, given: Arguments) -> Optional[Values]:
         raise Wrong("Disconnect, or Stop, ends the session")
     if word in BUTTONS:
         BUTTONS[word](it, Arguments({}, "evaluate"))
-        return {"result": "", "variablesReference": 0}
-    return {"result": typed(it, lines), "variablesReference": 0}
+    return {"result": "" if word in BUTTONS else typed(it, lines), "variablesReference": 0}
 
 
 def typed(it: Debugger, lines: List[str]) -> str:

@@ -44,8 +44,7 @@ def computed(shell: Shell, task: Optional[str], text: str) -> Optional[Expressio
     """The goal or the expression that a text is; none where it names a thing. Raises `Wrong`."""
     scope = shell.scope()
     with turned(Wrong, NoGoal):
-        found = expression(text, scope, task or "") if is_meant(text, scope) else None
-    return found
+        return expression(text, scope, task or "") if is_meant(text, scope) else None
 
 
 def value(shell: Shell, shown: Callable[[], Shown], task: Optional[str], text: str) -> Variable:
@@ -60,10 +59,9 @@ def value(shell: Shell, shown: Callable[[], Shown], task: Optional[str], text: s
         target = shell.target
         look = shown().look if target.is_own else target.look(made.names(target.names))
         with turned(Wrong, Undefined):
-            said = made.said(look)
+            return Variable(text, made.said(look))
     except (Refused, IndexError):
         raise Wrong(f"'{text}' names what isn't there") from None
-    return Variable(text, said)
 
 
 def check(shell: Shell, text: str, task: str) -> None:

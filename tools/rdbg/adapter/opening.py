@@ -4,11 +4,11 @@ import os
 import signal
 import subprocess
 import threading
-from typing import IO, Callable, List, Optional
+from typing import Callable, List, Optional
 
 from rdbg import children, client, commands
 from rdbg.adapter.messages import Arguments, Wrong
-from rdbg.adapter.pausing import Pause
+from rdbg.adapter.running import Pause
 from rdbg.driving.opening import attach as attached, begin, builtin
 from rdbg.driving.pacing import IS, pace
 from rdbg.driving.target import Limits, Unable
@@ -36,7 +36,6 @@ class EditorShell(Shell):
     hear: Optional[Tell] = None
 
     def _notice(self, notice: str) -> None:
-        """Tells what others do."""
         if self.hear is None:
             print(notice)
         else:
@@ -46,11 +45,6 @@ class EditorShell(Shell):
         """Says that something was paused, and where the target is."""
         self.is_refused = self.is_stopped = True
         self.say(f"paused, {where}")
-
-
-def built_in() -> Source:
-    """The application that rdbg has without a file, as a text."""
-    return sources.source(BUILTIN, text_of(builtin()).encode())
 
 
 def file_of(given: Arguments) -> Optional[str]:
@@ -90,7 +84,15 @@ def program(is_unproved: bool, tell: Tell) -> str:
         made = children.start(asked, subprocess.DEVNULL, pipe, pipe, signal.SIGTERM, is_apart=False)
     assert made.stdout is not None and made.stderr is not None
     said: List[str] = []
-    reader = threading.Thread(target=tell_lines, args=(made.stderr, said, tell), daemon=True)
+    errors = made.stderr
+
+    def tell_lines() -> None:
+        with errors:
+            for line in errors:
+                said.append(line.decode("utf-8", "replace").rstrip())
+                tell(said[-1])
+
+    reader = threading.Thread(target=tell_lines, daemon=True)
     reader.start()
     with made.stdout:
         path = os.fsdecode(made.stdout.read().strip())
@@ -102,20 +104,14 @@ def program(is_unproved: bool, tell: Tell) -> str:
     return path
 
 
-def tell_lines(stream: IO[bytes], said: List[str], tell: Tell) -> None:
-    """Tells each line of a stream."""
-    with stream:
-        for line in stream:
-            said.append(line.decode("utf-8", "replace").rstrip())
-            tell(said[-1])
-
-
 def launch(given: Arguments, pause: Pause, tell: Tell) -> Shell:
     """A program of its own on a file, or on the built-in application."""
     given.not_null("program", str)
     given.flag("stopOnEntry", True)  # (which is asked for later)
     path = file_of(given)
-    source = built_in() if path is None else read(path, given)
+    source = (
+        sources.source(BUILTIN, text_of(builtin()).encode()) if path is None else read(path, given)
+    )
     limits = Limits(count(given, "moves", MOVES), count(given, "history", Limits.history, 2))
     named = program(given.flag("unproved"), tell)
     with turned(Wrong, Failure):

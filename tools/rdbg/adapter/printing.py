@@ -1,5 +1,4 @@
-"""What the words of sh print, gathered by the thread that runs them: the streams of this process
-are the protocol's."""
+"""What the words of sh print, gathered by their thread: the streams are the protocol's."""
 import contextlib
 import io
 import sys

@@ -10,7 +10,7 @@ from rdbg import record, replies
 from rdbg.adapter.known import Facts
 from rdbg.adapter.messages import Wrong
 from rdbg.adapter.stops import Begins, Stop, met_here
-from rdbg.driving.interrupt import Interrupted
+from rdbg.driving.interrupt import Interrupt, Interrupted
 from rdbg.driving.target import Unable, read
 from rdbg.driving.walk import MOST_PIECE, Walk
 from rdbg.goals.ways import is_stuck
@@ -21,6 +21,18 @@ FIRST_WINDOW, WIDER, MOST_WINDOW = 64, 8, 65_536
 # those that a run would make again, and so many of others.
 FIRST_LOOKED, MOST_LOOKED = 16, 256
 LOOKED_OF_RUNS, LOOKED = 64, 8_192
+
+
+class Pause(Interrupt):
+    """Whether a pause was asked for. What is long looks between two of its pieces."""
+
+    def ask(self) -> None:
+        """Asks for a pause, from any thread."""
+        self._count = 1
+
+    def forget(self) -> None:
+        """Forgets what was asked before."""
+        self._count = 0
 
 
 @dataclasses.dataclass(frozen=True)
@@ -76,13 +88,12 @@ class Runner:
         self._end = self._here + walk.target.places().undone
         try:
             return self._again() or self._on(limit)
-        except Interrupted:
+        except (Interrupted, Unable, Wrong) as ended:
             self._keep()
+            if not isinstance(ended, Interrupted):
+                raise
             walk.goto(self._here)
             return Outcome("paused")
-        except (Unable, Wrong):
-            self._keep()
-            raise
 
     def _again(self) -> Optional[Outcome]:
         """To the first stop among moves that were taken back; none where there is no stop, or
@@ -101,9 +112,8 @@ class Runner:
             if sure > low:
                 low = sure
                 continue
-            is_of_run = facts.would_come_again(low, end)
-            if is_of_run and looked >= LOOKED_OF_RUNS:
-                return None
+            if facts.runs.end(low) >= end and looked >= LOOKED_OF_RUNS:
+                return None  # (since a run makes the same)
             high = min(end, low + size)
             self._learn(stops, low, high, looked < LOOKED)
             looked += high - low
@@ -165,8 +175,7 @@ class Runner:
             size = min(size * WIDER, MOST_WINDOW)
 
     def _keep(self) -> None:
-        """Makes the moves once more that were there behind those of this run, and takes them back:
-        so they can be made again."""
+        """Has the moves that were there behind those of this run be there to be made again."""
         walk, here = self.walk, self.walk.place
         there = here + walk.target.places().undone
         if there < self._end:
@@ -220,12 +229,11 @@ class Runner:
                 self._between()
                 place = self._last(stop, start, found)
                 found = found if place is None else place
-        except Interrupted:
-            walk.goto(start)
-            return Outcome("paused")
-        except (Unable, Wrong):
+        except (Interrupted, Unable, Wrong) as ended:
             walk.goto(start)  # (what is in between may have been made by hand)
-            raise
+            if not isinstance(ended, Interrupted):
+                raise
+            return Outcome("paused")
         walk.goto(walk.target.base if found is None else found)
         return Outcome("start") if found is None else self.met()
 
@@ -257,8 +265,7 @@ def prepared(walk: Walk, stops: List[Stop]) -> List[Stop]:
 
 def first_of(stops: Sequence[Stop], facts: Facts, low: int, high: int) -> Optional[int]:
     """The first place behind `low` up to `high` where one of some stops is known to be met."""
-    firsts = [places[0] for places in (it.places(facts, low, high) for it in stops) if places]
-    return min(firsts) if firsts else None
+    return min((place for it in stops for place in it.places(facts, low, high)[:1]), default=None)
 
 
 def look_each(walk: Walk, stops: Sequence[Stop], views: Sequence[str], high: int) -> None:
@@ -267,19 +274,16 @@ def look_each(walk: Walk, stops: Sequence[Stop], views: Sequence[str], high: int
     low, target = walk.place, walk.target
     of = [stop.views(target) for stop in stops]
     answers = iter(target.tell_all([*views, *([record.again(), *views] * (high - low))]))
-    before: List[Any] = []
-    places: List[List[int]] = [[] for _ in stops]
+    seen: List[List[Any]] = []
     for place in range(low, high + 1):
         if place > low:
             read(next(answers))
         told = {view: read(next(answers)) for view in views}
-        after = [stop.seen([told[view] for view in each]) for stop, each in zip(stops, of)]
-        for at, stop in enumerate(stops):
-            if before and stop.is_met_by(before[at], after[at]):
-                places[at].append(place)
-        before = after
-    for stop, found in zip(stops, places):
-        stop.learn(Facts.of(walk), low, high, found)
+        seen.append([stop.seen([told[view] for view in each]) for stop, each in zip(stops, of)])
+    for stop, its in zip(stops, zip(*seen)):
+        moves = enumerate(zip(its, its[1:]), low + 1)
+        met = [place for place, (before, after) in moves if stop.is_met_by(before, after)]
+        stop.learn(Facts.of(walk), low, high, met)
 
 
 # So many moves are made until something else can be done meanwhile.
@@ -303,12 +307,11 @@ class PacedRunner(Runner):
                 if not walk.forward(1):
                     return Outcome("wall", wall=walk.wall)
                 found = self.met()
-            except Interrupted:
+            except (Interrupted, Unable, Wrong) as ended:
                 walk.goto(here)
+                if not isinstance(ended, Interrupted):
+                    raise
                 return Outcome("paused")
-            except (Unable, Wrong):
-                walk.goto(here)
-                raise
             if found.met:
                 return found
         return Outcome("limit")

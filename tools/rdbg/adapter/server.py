@@ -7,7 +7,7 @@ from typing import IO, Callable, Dict, List, Optional, Set
 
 from rdbg.adapter.breakpoints import wrong_line
 from rdbg.adapter.debugger import Debugger, Request
-from rdbg.adapter.framing import Broken, Frames, Sender
+from rdbg.adapter.framing import Frames, Sender
 from rdbg.adapter.looking import LOOKING, SETTING
 from rdbg.adapter.messages import Arguments, Request as Asked, Unreadable, Wrong, done, failed, read
 from rdbg.adapter.moving import MOVING, OTHERS
@@ -36,10 +36,14 @@ NO_TOKEN = "`launch` or `attach` says first, as token, what `rdbg dap` said at i
 HEARD = Asked(0, "", Arguments({}, ""))
 # So many requests may wait.
 MOST_WAITING = 1_000
+# Why an editor that comes isn't served, if so.
+Comes = Callable[[], str]
 
 
-def fault(error: Exception) -> str:
-    """What is said of a fault of this program."""
+def said_of(error: Exception) -> str:
+    """What is said of an error; of a fault of this program that it is one."""
+    if isinstance(error, (Failure, Interrupted, Refused, Unable, Wrong)):
+        return str(error)
     return f"a fault of rdbg dap: {type(error).__name__}: {error}"
 
 
@@ -48,14 +52,9 @@ class Server:
     where it has, or where its first request has come, and says why it isn't served, if so."""
 
     def __init__(
-        self,
-        lines: IO[bytes],
-        answers: IO[bytes],
-        comes: Callable[[], str] = lambda: "",
-        token: str = "",
+        self, lines: IO[bytes], answers: IO[bytes], comes: Comes = lambda: "", token: str = ""
     ) -> None:
-        self._comes: Optional[Callable[[], str]] = comes
-        self._token = token
+        self._comes, self._token = comes, token
         self._frames, self._sender = Frames(lines), Sender(answers)
         self.debugger = Debugger(self._sender.send)
         self.debugger.serve = self._meanwhile
@@ -91,9 +90,6 @@ class Server:
             try:
                 body = self._frames.read()
                 request = None if body is None else read(body)
-            except Broken as broken:
-                self._sender.send(failed(0, "", str(broken)))
-                continue
             except Unreadable as wrong:
                 self._sender.send(failed(wrong.seq, wrong.command, str(wrong)))
                 continue
@@ -101,9 +97,9 @@ class Server:
                 continue
             if request is not None and not self._token and not self._is_served(request):
                 request = None
-            if request is None or request.command in ENDING:
-                if self.debugger.is_running:
-                    self.debugger.pause.ask()
+            is_end = request is None or request.command in ENDING
+            if is_end and self.debugger.is_running:
+                self.debugger.pause.ask()
             if request is not None and request.command == CANCEL:
                 self._cancel(request.arguments)
             self._asked.put(request)
@@ -121,8 +117,7 @@ class Server:
                 self._cancelled.add(number)
 
     def _is_told(self, request: Asked) -> bool:
-        """Whether a request is answered that comes before the token, or says it. Where it isn't
-        the editor is told why."""
+        """Whether a request is answered that comes before the token, or says it."""
         if request.command == BEFORE:
             return True
         try:
@@ -130,27 +125,23 @@ class Server:
             why = "" if hmac.compare_digest(said.encode(), self._token.encode()) else NO_TOKEN
         except Wrong as wrong:
             why = str(wrong)
-        if why:
-            self._sender.send(failed(request.seq, request.command, why))
-        else:
-            self._token = ""
-        return not why
+        self._token = self._token if why else ""
+        return self._is_fine(request, why)
 
     def _is_served(self, request: Asked) -> bool:
-        """Whether the editor is served whose request this is."""
-        comes, self._comes = self._comes, None
-        why = comes() if comes is not None else ""
+        comes, self._comes = self._comes, lambda: ""
+        return self._is_fine(request, comes())
+
+    def _is_fine(self, request: Asked, why: str) -> bool:
+        """Whether nothing says why a request isn't answered; the editor is told what does."""
         if why:
             self._sender.send(failed(request.seq, request.command, why))
         return not why
 
     def _meanwhile(self) -> None:
         """Answers what can be answered while the target runs."""
-        while True:
-            try:
-                request = self._asked.get_nowait()
-            except queue.Empty:
-                return
+        while not self._asked.empty():
+            request = self._asked.get()
             if request is not None and request.command in MEANWHILE:
                 self._answer(request)
             else:
@@ -178,40 +169,32 @@ class Server:
                 raise Wrong(f"rdbg answers no request '{request.command[:100]}'")
             if request.command in MOVING:
                 it.standing()
-            self._sender.send(done(request, REQUESTS[request.command](it, request.arguments)))
-            return
+            return self._sender.send(
+                done(request, REQUESTS[request.command](it, request.arguments))
+            )
         except Refused as refused:
-            why = f"rdbg says no {refused}"
-            if it.has_shell:
-                why = str(wrong_line(it.shell, "", refused))
-        except (Wrong, Unable) as wrong:
-            why = str(wrong)
+            wrong = wrong_line(it.shell, "", refused) if it.has_shell else ""
+            why = str(wrong or f"rdbg says no {refused}")
         except Interrupted:
             why = "it was ended by a pause"
-        except Failure as failure:
-            why = str(failure)
-            it.later = [lambda: self._end(why)]
         except Exception as error:  # (so that the editor isn't left without an answer)
-            why = fault(error)
+            why = said_of(error)
+            if isinstance(error, Failure):
+                it.later = [lambda: self._end(why)]
         if request.command in MOVING:
             it.still()  # (before the answer: dap-mode drops what comes behind one that is an error)
         self._sender.send(failed(request.seq, request.command, why))
 
-    def _guarded(self, each: "object") -> None:
+    def _guarded(self, each: Callable[[], None]) -> None:
         """Does something behind an answer."""
-        assert callable(each)
         try:
             each()
-        except (Refused, Wrong, Unable, Interrupted) as wrong:
-            self.debugger.say(str(wrong), category="stderr")
-            self.debugger.still()
         except Failure as failure:
             self._end(str(failure))
         except Exception as error:
-            self.debugger.say(fault(error), category="stderr")
+            self.debugger.say(said_of(error), category="stderr")
             self.debugger.still()
 
     def _end(self, why: str) -> None:
-        """Tells the editor that the program has ended."""
         self.debugger.say(why, category="stderr")
         self.debugger.end()

@@ -6,7 +6,7 @@ from rdbg.adapter.breakpoints import FAILURES
 from rdbg.adapter.debugger import LIMIT, Debugger, Request
 from rdbg.adapter.hearing import Hearing
 from rdbg.adapter.messages import Arguments, Values, Wrong, event
-from rdbg.adapter.moving import Going, begin_run
+from rdbg.adapter.moving import begin_run
 from rdbg.adapter.threads import TIME
 from rdbg.shell.shell import Shell
 
@@ -32,8 +32,8 @@ def initialize(it: Debugger, given: Arguments) -> Optional[Values]:
     """`initialize`: what rdbg can do for an editor."""
     if given.text("pathFormat", "path") != "path":
         raise Wrong("paths are paths; URIs aren't known")
-    line = int(given.flag("linesStartAt1", True))
-    it.text.count_from(line, int(given.flag("columnsStartAt1", True)))
+    firsts = [int(given.flag(f"{each}StartAt1", True)) for each in ("lines", "columns")]
+    it.text.first_line, it.text.first_column = firsts
     it.shows_invalidated = given.flag("supportsInvalidatedEvent")
     it.progress.is_asked_for = given.flag("supportsProgressReporting")
     body: Values = {f"supports{name}": True for name in CAN}
@@ -60,14 +60,13 @@ def check_start(it: Debugger, given: Arguments) -> None:
     opening.count(given, "limit", LIMIT)
 
 
-def launch(it: Debugger, given: Arguments) -> Optional[Values]:
+def launch(it: Debugger, given: Arguments) -> None:
     """`launch`: a program of its own."""
     check_start(it, given)
-    started(it, given, opening.launch(given, it.pause, lambda text: it.say(text)))
-    return None
+    started(it, given, opening.launch(given, it.pause, it.say))
 
 
-def attach(it: Debugger, given: Arguments) -> Optional[Values]:
+def attach(it: Debugger, given: Arguments) -> None:
     """`attach`: one more session at a port."""
     check_start(it, given)
     shell = opening.attach(given, it.pause, it.hear)
@@ -76,11 +75,9 @@ def attach(it: Debugger, given: Arguments) -> Optional[Values]:
     it.later.append(lambda: it.send(event("capabilities", {"capabilities": off})))
     started(it, given, shell)
     it.hearing = Hearing(it.shell.target.session, it.came)
-    it.hearing.begin()
-    return None
 
 
-def configured(it: Debugger, given: Arguments) -> Optional[Values]:
+def configured(it: Debugger, given: Arguments) -> None:
     """`configurationDone`: the target stands at the start, or runs."""
     place = it.shell.target.places().done
     it.is_configured = True
@@ -91,11 +88,10 @@ def configured(it: Debugger, given: Arguments) -> Optional[Values]:
     elif it.given.flag("stopOnEntry", True):
         it.later.append(lambda: it.stopped("entry", START, it.focus))
     else:
-        begin_run(it, Going(lambda runner: runner.begin(it.limit), it.stops))
-    return None
+        begin_run(it, lambda runner: runner.begin(it.limit), it.stops)
 
 
-def restart(it: Debugger, given: Arguments) -> Optional[Values]:
+def restart(it: Debugger, given: Arguments) -> None:
     """`restart`: a new program on the file as it is. A target of others isn't moved."""
     if it.is_attached:
         raise Wrong(AT_A_PORT)
@@ -103,31 +99,28 @@ def restart(it: Debugger, given: Arguments) -> Optional[Values]:
     arguments.not_null("program", str)
     chosen = arguments if arguments.has("program") else it.given
     watches = sorted(it.shell.target.watches.items())
-    shell = opening.launch(chosen, it.pause, lambda text: it.say(text))
+    shell = opening.launch(chosen, it.pause, it.say)
     it.failure = ""
     it.close()
     it.take(shell)
     it.given = chosen
     it.shell.target.tell_all([f"watch {text}" for _, text in watches])
     it.later.append(lambda: it.restarted(START))
-    return None
 
 
-def terminate(it: Debugger, given: Arguments) -> Optional[Values]:
+def terminate(it: Debugger, given: Arguments) -> None:
     """`terminate`: the end of the program; a target of others goes on."""
     if it.is_attached:
         raise Wrong(NO_END)
     it.later.append(it.end)
-    return None
 
 
-def disconnect(it: Debugger, given: Arguments) -> Optional[Values]:
+def disconnect(it: Debugger, given: Arguments) -> None:
     """`disconnect`: the end of the session, and of a program of its own."""
     status = it.close()
     if status:
         it.say(f"rdbg has ended, with status {status}", category="stderr")
     it.is_done = True
-    return None
 
 
 SETUP: Dict[str, Request] = {

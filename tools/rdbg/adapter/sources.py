@@ -37,9 +37,9 @@ def spot(lines: Sequence[str], task: str, pc: int, code: Instruction) -> Spot:
 class Text:
     """The text of an application, where known. An editor may count lines and columns from 0."""
 
-    def __init__(self, source: Optional[Source]) -> None:
-        self.source = source
-        self.first_line = self.first_column = 1
+    def __init__(self, source: Optional[Source], line: int = 1, column: int = 1) -> None:
+        # (from where the editor counts)
+        self.source, self.first_line, self.first_column = source, line, column
         application = source.application if source else None
         lines = source.text.split("\n") if source else []
         tasks = application.tasks if application else ()
@@ -54,10 +54,6 @@ class Text:
     def is_generated(self) -> bool:
         """Whether it is in no file."""
         return self.source is not None and self.source.path == BUILTIN
-
-    def count_from(self, line: int, column: int) -> None:
-        """From where the editor counts."""
-        self.first_line, self.first_column = line, column
 
     def of(self, task: str, pc: int) -> Optional[Spot]:
         """The instruction of a task."""
@@ -84,12 +80,6 @@ class Text:
         except (OSError, ValueError):
             return False
 
-    def content(self) -> str:
-        """The text itself."""
-        if self.source is None:
-            raise Wrong("no text is known")
-        return self.source.text
-
     def place(self, spot: Spot) -> Dict[str, Any]:
         """Where an instruction stands, as the editor counts."""
         down, right = self.first_line - 1, self.first_column - 1
@@ -105,10 +95,6 @@ class Text:
         if absent is not None and not given.has(key):
             return absent
         return given.number(key) + 1 - self.first_line
-
-    def column_in(self, given: Arguments) -> Optional[int]:
-        """A column that the editor gives, counted from 1."""
-        return given.number("column") + 1 - self.first_column if given.has("column") else None
 
     def at(self, line: int) -> List[Spot]:
         """The instructions at a line, of one that is several the first."""

@@ -3,19 +3,19 @@
 `next` and `last` say the place of the very move. They may leave the target anywhere that a run from
 where they began came through, or behind it."""
 import dataclasses
-from typing import Any, Callable, Hashable, List, Optional, Sequence, Tuple
+from typing import Any, Hashable, List, Optional, Sequence, Tuple
 
 from rdbg import kinds
 from rdbg.adapter.known import Facts
 from rdbg.adapter.messages import Wrong
-from rdbg.adapter.sweeps import Backwards, Onwards
+from rdbg.adapter.sweeps import Backwards, Counts, Onwards
 from rdbg.application import Application
 from rdbg.driving.target import Target, read
 from rdbg.driving.walk import Walk
 from rdbg.goals.changes import HIDING, Changes
 from rdbg.goals.claims import Goal, Holds
-from rdbg.goals.conditions import AMOUNTS, Condition
-from rdbg.goals.ways import Search, To, is_so, latest, nearest, otherwise
+from rdbg.goals.conditions import Condition
+from rdbg.goals.ways import Search, To, Way, is_so, latest, nearest, otherwise
 from rdbg.looks import Key, Look, content_of
 
 # So many places are looked at one by one before one asks rdbg for the last where it was otherwise.
@@ -27,14 +27,10 @@ TURNS = 8
 PUTTING = ("send", "front", "over")
 # So many hits are counted at the most.
 MOST_HITS = 100_000
-# Whether so many places where a stop is met are enough.
-Enough = Callable[[int], bool]
 
 
-class Stop:
+class Stop(Way):
     """Something at which a run stops: `text` says what."""
-
-    text = ""
 
     @property
     def plain(self) -> "Stop":
@@ -62,14 +58,6 @@ class Stop:
         """Whether a move meets it, by what it hangs on before and after: mostly that it changes."""
         return bool(before != after)
 
-    def next(self, walk: Walk, limit: int) -> Optional[int]:
-        """The first place behind this one, at most so many moves on, where it is met."""
-        raise NotImplementedError
-
-    def last(self, walk: Walk) -> Optional[int]:
-        """The last place before this one where it is met."""
-        raise NotImplementedError
-
     def is_met_at_start(self, walk: Walk) -> bool:
         """Whether it is met at the first place, to which no move leads."""
         return False
@@ -78,9 +66,9 @@ class Stop:
         """Whether the move to this place has met it. Stays where it is."""
         return bool(met_here(walk, [self]))
 
-    def all_next(self, walk: Walk, limit: int, is_enough: Enough) -> Tuple[List[int], int]:
-        """All places behind this one, at most so many moves on, where it is met, up to where they
-        are enough; and up to where they are all."""
+    def all_next(self, walk: Walk, limit: int, counts: Counts) -> Tuple[List[int], int]:
+        """All places behind this one, at most so many moves on, where it is met, up to one that
+        counts, or a little further; and up to where they are all."""
         end, found = walk.place + limit, []  # type: int, List[int]
         while walk.place < end:
             walk.interrupt.check()
@@ -89,7 +77,7 @@ class Stop:
                 return found, walk.place if walk.wall else end
             found.append(place)
             walk.reach(place)
-            if is_enough(len(found)):
+            if counts(len(found)):
                 break
         return found, walk.place
 
@@ -126,12 +114,11 @@ class Stop:
         facts.met(self.key).learn(low, high, places)
 
 
-class Reaches(Stop):
+class Reaches(Stop, To):
     """A goal becomes so: it didn't hold before a move, and does after it."""
 
     def __init__(self, goal: Goal, text: str = "") -> None:
-        self.goal, self.text = goal, text or goal.text
-        self._way = To(goal, True)
+        super().__init__(goal, True, text)
 
     @property
     def key(self) -> Hashable:
@@ -145,12 +132,6 @@ class Reaches(Stop):
 
     def is_met_by(self, before: bool, after: bool) -> bool:
         return after and not before
-
-    def next(self, walk: Walk, limit: int) -> Optional[int]:
-        return self._way.next(walk, limit)
-
-    def last(self, walk: Walk) -> Optional[int]:
-        return self._way.last(walk)
 
 
 class Becomes(Reaches):
@@ -186,13 +167,13 @@ class Becomes(Reaches):
             return 0 if self.is_at_start and not walk.target.base else None
         return other + 1
 
-    def all_next(self, walk: Walk, limit: int, is_enough: Enough) -> Tuple[List[int], int]:
-        sweep = Onwards(walk, self.condition, limit)
-        sweep.run(is_enough)
+    def all_next(self, walk: Walk, limit: int, counts: Counts) -> Tuple[List[int], int]:
+        sweep = Onwards(walk, self.condition, walk.place + limit)
+        sweep.run(counts)
         return sweep.found, sweep.place
 
     def all_last(self, walk: Walk, low: int) -> List[int]:
-        sweep = Backwards(walk, self.condition, low)
+        sweep = Backwards(walk, self.condition, max(low, walk.target.base))
         while not sweep.is_done:
             walk.interrupt.check()
             sweep.go()
@@ -222,16 +203,13 @@ class Amount(Stop):
         return [self._shape.view]
 
     def seen(self, answers: Sequence[Any]) -> Any:
-        if self._shape.kind == "phase":
-            return answers[0].phase.word
-        return AMOUNTS[self._shape.kind](answers[0], self._shape.index)
+        is_phase = self._shape.kind == "phase"
+        return answers[0].phase.word if is_phase else self._shape.amount(answers[0])
 
     def _others(self, target: Target, earlier: bool) -> List[Condition]:
         """Conditions of which one holds wherever it is otherwise than here."""
-        now = self.look(target)
-        if self._shape.kind == "phase":
-            return dataclasses.replace(self._shape, phase=now).others(earlier)
-        return dataclasses.replace(self._shape, number=now).others(earlier)
+        now = {"phase" if self._shape.kind == "phase" else "number": self.look(target)}
+        return dataclasses.replace(self._shape, **now).others(earlier)
 
     def next(self, walk: Walk, limit: int) -> Optional[int]:
         return nearest(walk, self._others(walk.target, False), limit)
@@ -244,27 +222,26 @@ class Amount(Stop):
         return None if other is None else other + 1
 
 
-class Content(Stop):
+class Content(Stop, Changes):
     """What an object holds changes, whoever waits at it."""
 
     def __init__(self, target: Target, key: Key) -> None:
-        self._goal, application = Changes(target, *key), target.application
-        self.text = self._goal.text
-        self._parts = parts_of(application, *key) if application else []
+        super().__init__(target, *key)
+        self._parts = parts_of(target.application, *key) if target.application else []
 
     @property
     def key(self) -> Hashable:
-        return "content", self._goal.view
+        return "content", self.view
 
     def views(self, target: Target) -> List[str]:
-        return [self._goal.view]
+        return [self.view]
 
     def seen(self, answers: Sequence[Any]) -> Any:
         return content_of(answers[0])
 
     def next(self, walk: Walk, limit: int) -> Optional[int]:
         if not self._parts:
-            return self._goal.next(walk, limit)
+            return super().next(walk, limit)
         start, end, found = walk.place, walk.place + limit, None
         for part in self._parts:
             walk.reach(start)
@@ -280,7 +257,7 @@ class Content(Stop):
 
     def last(self, walk: Walk) -> Optional[int]:
         if not self._parts or not walk.target.is_own or walk.target.by_hand:
-            return self._goal.last(walk)
+            return super().last(walk)
         start, found = walk.place, -1
         for part in self._parts:
             walk.goto(start)
@@ -354,8 +331,7 @@ class Begins(Reaches):
         return self.began(walk, base) if self.look(walk.target) else None
 
     def began(self, walk: Walk, low: int) -> Optional[int]:
-        """The place behind `low` where it has become so, up to here, where it is so; none where it
-        was so before."""
+        """The place behind `low`, up to here, where it has become so, if it wasn't there."""
         high = walk.place
         walk.goto(low)
         return None if self.look(walk.target) else Search(walk, self.goal).between(low, high)
@@ -370,7 +346,7 @@ class Where(Stop):
     """A stop that counts only where a goal holds behind its move."""
 
     def __init__(self, stop: Stop, goal: Goal) -> None:
-        self._stop, self._goal = stop, goal
+        self._stop, self._goal, self._behind = stop, goal, becoming(goal)
         # (what is one condition can be looked for by many lines at a time)
         self._condition = goal.condition if isinstance(goal, Holds) else None
         self._width = 0
@@ -383,40 +359,31 @@ class Where(Stop):
     def views(self, target: Target) -> List[str]:
         views = self._stop.views(target)
         self._width = len(views)
-        if self._condition is not None:
-            return [*views, self._condition.view]
-        return [*views, *self._goal.names(target.names).lines()]
+        return [*views, *self._behind.views(target)]
 
     def seen(self, answers: Sequence[Any]) -> Tuple[Any, bool]:
-        behind = answers[self._width :]
-        if self._condition is not None:
-            holds = self._condition.holds(behind[0])
-        else:
-            holds = self._goal.is_so(Look.of(0, behind))
-        return self._stop.seen(answers[: self._width]), holds
+        width = self._width
+        return self._stop.seen(answers[:width]), self._behind.seen(answers[width:])
 
     def is_met_by(self, before: Tuple[Any, bool], after: Tuple[Any, bool]) -> bool:
         return after[1] and self._stop.is_met_by(before[0], after[0])
 
     def is_met_at_start(self, walk: Walk) -> bool:
-        return self._stop.is_met_at_start(walk) and self._holds(walk)
-
-    def _holds(self, walk: Walk) -> bool:
-        return is_so(walk.target, self._goal)
+        return self._stop.is_met_at_start(walk) and is_so(walk.target, self._goal)
 
     def next(self, walk: Walk, limit: int) -> Optional[int]:
         end, turns = walk.place + limit, 0
         while walk.place < end:
             walk.interrupt.check()
             if turns == TURNS and isinstance(self._stop, Becomes) and self._condition:
-                sweep = Onwards(walk, self._stop.condition, end - walk.place, self._condition)
+                sweep = Onwards(walk, self._stop.condition, end, self._condition)
                 sweep.run(bool)
                 return sweep.found[0] if sweep.found else None
             place, turns = self._stop.next(walk, end - walk.place), turns + 1
             if place is None:
                 return None
             walk.reach(place)
-            if self._holds(walk):
+            if is_so(walk.target, self._goal):
                 return place
             # (it isn't met before the condition holds again)
             place = Search(walk, self._goal).first(end - place)
@@ -442,7 +409,7 @@ class Where(Stop):
             if place is None:
                 return None
             walk.goto(place)
-            if self._holds(walk):
+            if is_so(walk.target, self._goal):
                 return place
             place = Search(walk, self._goal).last()
             if place is None:
@@ -456,7 +423,7 @@ class Counted(Stop):
     """A stop that counts only at some of the times that it is met, numbered from the start on. What
     is known of it is what is known of the other one, back to the start."""
 
-    def __init__(self, stop: Stop, text: str, counts: Callable[[int], bool]) -> None:
+    def __init__(self, stop: Stop, text: str, counts: Counts) -> None:
         self.stop, self._counts = stop, counts
         self.text = f"{stop.text}, hit {text}"
 
@@ -465,7 +432,17 @@ class Counted(Stop):
         return self.stop
 
     def prepare(self, walk: Walk) -> None:
-        learn_back(walk, self.stop)
+        """Learns where the other one is met from the start up to here."""
+        stop, here, facts = self.stop, walk.place, Facts.of(walk)
+        place = stop.begin(facts, here)
+        try:
+            while place > facts.floor:
+                walk.goto(place)
+                low = facts.met(stop.key).known.before(place, facts.floor)
+                stop.learn(facts, low, place, stop.all_last(walk, low))
+                place = stop.begin(facts, here)
+        finally:
+            walk.goto(here)
 
     def begin(self, facts: Facts, place: int) -> int:
         begin = self.stop.begin(facts, place)
@@ -491,8 +468,7 @@ class Counted(Stop):
         start, facts = walk.place, Facts.of(walk)
         self.prepare(walk)
         hits = self._hits(facts, start)
-        is_enough = Reached(lambda number: self._counts(hits + number))
-        places, end = self.stop.all_next(walk, limit, is_enough)
+        places, end = self.stop.all_next(walk, limit, lambda at: self._counts(hits + at))
         self.stop.learn(facts, start, end, [place for place in places if place <= end])
         return next(iter(self.places(facts, start, end)), None)
 
@@ -502,40 +478,10 @@ class Counted(Stop):
         return next(reversed(self.places(facts, facts.floor, walk.place - 1)), None)
 
 
-class Reached:
-    """Whether one of so many hits counts, when asked for ever more of them."""
-
-    def __init__(self, counts: Callable[[int], bool]) -> None:
-        self._counts, self._asked = counts, 0
-        self._is_so = False
-
-    def __call__(self, count: int) -> bool:
-        numbers = range(self._asked + 1, count + 1)
-        self._is_so = self._is_so or any(self._counts(number) for number in numbers)
-        self._asked = count
-        return self._is_so
-
-
 def not_too_many(stop: Stop, found: Sequence[int]) -> None:
     """Raises `Wrong` where a stop is met too often to be counted."""
     if len(found) > MOST_HITS:
         raise Wrong(f"more than {MOST_HITS} hits of {stop.text} aren't counted")
-
-
-def learn_back(walk: Walk, stop: Stop) -> None:
-    """Learns where a stop is met from the start up to here. Stays where it is."""
-    here, facts = walk.place, Facts.of(walk)
-    place = stop.begin(facts, here)
-    if place <= facts.floor:
-        return
-    try:
-        while place > facts.floor:
-            walk.goto(place)
-            low = facts.met(stop.key).known.before(place, facts.floor)
-            stop.learn(facts, low, place, stop.all_last(walk, low))
-            place = stop.begin(facts, here)
-    finally:
-        walk.goto(here)
 
 
 def met_here(walk: Walk, stops: Sequence[Stop]) -> List[Stop]:

@@ -12,14 +12,18 @@ from rdbg.replies import Refused
 LEAST, FIRST, MOST = 4, 8, 512
 # A condition holds on where it became so at less than one of so many places.
 HOLDING = 4
+# Whether a place that is found counts, by its number, from 1 on.
+Counts = Callable[[int], bool]
 
 
 class Sweep:
-    """A sweep from here. `found` are the places so far, those alone where `only` holds too; `place`
-    is how far it has come, and `holds` and `fits` say whether the two hold there."""
+    """A sweep from here to a place. `found` are the places so far, those alone where `only` holds
+    too; `place` is how far it has come, and `holds` and `fits` say whether the two hold there."""
 
-    def __init__(self, walk: Walk, condition: Condition, only: Optional[Condition] = None) -> None:
-        self.walk, self.condition, self.only = walk, condition, only
+    def __init__(
+        self, walk: Walk, condition: Condition, end: int, only: Optional[Condition] = None
+    ) -> None:
+        self.walk, self.condition, self.end, self.only = walk, condition, end, only
         self.place, self.found = walk.place, []  # type: int, List[int]
         self.holds = condition.holds(read(walk.target.tell(condition.view)))
         self.fits = self.fits_here()
@@ -30,9 +34,11 @@ class Sweep:
         """Whether it has come to its end."""
         raise NotImplementedError
 
-    def run(self, is_enough: Callable[[int], bool]) -> None:
-        """Goes on to its end, or until so many places are enough."""
-        while not self.is_done and not is_enough(len(self.found)):
+    def run(self, counts: Counts) -> None:
+        """Goes on to its end, or until one of the places counts."""
+        seen = 0
+        while not self.is_done and not any(map(counts, range(seen + 1, len(self.found) + 1))):
+            seen = len(self.found)
             self.walk.interrupt.check()
             self.go()
 
@@ -84,20 +90,14 @@ def moved(answer: str) -> replies.Moved:
 
 
 class Onwards(Sweep):
-    """By moves that are made, so many at the most."""
-
-    def __init__(
-        self, walk: Walk, condition: Condition, limit: int, only: Optional[Condition] = None
-    ) -> None:
-        super().__init__(walk, condition, only)
-        self._end = self.place + limit
+    """By moves that are made."""
 
     @property
     def is_done(self) -> bool:
-        return self.place >= self._end or bool(self.walk.wall)
+        return self.place >= self.end or bool(self.walk.wall)
 
     def lines(self) -> List[str]:
-        left = self._end - self.place
+        left = self.end - self.place
         size = min(self._size, left)
         return [f"until {self.condition.text} {left // size}"] * size
 
@@ -107,7 +107,7 @@ class Onwards(Sweep):
         except Refused as refused:
             if refused.name not in WALLS:
                 raise
-            place = self.walk.until(self.condition.text, self._end - self.place)
+            place = self.walk.until(self.condition.text, self.end - self.place)
             run = replies.Moved(self.walk.place, "limit" if place is None else "met")
             fits = self.fits_here()
         is_met = run.how == "met"
@@ -118,28 +118,22 @@ class Onwards(Sweep):
 
     def leave(self) -> None:
         walk = self.walk
-        gone = nearest(walk, self.condition.others(earlier=False), self._end - self.place)
+        gone = nearest(walk, self.condition.others(earlier=False), self.end - self.place)
         if gone is None and walk.wall:
             return
-        walk.reach(self._end if gone is None else gone)
+        walk.reach(self.end if gone is None else gone)
         self.place, self.holds = walk.place, gone is None
 
 
 class Backwards(Sweep):
-    """By moves that are taken back, to a place or before it."""
-
-    def __init__(
-        self, walk: Walk, condition: Condition, low: int, only: Optional[Condition] = None
-    ) -> None:
-        super().__init__(walk, condition, only)
-        self._low = max(low, walk.target.base)
+    """By moves that are taken back, maybe to before that place."""
 
     @property
     def is_done(self) -> bool:
-        return self.place <= self._low
+        return self.place <= self.end
 
     def lines(self) -> List[str]:
-        return [f"back until {self.condition.text}"] * min(self._size, self.place - self._low)
+        return [f"back until {self.condition.text}"] * min(self._size, self.place - self.end)
 
     def take(self, answer: str, fits: bool) -> bool:
         way = moved(answer)
@@ -156,7 +150,7 @@ class Backwards(Sweep):
             self.walk.goto(self.place)
             self.fits = self.fits_here()
             return
-        if other >= self._low:
+        if other >= self.end:
             self.walk.goto(other + 1)
             self.became(other + 1, self.fits_here())
         self.walk.goto(other)

@@ -60,8 +60,4 @@ def frame(number: int, task: Optional[replies.Task], look: Look, text: Text) -> 
     if task.phase.word != "run":
         name += f" ({phase_text(task)})"
     found: Values = {"id": number, "name": name, "line": 0, "column": 0}
-    source = text.value()
-    if spot is not None and source is not None:
-        found.update(text.place(spot))
-        found["source"] = source
-    return found
+    return {**found, **text.place(spot), "source": text.value()} if spot else found

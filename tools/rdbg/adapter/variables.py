@@ -75,7 +75,6 @@ class Shown:
     """A look, and how numbers are shown."""
 
     look: Look
-    place: int
     undone: int
     is_hex: bool = False
 
@@ -122,11 +121,8 @@ def task_of(shown: Shown, name: str) -> replies.Task:
 
 def registers(shown: Shown, name: str) -> List[Variable]:
     """The registers of a task."""
-    found = enumerate(task_of(shown, name).registers)
-    return [
-        settable(f"r{at}", f"reg {name} {at}", shown.number(value), f"{name}.r{at}")
-        for at, value in found
-    ]
+    found = enumerate(map(shown.number, task_of(shown, name).registers))
+    return [settable(f"r{at}", f"reg {name} {at}", it, f"{name}.r{at}") for at, it in found]
 
 
 def parts(shown: Shown, name: str) -> List[Variable]:
@@ -147,7 +143,7 @@ def of_time(shown: Shown) -> List[Variable]:
     """The time, the cores, and where in the moves one is."""
     cores = shown.look.cores
     found = [
-        Variable("place", f"{shown.place}", expression="place"),
+        Variable("place", f"{shown.look.place}", expression="place"),
         Variable("undone", f"{shown.undone}"),
         Variable("tick", shown.number(cores.tick), watched="tick", expression="tick"),
         Variable("turn", str(cores.turn), expression="turn"),
@@ -155,11 +151,6 @@ def of_time(shown: Shown) -> List[Variable]:
     ]
     seats = [(f"core {at}", name or "-") for at, name in enumerate(cores.running)]
     return found + [Variable(it, name, watched=it, expression=it) for it, name in seats]
-
-
-def objects(shown: Shown) -> List[Variable]:
-    """All objects, each with what it holds and who waits."""
-    return [of_object(key, it) for key, it in shown.look.objects.items()]
 
 
 def of_object(key: Key, it: Object) -> Variable:
@@ -181,18 +172,12 @@ def within_object(shown: Shown, kind: str, name: str) -> List[Variable]:
 
 def within_queue(it: replies.Queue) -> List[Variable]:
     """A queue: its count, who waits, and its items, the oldest first."""
-    waiting = (names_shown(it.receivers), names_shown(it.senders))
-    found = plain(
-        {"length": it.length, "waits to receive": waiting[0], "waits to send": waiting[1]}
-    )
-    member = plain({"member of": it.member_of}) if it.member_of else []
-    items = indexed(map(bytes_shown, it.items), lambda at: item_of(it.name, at))
-    return [amount("count", it.name, str(it.count)), *found, *member, *items]
-
-
-def item_of(queue: str, at: int) -> Setter:
-    """Sets an item of a queue."""
-    return lambda text: f"poke item {queue} {at} {typed_bytes(text)}"
+    receive, send = names_shown(it.receivers), names_shown(it.senders)
+    found = {"length": it.length, "waits to receive": receive, "waits to send": send}
+    member = {"member of": it.member_of} if it.member_of else {}
+    put = lambda at: lambda text: f"poke item {it.name} {at} {typed_bytes(text)}"
+    items = indexed(map(bytes_shown, it.items), put)
+    return [amount("count", it.name, str(it.count)), *plain({**found, **member}), *items]
 
 
 def within_set(it: replies.QueueSet) -> List[Variable]:
@@ -241,46 +226,38 @@ WITHIN: Dict[str, Callable[..., List[Variable]]] = {
 LISTS: Dict[str, Callable[..., List[Variable]]] = {
     "registers": registers,
     "task": parts,
-    "objects": objects,
+    "objects": lambda shown: [of_object(key, it) for key, it in shown.look.objects.items()],
     "time": of_time,
     "object": within_object,
 }
-# What is shown of a task's frame: how it is called, and what stands in it.
-SCOPES = (("Task", "task"), ("Registers", "registers"), ("Objects", "objects"), ("Time", "time"))
 
 
 class References:
     """The numbers by which an editor asks for what stands in something."""
 
     def __init__(self) -> None:
-        self._paths: List[Path] = []
         self._numbers: Dict[Path, int] = {}
 
     def number(self, path: Path) -> int:
         """The number of a path."""
-        if path not in self._numbers:
-            self._paths.append(path)
-            self._numbers[path] = len(self._paths)
-        return self._numbers[path]
+        return self._numbers.setdefault(path, len(self._numbers) + 1)
 
     def path(self, number: int) -> Path:
         """The path of a number. Raises `Wrong` where there is none."""
-        if not 0 < number <= len(self._paths):
+        if not 0 < number <= len(self._numbers):
             raise Wrong(f"there are no variables {number}")
-        return self._paths[number - 1]
+        return list(self._numbers)[number - 1]
 
     def scopes(self, task: Optional[str], look: Look) -> List[Values]:
         """The scopes of a task's frame, or of the time's."""
+        of_task: List[Path] = [("task", task), ("registers", task)] if task else []
         found: List[Values] = []
-        for name, kind in SCOPES:
-            if task is None and kind in ("registers", "task"):
-                continue
-            path = (kind, task) if task and kind in ("registers", "task") else (kind,)
-            scope: Values = {"name": name, "variablesReference": self.number(path)}
+        for path in (*of_task, ("objects",), ("time",)):
+            scope: Values = {"name": path[0].capitalize(), "variablesReference": self.number(path)}
             scope["expensive"] = False
-            if kind == "registers":
+            if path[0] == "registers":
                 scope["presentationHint"] = "registers"
-            if kind == "objects":
+            if path[0] == "objects":
                 scope["namedVariables"] = len(look.objects)
             found.append(scope)
         return found

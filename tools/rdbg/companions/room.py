@@ -12,12 +12,12 @@ from rdbg.options import APPLICATION, Parser, bounded, port
 from rdbg.door import TOKEN, Door
 from rdbg.ending import Terminated
 from rdbg.failure import Failure
-from rdbg.rooms import keys, remarks, web, web_address
+from rdbg.rooms import keys, remarks, web, web_guard
 from rdbg.rooms.host import MOST_SESSIONS, Hindered
 from rdbg.rooms.program import HISTORY
 from rdbg.rooms.port import Port, listening
 from rdbg.rooms.room import IDLE, Room
-from rdbg.rooms.talk import Talk, opened
+from rdbg.rooms.talk import Talk
 from rdbg.rooms.web import Served
 from rdbg.driving.target import Limits
 
@@ -91,7 +91,7 @@ def open_room(source: Source, limits: Limits, sessions: int, talk: Optional[Talk
     """A room, once it has its program. Where others are first it says so, and tries again."""
     while True:
         try:
-            return Room.open(source, limits, sessions, talk)
+            return Room(source, limits, sessions, talk)
         except Hindered as hindered:
             print(f"rdbg room: {hindered}; it is tried again", file=sys.stderr, flush=True)
 
@@ -103,7 +103,7 @@ def with_pages(
     try:
         pages = web.serve(room, number, door)
         is_terminal = sys.stdout.isatty()
-        where, say = ends.enter_context(web_address.said(pages.address, is_terminal))
+        where, say = ends.enter_context(web_guard.said(pages.address, is_terminal))
         pages.key.say = lambda: say(pages.address)
         return pages, where
     except Failure:
@@ -151,7 +151,7 @@ def open_and_serve(given: argparse.Namespace, ends: contextlib.ExitStack) -> int
         least = 4 * given.sessions
         raise Failure(f"--history is {least} at the least for {given.sessions} sessions", 2)
     listener, door = listening(given.port), Door(given.anyone)
-    talk = opened(given.talk)
+    talk = None if given.talk is None else Talk(given.talk)
     signals = Signals()
     room = open_room(source, limits, given.sessions, talk)
     signals.port = port = Port(room, listener, door)

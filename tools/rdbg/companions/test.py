@@ -1,5 +1,7 @@
 """Runs a folder of applications with their goals."""
 import argparse
+import contextlib
+import functools
 import os
 import sys
 from typing import IO, Iterator, List, Sequence, Tuple
@@ -12,7 +14,7 @@ from rdbg.reaching import asking
 from rdbg.shown import shown
 from rdbg.testing import cases
 from rdbg.testing.cases import Case
-from rdbg.testing.trial import Result, Verdict, trier, wrong_with
+from rdbg.testing.trial import Result, Verdict, tried, wrong_with
 from rdbg.wording import counted
 from rdbg.workers import side_by_side
 
@@ -82,7 +84,8 @@ class Shown:
 def results_of(folder: str, found: Sequence[Case], jobs: int) -> Iterator[Tuple[Case, Result]]:
     """What becomes of the cases, one after the other."""
     line = Shown(sys.stderr, len(found))
-    answers = side_by_side(lambda: trier(folder), found, jobs)
+    work = functools.partial(tried, folder)
+    answers = side_by_side(lambda: contextlib.nullcontext(work), found, jobs)
     for case in found:
         line.show(case.file)
         result = next(answers)

@@ -1,2 +1,1 @@
-"""What pages of runs have in common: a run as values, and the files that show it in lanes, a state,
-moves and a script."""
+"""What pages of runs have in common: a run as values, and the files that show it."""

@@ -5,8 +5,10 @@ import hashlib
 import html
 import json
 import pathlib
+import re
 from typing import Mapping, Sequence
 
+Files = Sequence[pathlib.Path]
 HERE = pathlib.Path(__file__).resolve().parent
 # The scripts that all pages of runs have, each behind those that it uses.
 SCRIPTS = tuple(
@@ -30,7 +32,7 @@ def text_of(file: pathlib.Path) -> str:
     return file.read_text(encoding="utf-8")
 
 
-def joined_scripts(files: Sequence[pathlib.Path]) -> str:
+def joined_scripts(files: Files) -> str:
     """Scripts as one, whose names nobody else sees."""
     return "\n".join(['"use strict";', "(() => {", *map(text_of, files), "})();"])
 
@@ -48,12 +50,7 @@ def digest(text: str) -> str:
 
 def filled(text: str, values: Mapping[str, str]) -> str:
     """A text in which values stand where it names them."""
-    first, *rest = text.split("{{")
-    found = [first]
-    for part in rest:
-        name, behind = part.split("}}", 1)
-        found += [values[name], behind]
-    return "".join(found)
+    return re.sub(r"\{\{(.*?)\}\}", lambda found: values[found[1]], text)
 
 
 def body_of(file: pathlib.Path, values: Mapping[str, str], beside_slider: str = "") -> str:
@@ -64,11 +61,7 @@ def body_of(file: pathlib.Path, values: Mapping[str, str], beside_slider: str = 
 
 
 def document(
-    title: str,
-    body: str,
-    scripts: Sequence[pathlib.Path],
-    styles: Sequence[pathlib.Path] = (),
-    policy: str = POLICY,
+    title: str, body: str, scripts: Files, styles: Files = (), policy: str = POLICY
 ) -> str:
     """The whole page of a body, with these scripts and styles behind those of all pages."""
     style = "\n" + "".join(map(text_of, (STYLE, *styles)))

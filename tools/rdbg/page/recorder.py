@@ -31,9 +31,8 @@ class Values:
 
 
 class Track:
-    """What becomes of one thing, as a flat list that grows: the number of the first value, then,
-    for each place where it becomes another one, how many places further that is, and the number of
-    the value from there on."""
+    """What becomes of one thing, as a flat list that grows: the number of the first value, then of
+    each other one how many places further it begins, and its number."""
 
     def __init__(self, values: Values) -> None:
         self.flat: List[int] = []
@@ -123,8 +122,8 @@ class Recorder:
     """Takes parts that come in order, and gives what a page has of them."""
 
     def __init__(self, application: Optional[Application]) -> None:
-        self.first: Optional[int] = None
-        self.last = 0
+        # (before the first part has come, the first place is none)
+        self.first, self.last = -1, 0
         self.lines: List[str] = []
         self._application = application
         self._values = Values()
@@ -138,7 +137,7 @@ class Recorder:
 
     def add(self, part: Part) -> None:
         """Takes note of what a part has."""
-        if self.first is None:
+        if self.first < 0:
             self.first = self.last = part.before.place
             self._see(part.before)
         for move, look in zip(part.moves, part.looks):
@@ -165,7 +164,6 @@ class Recorder:
 
     def cut(self, place: int) -> None:
         """Forgets the moves behind a place, which isn't before the first."""
-        assert self.first is not None
         for tracks in (self._cores, *self._tasks.values(), *self._objects.values()):
             for track in tracks.values():
                 track.cut(place)
@@ -176,7 +174,6 @@ class Recorder:
 
     def behind(self, place: int) -> Dict[str, object]:
         """What was taken note of behind a place: values that begin there, and moves."""
-        assert self.first is not None
         return {
             "cores": values_behind(self._cores, place),
             "tasks": [values_behind(of, place) for of in self._tasks.values()],
@@ -234,7 +231,6 @@ class Recorder:
         self, tracks: Dict[str, Track], place: int, values: Iterable[Tuple[str, Value]]
     ) -> None:
         """Puts values on their tracks. What is known since a later place was nothing before."""
-        assert self.first is not None
         for name, value in values:
             track = tracks.get(name)
             if track is None:

@@ -38,8 +38,7 @@ def words(count: int, program: Sequence[str]) -> List[str]:
 
 
 def received(told: socket.socket, count: int) -> List[socket.socket]:
-    """The sockets that were made in the new network; none where that can't be had. Raises `OSError`
-    where the program can't be started there."""
+    """The sockets in the new network; none where there is none. Raises `OSError` for no program."""
     numbers = array.array("i")
     room = socket.CMSG_SPACE(count * numbers.itemsize)
     content, found, _, _ = told.recvmsg(len(MADE), room, socket.MSG_CMSG_CLOEXEC)

@@ -22,7 +22,7 @@ LAST_SECONDS, MOST_SECONDS, LAST_BYTES = 1.0, 30.0, 4_194_304
 class Client:
     """A connection. `wake` is called where something is to be written, from any thread."""
 
-    def __init__(self, connection: socket.socket, wake: "Callable[[Client], None]") -> None:
+    def __init__(self, connection: socket.socket, wake: Callable[[], None]) -> None:
         connection.setblocking(False)
         self.connection, self._wake = connection, wake
         with contextlib.suppress(OSError):
@@ -36,8 +36,7 @@ class Client:
         self.word = ""
         self._tail = b""
         self._guard = threading.Lock()
-        self._out: Deque[bytes] = collections.deque()
-        self._unread, self._missed = 0, 0
+        self._out, self._missed = bytearray(), 0
         # (when it last read something, or had nothing to read)
         self._read_at = 0.0
         self._until = self._latest = 0.0
@@ -46,34 +45,31 @@ class Client:
     def hear(self, notice: str) -> None:
         """Sends a notice. While too much is unread notices are left out, which is said then."""
         with self._guard:
-            if self._unread > MOST_UNREAD:
+            if len(self._out) > MOST_UNREAD:
                 self._missed += 1
                 return
             if self._missed:
                 self._put(f"# {self._missed} notices are left out here, for it read too little")
                 self._missed = 0
             self._put(notice)
-        self._wake(self)
+        self._wake()
 
     def answer(self, reply: str) -> None:
         """Sends a reply."""
         with self._guard:
             self._put(reply)
-        self._wake(self)
+        self._wake()
 
     def _put(self, line: str) -> None:
-        """Adds a line to what is to be sent."""
         if not self.is_broken and not self.is_ending:
-            content = line.encode("utf-8", "replace") + b"\n"
             if not self._out:
                 self._read_at = time.monotonic()
-            self._out.append(content)
-            self._unread += len(content)
+            self._out += line.encode("utf-8", "replace") + b"\n"
 
     @property
     def is_slow(self) -> bool:
         """Whether it reads so little that its own lines wait."""
-        return self._unread > SLOW
+        return len(self._out) > SLOW
 
     @property
     def has_work(self) -> bool:
@@ -128,17 +124,15 @@ class Client:
     def write(self) -> None:
         """Sends what it takes."""
         with self._guard:
-            content = b"".join(self._out)
+            sent = 0
             try:
-                sent = self.connection.send(content) if content else 0
+                sent = self.connection.send(self._out) if self._out else 0
             except (BlockingIOError, InterruptedError):
-                sent = 0
+                pass
             except OSError:
-                sent, content, self.is_broken = 0, b"", True
-            self._out.clear()
-            self._unread = len(content) - sent
-            if self._unread:
-                self._out.append(content[sent:])
+                self.is_broken = True
+                self._out.clear()
+            del self._out[:sent]
         if sent:
             self._read_at = time.monotonic()
         if sent and self.is_ending:
@@ -158,8 +152,7 @@ class Client:
 
     @property
     def is_done(self) -> bool:
-        """Whether an ending connection can be closed. Its own end of writing is told once all is
-        written."""
+        """Whether an ending connection can be closed, which is told the end of what is written."""
         if self.is_broken or time.monotonic() > self._until or self._left < 0:
             return True
         if self._out:

@@ -1,7 +1,6 @@
 """How much each has done in a room: what is said of a whole session at its end."""
 import collections
-import dataclasses
-from typing import Counter, Dict, List, Optional
+from typing import Counter, DefaultDict, List, Optional
 
 from rdbg.by_hand import INTERRUPT
 from rdbg.commands import Command
@@ -13,43 +12,36 @@ MOVES, WAYS, EDITS, INTERRUPTS, REFUSALS = "move", "way", "edit", "interrupt", "
 ORDER = (MOVES, WAYS, EDITS, INTERRUPTS, REFUSALS)
 
 
-@dataclasses.dataclass
 class Counts:
     """What those who were here did, by their names."""
 
-    of: Dict[str, Counter[str]] = dataclasses.field(default_factory=dict)
-
-    def _add(self, name: str, kind: str, count: int = 1) -> None:
-        self.of.setdefault(name, collections.Counter())[kind] += count
+    def __init__(self) -> None:
+        self.of: DefaultDict[str, Counter[str]] = collections.defaultdict(collections.Counter)
 
     def line(self, name: str, command: Optional[Command], reply: str, moved: int) -> None:
         """Somebody has said a line, which moved the target by so much."""
         word = command.form.word if command else ""
         if reply.startswith("no "):
-            self._add(name, REFUSALS)
+            self.of[name][REFUSALS] += 1
         elif word in BY_HAND:
-            self._add(name, INTERRUPTS if word == INTERRUPT else EDITS)
+            self.of[name][INTERRUPTS if word == INTERRUPT else EDITS] += 1
         else:
             self.way(name, moved)
 
     def way(self, name: str, moved: int) -> None:
         """Somebody has come to another place, by one line or by several."""
-        if moved > 0:
-            self._add(name, MOVES, moved)
-        elif moved < 0:
-            self._add(name, WAYS)
+        if moved:
+            self.of[name][MOVES if moved > 0 else WAYS] += max(moved, 1)
 
     def rename(self, old: str, new: str) -> None:
         """Somebody goes on by another name."""
-        for kind, count in self.of.pop(old, {}).items():
-            self._add(new, kind, count)
+        if old in self.of:
+            self.of[new].update(self.of.pop(old))
 
     def rows(self) -> List[str]:
         """What each has done, a row each."""
-        return [f"{name}: {text_of(counts)}" for name, counts in sorted(self.of.items())]
-
-
-def text_of(counts: Counter[str]) -> str:
-    """Counts in words."""
-    told = [counted(counts[it], it) + " back" * (it == WAYS) for it in ORDER if counts[it]]
-    return ", ".join(told)
+        found = []
+        for name, its in sorted(self.of.items()):
+            told = [counted(its[it], it) + " back" * (it == WAYS) for it in ORDER if its[it]]
+            found.append(f"{name}: {', '.join(told)}")
+        return found

@@ -5,7 +5,7 @@ import socket
 import subprocess
 import tempfile
 import time
-from typing import IO, Iterator, List, Optional, Set
+from typing import IO, Iterator, List, NamedTuple, Optional, Set
 
 from rdbg import children, owners
 from rdbg.client import LOCAL, Session, connected, program
@@ -59,11 +59,7 @@ class Host:
 
     @classmethod
     def start(
-        cls,
-        source: Source,
-        limits: Limits,
-        count: int = MOST_SESSIONS,
-        seconds: Optional[float] = None,
+        cls, source: Source, limits: Limits, count: int, seconds: Optional[float] = None
     ) -> "Host":
         """Starts it on an application as it was read, and tries so long at the most. Ctrl-C at the
         terminal doesn't reach it. Raises `Failure` where it can't be started, and `Hindered` where
@@ -92,8 +88,7 @@ class Host:
 
     @classmethod
     def _begin(cls, words: List[str], count: int) -> "Host":
-        """Starts it, in a network of its own with so many sockets where there is one to be had.
-        Raises `Failure` where it can't be started."""
+        """Starts it, with sockets of its own network where there is one. Raises `Failure`."""
         if not apart.IS_TRIED:
             return cls._started(words, words[0], subprocess.DEVNULL)
         with trying(f"start {words[0]}"):
@@ -129,29 +124,17 @@ class Host:
         """Takes all sessions, one after the other, so that their numbers are known. Raises
         `Failure` where somebody else was let in, or nothing is answered."""
         for _ in range(count):
-            session = Session.over(self._connected(port), port)
+            connection = connected(port, PATIENCE, self._apart.pop() if self._apart else None)
+            self._ours.add(int(connection.getsockname()[1]))
+            session = Session.over(connection, port)
             self._sessions.append(session)
             greet(session)
             session.wait_at_most(None)
 
-    def _connected(self, port: int) -> socket.socket:
-        """One more connection to it."""
-        connection = connected(port, PATIENCE, self._apart.pop() if self._apart else None)
-        self._ours.add(int(connection.getsockname()[1]))
-        return connection
-
-    def session(self, number: int) -> Session:
-        """The session of a number."""
-        return self._sessions[number - 1]
-
-    def numbers(self) -> range:
-        """The numbers of all sessions."""
-        return range(1, len(self._sessions) + 1)
-
     def tell_all(self, number: int, lines: List[str]) -> List[str]:
         """The replies to lines of one session. Raises `Ended` where the program has ended."""
         try:
-            return list(self.session(number).tell_all(lines))
+            return list(self._sessions[number - 1].tell_all(lines))
         except Failure:
             raise Ended(f"rdbg has ended{self._why()}") from None
 
@@ -177,7 +160,10 @@ class Host:
         self.kill()
         if self._is_apart:
             return f"a new rdbg didn't answer: {failure}"
-        said = [f"port {it} of {user_of(others[it])}" for it in sorted(set(others) - self._ours)]
+        users = {it: f"user {number}" for it, number in others.items() if number is not None}
+        unknown = "a user who isn't known any more"
+        theirs = sorted(set(others) - self._ours)
+        said = [f"port {it} of {users.get(it, unknown)}" for it in theirs]
         more = [f"{len(said) - FEW} more"] if len(said) > FEW else []
         named = f", from {', '.join(said[:FEW] + more)}" if said else ""
         return f"another came to port {port} first{named}: {failure}"
@@ -213,17 +199,13 @@ class Host:
             STARTED.pop(self._process, None)
 
 
-def user_of(number: Optional[int]) -> str:
-    """Whose a connection is, in words."""
-    return "a user who isn't known any more" if number is None else f"user {number}"
-
-
-class Audit:
+class Audit(NamedTuple):
     """What a program found at its end: how many entries its history has, none where it says
     nothing of it, its status, and what it said on standard error."""
 
-    def __init__(self, entries: Optional[int], status: int, said: str) -> None:
-        self.entries, self.status, self.said = entries, status, said
+    entries: Optional[int]
+    status: int
+    said: str
 
     @property
     def is_good(self) -> bool:

@@ -10,7 +10,7 @@ from typing import Iterator
 from rdbg.commands import MOST_BYTES
 from rdbg.failure import Failure
 from rdbg.rooms.room import Room
-from rdbg.rooms.seats import Refusal
+
 from rdbg.wording import counted
 
 FREE = "free"
@@ -33,8 +33,7 @@ def receive(number: int) -> bytes:
 
 
 def lines_of(number: int) -> Iterator[str]:
-    """The lines of standard input, up to its end, or to one that is too long. However much there
-    is, it is read slowly."""
+    """The lines of standard input, read slowly, up to its end or to one that is too long."""
     content, tail = b"-", b""
     while content and len(tail) <= MOST_BYTES:
         content = receive(number)
@@ -51,23 +50,14 @@ def usage(room: Room) -> str:
     return f"`{FREE}` gives back the wheel of who is away, or idle for {idle}"
 
 
-def do(room: Room, line: str) -> str:
-    """Does a line, and answers what is to be said of it."""
-    if line.lstrip("# ") != FREE:
-        return usage(room)
-    try:
-        return room.free_wheel()
-    except Refusal as refusal:
-        return f"no: {refusal}"
-
-
 def hear(room: Room, number: int) -> None:
     """Does what comes by standard input, up to its end. Only at a terminal it is said what a line
     that is none could be: what else comes by a pipe is for somebody else."""
     for line in lines_of(number):
-        if line.lstrip("# ") == FREE or line and os.isatty(number):
+        is_free = line.lstrip("# ") == FREE
+        if is_free or line and os.isatty(number):
             try:
-                print(f"# {do(room, line)}", flush=True)
+                print(f"# {room.free_wheel() if is_free else usage(room)}", flush=True)
             except (Failure, OSError):
                 return  # (the program has ended, or nobody reads what is said)
 

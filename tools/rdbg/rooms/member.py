@@ -1,10 +1,10 @@
 """Somebody at a room, as connections and pages have it."""
 import collections
 import time
-from typing import TYPE_CHECKING, Callable, Deque, Optional, Sequence
+from typing import TYPE_CHECKING, Callable, Deque, NamedTuple, Optional, Sequence
 
 from rdbg.rooms.doings import Doing
-from rdbg.rooms.heard import Notice
+
 from rdbg.rooms.seats import Refusal, Seat
 
 if TYPE_CHECKING:
@@ -17,14 +17,24 @@ Hear = Callable[[str], None]
 MOST_TOLD = 20
 
 
+class Notice(NamedTuple):
+    """What all were told, and when, in seconds since 1970."""
+
+    when: float
+    text: str
+
+    def row(self) -> str:
+        """It as a line, with its time in UTC."""
+        return f"{time.strftime('%H:%M:%SZ', time.gmtime(self.when))} {self.text}"
+
+
 class Member:
     """Somebody at a room, with a session of the program."""
 
-    def __init__(self, room: "Room", seat: Seat, hear: Hear, is_told: bool) -> None:
-        self._room, self.seat, self.hear, self.is_told = room, seat, hear, is_told
-        # What all were told before it came.
-        self.before: Sequence[Notice] = ()
-        self.is_here = True
+    def __init__(self, room: "Room", seat: Seat, hear: Hear, before: Sequence[Notice]) -> None:
+        # (`before` is what all were told before it came)
+        self._room, self.seat, self.hear, self.before = room, seat, hear, before
+        self.is_here, self.is_told = True, False
         # What it is in the midst of, by several lines.
         self.doing: Optional[Doing] = None
         # (when it last said something to the room, and when it last said a line of any kind)
@@ -42,8 +52,7 @@ class Member:
         return self.seat.number
 
     def ask(self, line: str) -> str:
-        """The reply to a line of rdbg. Raises `Refusal` for who has left, `Ended` where the program
-        has ended."""
+        """The reply to a line of rdbg. Raises `Refusal` for who has left, `Ended` at the end."""
         return self._room.ask(self, line)
 
     def remark(self, line: str) -> None:

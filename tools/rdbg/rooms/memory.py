@@ -1,13 +1,13 @@
 """Replies that are given again as long as nothing has changed on which they hang."""
-from typing import Dict, FrozenSet, Optional, Tuple
+import collections
+from typing import Counter, Dict, Optional, Tuple
 
-from rdbg.commands import ALL, TARGET, WATCHES, WHEEL, Command
+from rdbg.commands import TARGET, WATCHES, WHEEL, Command
 
 # So many replies are kept at the most.
 MOST = 20_000
 # Refusals that hang on more than a target and its sessions.
 PASSING = ("no HistoryFull", "no NoMemory", "no Broken")
-Stamp = Tuple[int, ...]
 
 
 class Memory:
@@ -15,50 +15,32 @@ class Memory:
     is answered as before, without a place of the program's history."""
 
     def __init__(self) -> None:
-        self._target, self._wheel = 0, 0
-        self._watches: Dict[int, int] = {}
-        self._kept: Dict[Tuple[int, Tuple[str, ...]], Tuple[Stamp, str]] = {}
+        # (how often the wheel has changed, and the watches of each session)
+        self._wheel, self._watches = 0, collections.Counter()  # type: int, Counter[int]
+        self._kept: Dict[Tuple[object, ...], str] = {}
 
-    def _stamp(self, session: int, hangs_on: FrozenSet[str]) -> Stamp:
-        """How often what an answer hangs on has changed."""
-        return (
-            self._target if TARGET in hangs_on else 0,
-            self._wheel if WHEEL in hangs_on else 0,
-            self._watches.get(session, 0) if WATCHES in hangs_on else 0,
-        )
-
-    @staticmethod
-    def _key(session: int, command: Command) -> Tuple[int, Tuple[str, ...]]:
-        """What is answered alike: a look at what all share has one answer for all."""
-        is_shared = command.form.is_look and WATCHES not in command.form.hangs_on
-        return (0 if is_shared else session), command.words
+    def _key(self, session: int, command: Command) -> Tuple[object, ...]:
+        """What is answered alike as long as this stays: a look at what all share is for all."""
+        hangs_on = command.form.hangs_on
+        is_shared = command.form.is_look and WATCHES not in hangs_on
+        wheel = self._wheel if WHEEL in hangs_on else 0
+        watches = self._watches[session] if WATCHES in hangs_on else 0
+        return (0 if is_shared else session), command.words, wheel, watches
 
     def known(self, session: int, command: Command) -> Optional[str]:
         """The reply that a line would have, where that is known."""
-        found = self._kept.get(self._key(session, command))
-        if found is None:
-            return None
-        stamp, reply = found
-        hangs_on = command.form.hangs_on
-        return reply if stamp == self._stamp(session, hangs_on) else None
+        return self._kept.get(self._key(session, command))
 
     def keep(self, session: int, command: Command, reply: str) -> None:
         """Takes note of a line and its reply."""
-        is_refused = reply.startswith("no ")
-        if not is_refused and not command.form.is_look:
-            self.forget(session, command.form.changes)
-        elif reply not in PASSING:
+        changes = command.form.changes
+        if reply.startswith("no ") or command.form.is_look:
             if len(self._kept) >= MOST:
                 self._kept.clear()
-            stamp = self._stamp(session, command.form.hangs_on)
-            self._kept[self._key(session, command)] = (stamp, reply)
-
-    def forget(self, session: int, changed: FrozenSet[str] = ALL) -> None:
-        """Something has changed, or may have."""
-        if TARGET in changed:
-            self._target += 1
+            if reply not in PASSING:
+                self._kept[self._key(session, command)] = reply
+            return
+        if TARGET in changes:
             self._kept.clear()
-        if WHEEL in changed:
-            self._wheel += 1
-        if WATCHES in changed:
-            self._watches[session] = self._watches.get(session, 0) + 1
+        self._wheel += WHEEL in changes
+        self._watches[session] += WATCHES in changes

@@ -5,7 +5,7 @@ import signal
 import socket
 import threading
 import time
-from typing import Dict, Iterator, List, Optional, Set
+from typing import Callable, Iterator, List, Optional, Set
 
 from rdbg.client import LOCAL
 from rdbg.commands import MOST_BYTES
@@ -39,17 +39,15 @@ def listening(port: int) -> socket.socket:
     return found
 
 
-class Guest:
+class Guest(Client):
     """A connection, who is there, and since when that wasn't told to the others."""
 
-    def __init__(self, client: Client) -> None:
-        self.client = client
+    def __init__(self, connection: socket.socket, wake: Callable[[], None]) -> None:
+        super().__init__(connection, wake)
         self.member: Optional[Member] = None
         self.came = time.monotonic()
-        # Whether its first line has come.
-        self.has_spoken = False
-        # What is registered of it.
-        self.mask = 0
+        # Whether its first line has come, and what is registered of it.
+        self.has_spoken, self.mask = False, 0
 
     @property
     def is_waiting(self) -> bool:
@@ -68,14 +66,14 @@ class Port:
     def __init__(self, room: Room, listener: socket.socket, door: Optional[Door] = None) -> None:
         self._room, self._listener, self._door = room, listener, door or Door()
         self._selector = selectors.DefaultSelector()
-        self._guests: Dict[Client, Guest] = {}
+        self._guests: List[Guest] = []
         self._waking, self._woken = socket.socketpair()
         self._woken.setblocking(False)
         self._waking.setblocking(False)
         self._is_stopped = False
         self._thread = 0
         # The connections at which something has happened since they were looked at.
-        self._touched: Set[Client] = set()
+        self._touched: Set[Guest] = set()
         self._selector.register(listener, selectors.EVENT_READ)
         self._selector.register(self._woken, selectors.EVENT_READ)
 
@@ -98,9 +96,9 @@ class Port:
         with contextlib.suppress(OSError):
             self._waking.send(b".")
 
-    def _touch(self, client: Client) -> None:
+    def _touch(self, guest: Guest) -> None:
         """Something is to be written, from any thread."""
-        self._touched.add(client)
+        self._touched.add(guest)
         if threading.get_ident() != self._thread:
             self._wake()
 
@@ -117,26 +115,26 @@ class Port:
             if key.fileobj is self._listener:
                 self._accept()
             elif key.fileobj is self._woken:
-                self._forget_wakes()
+                with contextlib.suppress(OSError):
+                    self._woken.recv(4_096)
             else:
-                self._move(key.data, mask)
+                guest: Guest = key.data
+                if mask & selectors.EVENT_READ:
+                    guest.read()
+                if mask & selectors.EVENT_WRITE:
+                    guest.write()
+                self._touched.add(guest)
         self._answer_all()
         self._look_at_touched()
 
     def _patience(self) -> Optional[float]:
         """How long the loop may wait, in seconds."""
-        guests = self._guests.values()
-        if any(it.client.has_work for it in guests) or self._touched:
+        guests, now = self._guests, time.monotonic()
+        if any(it.has_work for it in guests) or self._touched:
             return 0.0
-        now = time.monotonic()
-        times = [it.late - now for it in guests if it.is_waiting and not it.client.is_ending]
-        seconds = [it.client.seconds_left() for it in guests]
-        times += [it for it in seconds if it is not None]
+        times = [it.late - now for it in guests if it.is_waiting and not it.is_ending]
+        times += [it for it in (guest.seconds_left() for guest in guests) if it is not None]
         return max(0.0, min(times)) if times else None
-
-    def _forget_wakes(self) -> None:
-        with contextlib.suppress(OSError):
-            self._woken.recv(4_096)
 
     def _accept(self) -> None:
         """Takes a connection, as a guest. Where its user isn't let in, there are too many, or
@@ -150,84 +148,74 @@ class Port:
         if why:
             turn_away(connection, f"# no: {why}\n".encode())
             return
-        client = Client(connection, self._touch)
+        guest = Guest(connection, lambda: self._touch(guest))
         if len(self._guests) >= MOST and not self._makes_place():
-            client.hear(f"# no: {MOST} connections are here already")
-            client.write()
-            client.close()
+            guest.hear(f"# no: {MOST} connections are here already")
+            guest.write()
+            guest.close()
             return
-        guest = self._guests[client] = Guest(client)
+        self._guests.append(guest)
         if self._door.token:
-            client.hear(f"# say `{TOKEN} ..` first, as it was said where the room was started")
+            guest.hear(f"# say `{TOKEN} ..` first, as it was said where the room was started")
         else:
             self._let_in(guest)
-        self._touched.add(client)
+        self._touched.add(guest)
 
     def _let_in(self, guest: Guest) -> None:
         """Somebody is a guest, where there is a session for one."""
-        client = guest.client
         try:
-            guest.member = self._room.join(None, client.hear, is_told=False)
+            guest.member = self._room.join(None, guest.hear, is_told=False)
         except Refusal as refusal:
-            client.hear(f"# you are nobody yet: {refusal}; `# name NAME` comes by a name")
+            guest.hear(f"# you are nobody yet: {refusal}; `# name NAME` comes by a name")
 
     def _makes_place(self) -> bool:
         """Closes the oldest connection that hasn't said the token yet, where there is one."""
-        silent = [it for it in self._guests.values() if self._door.token and not it.has_spoken]
+        silent = [it for it in self._guests if self._door.token and not it.has_spoken]
         for guest in silent[:1]:
             self._close(guest)
         return bool(silent)
 
-    def _move(self, client: Client, mask: int) -> None:
-        """Reads and writes what can be."""
-        if mask & selectors.EVENT_READ:
-            client.read()
-        if mask & selectors.EVENT_WRITE:
-            client.write()
-        self._touched.add(client)
-
     def _answer_all(self) -> None:
-        """Answers some lines of each."""
         now = time.monotonic()
-        for client, guest in list(self._guests.items()):
+        for guest in list(self._guests):
             if guest.is_waiting and now > guest.late:
                 self._is_late(guest)
-            client.check()
-            if client.has_work:
+            guest.check()
+            if guest.has_work:
                 self._answer(guest)
-                self._touched.add(client)
-            elif client.is_ending:
-                self._touched.add(client)
+                self._touched.add(guest)
+            elif guest.is_ending:
+                self._touched.add(guest)
 
     def _is_late(self, guest: Guest) -> None:
         """A connection that has said nothing is a guest; where it could be none, it is closed."""
         if guest.member is None:
             lacks_token = self._door.token and not guest.has_spoken
-            guest.client.end(f"it has said no {'token' if lacks_token else 'name'}")
-            self._touched.add(guest.client)
+            guest.end(f"it has said no {'token' if lacks_token else 'name'}")
+            self._touched.add(guest)
         else:
             guest.member.announce()
 
     def _answer(self, guest: Guest) -> None:
         """Answers some lines of a connection, and ends it where it has ended."""
-        client, end = guest.client, time.monotonic() + SLICE
+        end = time.monotonic() + SLICE
         for _ in range(SHARE):
-            if not client.lines or client.is_slow or client.word:
+            if not guest.lines or guest.is_slow or guest.word:
                 break
-            self._line(guest, client.lines.popleft())
+            self._line(guest, guest.lines.popleft())
             if time.monotonic() > end:
                 break
-        if client.is_ending:
+        if guest.is_ending:
             return
-        if client.word:
-            self._end(guest, client.word)
-        elif client.is_broken:
+        if guest.word:
+            self._end(guest, guest.word)
+        elif guest.is_broken:
             self._end(guest)
-        elif not client.lines and client.too_long:
-            if guest.has_spoken or self._goes_on_behind(guest, client.too_long):
-                self._ask(guest, client.too_long)
+        elif not guest.lines and guest.too_long:
+            if guest.has_spoken or self._goes_on_behind(guest, guest.too_long):
+                self._ask(guest, guest.too_long)
                 self._end(guest, f"a line has at most {MOST_BYTES} bytes")
-        elif not client.lines and client.has_ended:
+        elif not guest.lines and guest.has_ended:
             self._end(guest)
 
     def _line(self, guest: Guest, line: bytes) -> None:
@@ -238,7 +226,7 @@ class Port:
         words = text.split()
         if guest.is_waiting and words[:2] != ["#", "name"]:
             self._is_late(guest)
-        if guest.client.is_ending:
+        if guest.is_ending:
             return
         if guest.member is None:
             self._come(guest, words)
@@ -262,71 +250,69 @@ class Port:
         """Answers a line of rdbg's, or one that is too long to be any."""
         if guest.member is not None:
             guest.member.announce()
-            guest.client.answer(guest.member.ask(line.decode("utf-8", "replace")))
+            guest.answer(guest.member.ask(line.decode("utf-8", "replace")))
 
     def _come(self, guest: Guest, words: List[str]) -> None:
         """Somebody comes by a name where no guest is let in."""
         try:
-            guest.member = self._room.join(" ".join(words[2:]), guest.client.hear)
+            guest.member = self._room.join(" ".join(words[2:]), guest.hear)
         except Refusal as refusal:
-            guest.client.end(str(refusal))
+            guest.end(str(refusal))
 
     def _end(self, guest: Guest, word: str = "") -> None:
         """Ends a connection: who was there is away."""
         if guest.member is not None:
             guest.member.leave(f"dropped: {word}" if word else "")
-        guest.client.end(word)
+        guest.end(word)
 
     def _look_at_touched(self) -> None:
         """Writes what waits, and registers what each connection waits for."""
-        for client in list(self._touched):
-            self._touched.discard(client)
-            guest = self._guests.get(client)
-            if guest is None:
+        for guest in list(self._touched):
+            self._touched.discard(guest)
+            if guest not in self._guests:
                 continue
-            if client.wants_to_write:
-                client.write()
-            if client.is_broken and not client.is_ending:
+            if guest.wants_to_write:
+                guest.write()
+            if guest.is_broken and not guest.is_ending:
                 self._end(guest)
-            if client.is_ending and client.is_done:
+            if guest.is_ending and guest.is_done:
                 self._close(guest)
             else:
                 self._register(guest)
 
     def _register(self, guest: Guest) -> None:
-        client = guest.client
-        mask = selectors.EVENT_READ if client.wants_to_read else 0
-        mask |= selectors.EVENT_WRITE if client.wants_to_write else 0
+        mask = selectors.EVENT_READ if guest.wants_to_read else 0
+        mask |= selectors.EVENT_WRITE if guest.wants_to_write else 0
         if mask == guest.mask:
             return
         if not guest.mask:
-            self._selector.register(client.connection, mask, client)
+            self._selector.register(guest.connection, mask, guest)
         elif mask:
-            self._selector.modify(client.connection, mask, client)
+            self._selector.modify(guest.connection, mask, guest)
         else:
-            self._selector.unregister(client.connection)
+            self._selector.unregister(guest.connection)
         guest.mask = mask
 
     def _close(self, guest: Guest) -> None:
         if guest.mask:
-            self._selector.unregister(guest.client.connection)
-        guest.client.close()
-        del self._guests[guest.client]
+            self._selector.unregister(guest.connection)
+        guest.close()
+        self._guests.remove(guest)
 
     def close(self) -> None:
         """Ends all connections, once they have read what they were told, or haven't for a while."""
         self._listener.close()
         end = time.monotonic() + PATIENCE
-        for client in self._guests:
-            client.end()
+        for guest in self._guests:
+            guest.end()
         while self._guests and time.monotonic() < end:
-            for client, guest in list(self._guests.items()):
-                client.write()
-                client.read()
-                if client.is_done:
+            for guest in list(self._guests):
+                guest.write()
+                guest.read()
+                if guest.is_done:
                     self._close(guest)
             time.sleep(0.01)
-        for guest in list(self._guests.values()):
+        for guest in list(self._guests):
             self._close(guest)
         self._selector.close()
         self._waking.close()

@@ -1,5 +1,4 @@
-"""The program of a room: what it is asked and what it has answered, where its target is, and who
-has the wheel."""
+"""The program of a room: what it was asked and answered, its target's place, who has the wheel."""
 import threading
 import time
 from typing import Callable, Dict, List, Optional, Sequence
@@ -20,30 +19,31 @@ from rdbg.wording import counted
 # So many entries have room for some 30,000 moves of a small application, with the looks that tell
 # them; then a new program goes on, and the memory of the old one is free.
 HISTORY = 250_000
-# With so little of the history left, the room looks no more by itself: one part of so many.
+# With so little of the history left, the room looks no more by itself, one part of so many, and a
+# new program should go on.
 SCARCE = 10
-# Then a new program goes on. It is tried to be had for so many seconds, while nobody is answered,
-# and where it can't be had once more after so many.
+# That is tried to be had for so many seconds, while nobody is answered, and again after so many.
 TRIES, AGAIN = 0.3, 1.0
 FULL = "no HistoryFull"
 
 
 class Program:
-    """A program that serves, of which every answer is known. One that answers no more is told to
-    `when_over`."""
+    """A program that serves, whose answers are all known. `when_over` is told of its end."""
 
-    def __init__(self, host: Host, source: Source, limits: Limits) -> None:
+    def __init__(self, source: Source, limits: Limits, seats: Sequence[Seat]) -> None:
         assert source.application is not None
-        self.source, self.limits = source, limits
-        self._host, self.sessions = host, host.numbers()
+        self.source, self.limits, self._seats = source, limits, seats
+        self.host = Host.start(source, limits, len(seats))
         self.journal, self.memory = Journal(), Memory()
         self.sight = Sight(source.application)
         # Who has the wheel.
-        self.holder: Optional[int] = None
+        self.holder: Optional[Seat] = None
         self.when_over: Callable[[str], None] = lambda why: None
+        # Is told the audit of each program before this one, from another thread.
+        self.when_ended: Callable[[Audit], None] = lambda audit: None
         self._rows: Dict[int, List[str]] = {}
         # (an entry of the history is for the coming of each session, and one for its leaving)
-        self._used = 2 * len(self.sessions)
+        self._used = 2 * len(seats)
         # (programs before this one, whose history was full: each ends in a thread)
         self._ending: List[threading.Thread] = []
         # (when a new one is tried to be had again, where that failed)
@@ -66,13 +66,9 @@ class Program:
         """The program's own reply to a line of a session. Raises `Ended`."""
         return self._ask_all(seat, [line])[0]
 
-    def known(self, seat: Seat, command: Command) -> Optional[str]:
-        """The reply that a line would have, where that is known."""
-        return self.memory.known(seat.number, command)
-
     def _ask_all(self, seat: Seat, lines: List[str]) -> List[str]:
         try:
-            answers = self._host.tell_all(seat.number, lines) if lines else []
+            answers = self.host.tell_all(seat.number, lines) if lines else []
         except Ended as ended:
             self.when_over(str(ended))
             raise
@@ -80,7 +76,6 @@ class Program:
         return answers
 
     def _take(self, seat: Seat, lines: Sequence[str], answers: Sequence[str]) -> None:
-        """Takes note of what was answered to lines."""
         for line, reply in zip(lines, answers):
             self._used += reply[len("no ") :] not in UNCOUNTED
             command = read_line(line)
@@ -89,7 +84,6 @@ class Program:
                 self._learn(seat, command, reply)
 
     def _learn(self, seat: Seat, command: Command, reply: str) -> None:
-        """Keeps account of moves, the wheel and watches."""
         if command.form.is_look or reply.startswith("no "):
             return
         value = read(reply)
@@ -98,7 +92,7 @@ class Program:
             self.sight.moved(command, value, self.place)
             self.journal.moved(command, value)
         elif isinstance(value, replies.WheelDone):
-            self.holder = seat.number if command.words[1] == "take" else None
+            self.holder = seat if command.words[1] == "take" else None
         elif isinstance(value, replies.WatchDone) and command.form.word == "watch":
             seat.watches[value.number] = " ".join(command.condition_words())
         elif isinstance(value, replies.WatchDone):
@@ -109,8 +103,7 @@ class Program:
         known: Dict[str, str] = {}
         for line in lines:
             command = read_line(line)
-            assert command is not None
-            found = self.known(seat, command)
+            found = self.memory.known(seat.number, command) if command else None
             if found is not None:
                 known[line] = found
         asked = [line for line in lines if line not in known]
@@ -150,18 +143,13 @@ class Program:
         more = [f".. {counted(made - count, 'move')} before these"] if made > count else []
         return more + self.sight.rows(looks)
 
-    def is_scarce(self) -> bool:
-        """Whether so little of the history is left, that a new program should go on."""
-        return self.left() * SCARCE < self.limits.history
-
-    def renew(self, seats: Sequence[Seat], ended: Callable[[Audit], None]) -> bool:
+    def renew(self) -> bool:
         """Goes on with a new program that is where this one is, and whose history has only what
-        leads there; false where that would soon be full again, or where it was tried just now. The
-        old one ends meanwhile; its audit is told to `ended`, from another thread. Raises `Failure`
-        where the new one can't be had."""
+        leads there; false where that would soon be full again, or was tried just now. The old one
+        ends meanwhile. Raises `Failure`."""
         if time.monotonic() < self._again:
             return False
-        watches = sum(len(it.watch_lines()) for it in seats)
+        seats, watches = self._seats, sum(len(it.watch_lines()) for it in self._seats)
         checks = [*self.sight.lines, "show moves", "show wheel"]
         lines = self.journal.lines()
         used = 2 * len(seats) + watches + len(lines) + len(checks) + 1
@@ -169,8 +157,7 @@ class Program:
         try:
             if 2 * used <= self.limits.history:
                 host = Host.start(self.source, self.limits, len(seats), TRIES)
-                was = self._looks(seats[0], checks)
-                self._bring_here(host, lines, seats, dict(zip(checks, was)))
+                self._bring_here(host, lines, dict(zip(checks, self._looks(seats[0], checks))))
         except Failure:
             if host is not None:
                 host.kill()
@@ -179,28 +166,21 @@ class Program:
         if host is None:
             self._again = time.monotonic() + AGAIN
             return False
-        self._go_on_with(host, ended)
+        self._go_on_with(host)
         self._used = used
         return True
 
-    def _go_on_with(self, host: Host, ended: Callable[[Audit], None]) -> None:
-        """Goes on with a new program; the old one ends meanwhile."""
-        old, self._host = self._host, host
-        thread = threading.Thread(target=lambda: ended(old.close()))
+    def _go_on_with(self, host: Host) -> None:
+        old, self.host = self.host, host
+        thread = threading.Thread(target=lambda: self.when_ended(old.close()))
         self._ending.append(thread)
         thread.start()
 
-    def reload(
-        self,
-        source: Source,
-        lines: List[str],
-        seats: Sequence[Seat],
-        ended: Callable[[Audit], None],
-    ) -> List[str]:
-        """Goes on with a new program that has another source, where these lines lead, and answers
-        the watches that it refuses, which are dropped. The old one ends as by `renew`. Raises
-        `Failure` where the new one can't be had."""
+    def reload(self, source: Source, lines: List[str]) -> List[str]:
+        """Goes on with a new program that has another source, where these lines lead, as `renew`
+        does. Answers the watches that it refuses, which are dropped. Raises `Failure`."""
         assert source.application is not None
+        seats = self._seats
         host = Host.start(source, self.limits, len(seats), TRIES)
         try:
             answers = host.tell_all(seats[0].number, lines)
@@ -210,28 +190,26 @@ class Program:
             used = sum(2 * len(it.watches) + len(it.watch_lines()) for it in seats)
             dropped = [it for seat in seats for it in watch_again(host, seat)]
             if self.holder is not None:
-                host.tell_all(self.holder, ["wheel take"])
+                host.tell_all(self.holder.number, ["wheel take"])
         except BaseException:
             host.kill()
             raise
-        self._go_on_with(host, ended)
+        self._go_on_with(host)
         self.source, self.sight = source, Sight(source.application)
         self.journal, self.memory, self._used = Journal(), Memory(), 2 * len(seats) + used + 1
         self._rows.clear()
         self._take(seats[0], lines, answers)
         return dropped
 
-    def _bring_here(
-        self, host: Host, lines: List[str], seats: Sequence[Seat], was: Dict[str, str]
-    ) -> None:
+    def _bring_here(self, host: Host, lines: List[str], was: Dict[str, str]) -> None:
         """Brings a new program where this one is. Raises `Failure` where it doesn't do what it is
         told, or shows something else than this one does. (One whose history is full shows nothing
         any more: then the same moves have to do.)"""
         answers = host.tell_all(1, lines)
-        for seat in seats:
+        for seat in self._seats:
             answers += host.tell_all(seat.number, seat.watch_lines())
         if self.holder is not None:
-            answers += host.tell_all(self.holder, ["wheel take"])
+            answers += host.tell_all(self.holder.number, ["wheel take"])
         refused = [it for it in answers if it.startswith("no ")]
         if refused:
             raise Failure(f"the new rdbg answered {refused[0]}")
@@ -243,14 +221,6 @@ class Program:
         """Waits until the programs before this one have ended."""
         for thread in self._ending:
             thread.join()
-
-    def kill(self) -> None:
-        """Ends it at once."""
-        self._host.kill()
-
-    def close(self) -> Audit:
-        """Ends it, and answers its audit."""
-        return self._host.close()
 
 
 def watch_again(host: Host, seat: Seat) -> List[str]:

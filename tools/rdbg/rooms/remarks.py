@@ -28,9 +28,7 @@ def say(room: "Room", member: "Member", rest: str) -> str:
     """`# say TEXT`."""
     if not rest:
         raise Refusal("`# say TEXT`: say what?")
-    text = f"{member.name} says: {rest}"
-    room.tell(text)
-    return text
+    return room.tell(f"{member.name} says: {rest}")
 
 
 def to(room: "Room", member: "Member", rest: str) -> str:
@@ -51,25 +49,10 @@ def count_of(rest: str, form: str) -> int:
     return count
 
 
-def talk(room: "Room", member: "Member", rest: str) -> str:
-    """`# talk [COUNT]`."""
-    return room.tell_talk(member, count_of(rest, "talk COUNT"))
-
-
 def moves(room: "Room", member: "Member", rest: str) -> Optional[str]:
     """`# moves [COUNT]`."""
     text = room.tell_moves(member, count_of(rest, "moves COUNT"))
     return text if member.doing is None else None  # (then it is a part of something)
-
-
-def wheel(room: "Room", member: "Member", rest: str) -> str:
-    """`# wheel`."""
-    return room.wheel_wanted(member)
-
-
-def reload(room: "Room", member: "Member", rest: str) -> str:
-    """`# reload`."""
-    return room.begin_reload(member)
 
 
 def help_on(room: "Room", member: "Member", rest: str) -> str:
@@ -83,16 +66,6 @@ def help_on(room: "Room", member: "Member", rest: str) -> str:
     return room.tell_place(member)
 
 
-def does(room: "Room", member: "Member", rest: str) -> None:
-    """`# does TEXT`."""
-    room.begin(member, rest)
-
-
-def did(room: "Room", member: "Member", rest: str) -> None:
-    """`# did TEXT`."""
-    room.end(member, rest)
-
-
 Do = Callable[["Room", "Member", str], Optional[str]]
 # The lines, each with what is said of it, and what it does.
 FORMS: Dict[str, Tuple[str, Do]] = {
@@ -100,18 +73,26 @@ FORMS: Dict[str, Tuple[str, Do]] = {
     "who": ("who is here, away and idle, and who has the wheel", who),
     "say TEXT": ("is told to all", say),
     "to NAME: TEXT": ("is told to NAME alone", to),
-    "talk COUNT": (f"what all were told, the last {MOST} or fewer", talk),
+    "talk COUNT": (
+        f"what all were told, the last {MOST} or fewer",
+        lambda room, member, rest: room.tell_talk(member, count_of(rest, "talk COUNT")),
+    ),
     "moves COUNT": (f"what the last moves did, {MOST} or fewer", moves),
-    "wheel": ("asks for the wheel", wheel),
-    "reload": ("makes the same moves on the edited file; for who has the wheel", reload),
+    "wheel": ("asks for the wheel", lambda room, member, _: room.wheel_wanted(member)),
+    "reload": (
+        "makes the same moves on the edited file; for who has the wheel",
+        lambda room, member, _: room.begin_reload(member),
+    ),
     "help": ("these lines", help_on),
 }
-DO: Dict[str, Do] = {form.split(" ")[0]: do for form, (_, do) in FORMS.items()}
-DO.update(does=does, did=did)
+# What a program says of the lines around it, as often as it likes.
+AROUND: Dict[str, Do] = {
+    "does": lambda room, member, text: room.begin(member, text),
+    "did": lambda room, member, text: room.end(member, text),
+}
+DO: Dict[str, Do] = {**{form.split(" ")[0]: do for form, (_, do) in FORMS.items()}, **AROUND}
 *OTHERS, LAST = (f"`# {form}`" for form in FORMS)
 WORDS = f"{', '.join(OTHERS)} or {LAST}"
-# What a program says of the lines around it, as often as it likes.
-AROUND = (does, did)
 
 
 def do(room: "Room", member: "Member", line: str) -> Optional[str]:
@@ -121,7 +102,7 @@ def do(room: "Room", member: "Member", line: str) -> Optional[str]:
         found = DO.get(word)
         if found is None:
             raise Refusal(f"a line that begins with # is {WORDS}")
-        if found is not who and found not in AROUND:
+        if word not in ("who", *AROUND):
             member.check_pace()
         return found(room, member, rest.strip())
     except Refusal as refusal:

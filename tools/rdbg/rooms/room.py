@@ -1,6 +1,8 @@
-"""Several, each by a name, at one program that serves: what each of them asks, and what all are
-told."""
-from typing import Callable, Dict, List, NamedTuple, Optional, Set
+"""Several, each by a name, at one program that serves: what each asks, and all are told."""
+import collections
+import threading
+import time
+from typing import Callable, Deque, Dict, List, NamedTuple, Optional, Set
 
 from rdbg import record
 from rdbg.commands import MOST_BYTES, TARGET, Command
@@ -8,9 +10,9 @@ from rdbg.failure import Failure
 from rdbg.rooms import reloading, remarks
 from rdbg.rooms.counts import Counts
 from rdbg.rooms.doings import Doing
-from rdbg.rooms.heard import Heard
-from rdbg.rooms.host import MOST_SESSIONS, Audit, Ended, Host
-from rdbg.rooms.member import Hear, Member
+
+from rdbg.rooms.host import MOST_SESSIONS, Audit, Ended
+from rdbg.rooms.member import Hear, Member, Notice
 from rdbg.rooms.program import FULL, HISTORY, SCARCE, Program
 from rdbg.rooms.seats import Refusal, Seat, Seats, check
 from rdbg.rooms.sight import is_single
@@ -25,8 +27,8 @@ __all__ = ["Ended", "Member", "Refusal", "Room"]
 
 TOO_LONG, NO_COMMAND = "no LineTooLong", "no Syntax"
 HELD = "no Held"
-# Of a run the last so many moves are told.
-FEW = 5
+# Of a run the last so many moves are told; so many of the notices to all are kept.
+FEW, MOST_HEARD = 5, 500
 # So many seconds without a line make somebody idle, unless it is said otherwise.
 IDLE = 60
 # It is said when so little of the history is left, one part of so many.
@@ -48,8 +50,13 @@ class Room:
     """One program, with a session for each name. What anyone does, all are told."""
 
     def __init__(
-        self, host: Host, source: Source, limits: Limits, talk: Optional[Talk] = None
+        self,
+        source: Source,
+        limits: Limits = Limits(history=HISTORY),
+        sessions: int = MOST_SESSIONS,
+        talk: Optional[Talk] = None,
     ) -> None:
+        """Starts the program. Raises `Failure` where that can't be."""
         self.app_source = source
         # Is called once the program has ended by itself. Nothing is answered then, nor at the end.
         self.when_over: Callable[[], None] = lambda: None
@@ -58,9 +65,12 @@ class Room:
         self.is_over = self.is_reloading = False
         # Who has said no line for so many seconds is idle.
         self.idle = IDLE
-        self._program, self._seats = Program(host, source, limits), Seats(host.numbers())
-        self._talk, self._heard, self.counts = talk, Heard(), Counts()
-        self._program.when_over = self._is_over
+        self._seats = Seats(sessions)
+        self._program = Program(source, limits, self._seats.all)
+        self._program.when_over, self._program.when_ended = self._is_over, self._has_ended
+        self._talk, self.counts = talk, Counts()
+        # (what all were told last, for who comes late)
+        self._heard: Deque[Notice] = collections.deque(maxlen=MOST_HEARD)
         self._members: Dict[int, Member] = {}
         self._turns = Turns()
         self._followers: List[Callable[[str, str], None]] = []
@@ -76,25 +86,8 @@ class Room:
         """How many moves are done, as last told."""
         return self._program.place
 
-    def free(self) -> int:
-        """For how many entries the history has room."""
-        with self._turns:
-            return self._program.left()
-
-    @classmethod
-    def open(
-        cls,
-        source: Source,
-        limits: Limits = Limits(history=HISTORY),
-        sessions: int = MOST_SESSIONS,
-        talk: Optional[Talk] = None,
-    ) -> "Room":
-        """A room over a program of its own. Raises `Failure` where that can't be started."""
-        return cls(Host.start(source, limits, sessions), source, limits, talk)
-
     def join(self, name: Optional[str], hear: Hear, is_told: bool = True) -> Member:
-        """Somebody comes, by a name, or by none as a guest; who isn't told to the others yet is
-        by `announce`. Raises `Refusal`."""
+        """Somebody comes, by a name or as a guest, told now or by `announce`. Raises `Refusal`."""
         with self._turns:
             if self.is_over:
                 raise Refusal("the room has ended")
@@ -102,8 +95,7 @@ class Room:
             called = name or self._seats.guest_name()
             if seat.name and (name is None or seat.name != name):
                 self._hand_over(seat)
-            member = Member(self, seat, hear, False)
-            member.before = self._heard.last()
+            member = Member(self, seat, hear, list(self._heard))
             self._seats.sit(seat, called)
             self._members[seat.number] = member
             self._asked.clear()
@@ -131,7 +123,7 @@ class Room:
 
     def _hand_over(self, seat: Seat) -> None:
         """Takes a session from who is away, for another one, with what was kept there."""
-        has = self._program.holder == seat.number
+        has = self._program.holder is seat
         lines = [f"unwatch {number}" for number in sorted(seat.watches)]
         for line in lines + (["wheel give"] if has else []):
             self._program.ask(seat, line)
@@ -146,8 +138,7 @@ class Room:
             self.rename_in_turn(member, name)
 
     def rename_in_turn(self, member: Member, name: str) -> None:
-        """The same, where the room has its turn already. A new name keeps the session; that of
-        somebody who is away has one of its own."""
+        """The same in the room's turn. A name of nobody keeps the session, others have theirs."""
         check(name)
         old, seat = member.name, member.seat
         if name != old and name in self._seats.by_name():
@@ -181,7 +172,7 @@ class Room:
             if not member.is_told:  # (nobody knows of it, and it has said nothing)
                 self._seats.clear(member.seat)
                 return
-            has = ", with the wheel" if self._program.holder == member.session else ""
+            has = ", with the wheel" if self._program.holder is member.seat else ""
             text = f"is away{has}" + (f" ({why})" if why else "")
             self._keep(member.name, "#", text)
             self.tell(f"{member.name} {text}")
@@ -200,7 +191,7 @@ class Room:
             except Ended:
                 self._keep(member.name, line, "")
                 raise
-            command = command_of(line)
+            command = read_line(plain(line))
             is_part = member.doing is not None and member.doing.has(command)
             if line.strip() and not is_part:
                 self._keep(member.name, line, reply)
@@ -234,25 +225,28 @@ class Room:
             return TOO_LONG
         if "\n" in line:
             return NO_COMMAND
-        sent, command = plain(line), command_of(line)
+        sent = plain(line)
+        command = read_line(sent)
         if command is None:
             word = sent.split(" ")[0]
             if word in remarks.DO:
                 member.hear(f"# a line for the room begins with #: `# {word}`")
             return self._program.ask(member.seat, sent)
-        reply = self._program.known(member.seat, command)
+        reply = self._program.memory.known(member.session, command)
         if reply is None and command.form.is_look:
             return self._program.ask(member.seat, sent)
         if reply is None:
             reply = self._change(member, command, sent)
-        if reply.startswith(HELD):
-            self._say_who_has_it(member)
+        holder = self._program.holder
+        if reply.startswith(HELD) and holder is not None:
+            away = "" if holder.is_here else " and is away"
+            member.hear(f"# {holder.name} has the wheel{away}: '# wheel' asks for it")
         return reply
 
     def _change(self, member: Member, command: Command, line: str) -> str:
         """The reply to a line that changes something, or is refused; all are told what it did."""
         seat, place = member.seat, self.place
-        single = is_single(command) and self._program.holder in (None, seat.number)
+        single = is_single(command) and self._program.holder in (None, seat)
         before = self._program.look(seat) if single else None
         reply = self._program.ask(seat, line)
         if reply.startswith("no "):
@@ -288,24 +282,16 @@ class Room:
         for line in lines:
             self.tell(line)
 
-    def _say_who_has_it(self, member: Member) -> None:
-        """Says to who was refused it who has the wheel."""
-        if self._program.holder is not None:
-            seat = self._seats.of_number(self._program.holder)
-            away = "" if seat.is_here else " and is away"
-            member.hear(f"# {seat.name} has the wheel{away}: '# wheel' asks for it")
-
-    def tell(self, text: str, but: Optional[Member] = None) -> None:
-        """Tells all who are here, but for one."""
-        notice = f"# {shown(text)}"
-        self._heard.keep(shown(text))
+    def tell(self, text: str, but: Optional[Member] = None) -> str:
+        """Tells all who are here, but for one, and answers it."""
+        self._heard.append(Notice(time.time(), shown(text)))
         # (others may come and go meanwhile)
         for member in list(self._members.values()):
             if member is not but:
-                member.hear(notice)
+                member.hear(f"# {shown(text)}")
+        return text
 
     def _keep(self, who: str, line: str, reply: str) -> None:
-        """Keeps a row of the talk."""
         if self._talk is None or self._talk.fault:
             return
         self._talk.keep(who, line, reply)
@@ -317,7 +303,7 @@ class Room:
         if reply == FULL:
             member.hear("# the history is full: what was seen is still answered, nothing else is")
         left, limit = self._program.left(), self._program.limits.history
-        if self._program.is_scarce() and self._renew():
+        if left * SCARCE < limit and self._renew():
             return
         if self._warned < len(NEARLY) and left * NEARLY[self._warned] < limit:
             self._warned += 1
@@ -328,7 +314,7 @@ class Room:
     def _renew(self) -> bool:
         """Goes on with a new program, and answers whether that could be had."""
         try:
-            if not self._program.renew(self._seats.all, self._has_ended):
+            if not self._program.renew():
                 return False
         except Failure as failure:
             if not self._is_told_why:
@@ -372,39 +358,44 @@ class Room:
 
     def begin_reload(self, member: Member) -> str:
         """Begins to read the file anew, for who has the wheel. Raises `Refusal`."""
-        if self._program.holder != member.session:
+        if self._program.holder is not member.seat:
             raise Refusal("who has the wheel reads the file anew: `wheel take`")
         if self.is_reloading:
             raise Refusal("the file is read anew already")
         self.is_reloading = True
-        reloading.begin_reload(self, member)
+        threading.Thread(target=self._reload, args=(member,), daemon=True).start()
         return "begun"
 
-    def take(self, member: Member, was: List[str], new: reloading.Reloaded) -> None:
-        """Goes on with a source that somebody had read anew while these lines led here. Raises
-        `Refusal`, and `Failure` where no new program can be had."""
-        with self._turns:
-            if self.is_over or not member.is_here or self._program.holder != member.session:
-                raise Refusal("the wheel was given back, or the room has ended, before it was read")
-            if self._program.journal.lines() != was:
-                raise Refusal("the target was moved before it was read: once more")
-            seats = self._seats.all
-            dropped = self._program.reload(new.source, new.lines, seats, self._has_ended)
-            self.app_source = new.source
-            self._followers.clear()
-            first, *rows = [*new.said, *dropped]
-            self._keep("room", "#", f"opens {new.source.path}")
-            self.tell(f"{member.name} has the file read anew: {first}")
-            for row in rows:
-                self.tell(row)
-        self.when_reloaded()
+    def _reload(self, member: Member) -> None:
+        """Reads the file anew behind the room's turn, and goes on with it; all are told then."""
+        try:
+            was = self.lines()
+            source, lines, said = reloading.made_again(self.app_source, was)
+            with self._turns:
+                if self.is_over or not member.is_here or self._program.holder is not member.seat:
+                    why = "the wheel was given back, or the room has ended, before it was read"
+                    raise Refusal(why)
+                if self._program.journal.lines() != was:
+                    raise Refusal("the target was moved before it was read: once more")
+                dropped = self._program.reload(source, lines)
+                self.app_source = source
+                self._followers.clear()
+                self._keep("room", "#", f"opens {source.path}")
+                self.tell(f"{member.name} has the file read anew: {said[0]}")
+                for row in (*said[1:], *dropped):
+                    self.tell(row)
+            self.when_reloaded()
+        except (Refusal, Failure) as wrong:
+            member.hear(f"# no: {'; '.join(str(wrong).splitlines())}")
+        finally:
+            self.is_reloading = False
 
     def people(self) -> List[Person]:
         """Who has a session, here or away."""
         seats = self._seats.by_name().items()
         holder = self._program.holder
         return [
-            Person(name, it.number, it.is_here, it.number == holder, self._silence(it))
+            Person(name, it.number, it.is_here, it is holder, self._silence(it))
             for name, it in seats
         ]
 
@@ -426,8 +417,7 @@ class Room:
     def tell_moves(self, member: Member, count: int) -> str:
         """Tells somebody the last moves. They are looked at with the session that may move."""
         program = self._program
-        seat = member.seat if program.holder is None else self._seats.of_number(program.holder)
-        for row in program.last_rows(seat, count):
+        for row in program.last_rows(program.holder or member.seat, count):
             member.hear(f"# {row}")
         return self.tell_place(member)
 
@@ -439,7 +429,7 @@ class Room:
 
     def tell_talk(self, member: Member, count: int) -> str:
         """Tells somebody the last that all were told."""
-        for it in self._heard.last(count):
+        for it in list(self._heard)[-count:]:
             member.hear(f"# {it.row()}")
         return self.tell_place(member)
 
@@ -456,11 +446,11 @@ class Room:
     def wheel_wanted(self, member: Member) -> str:
         """Somebody asks for the wheel. Who has it is told; where that one is away, it is given up
         by who asks once more. Answers what all are told. Raises `Refusal`."""
-        if self._program.holder is None:
+        seat = self._program.holder
+        if seat is None:
             raise Refusal("the wheel is free: `wheel take`")
-        if self._program.holder == member.session:
+        if seat is member.seat:
             raise Refusal("you have the wheel: `wheel give` gives it back")
-        seat = self._seats.of_number(self._program.holder)
         text = f"{member.name} asks for the wheel"
         if not seat.is_here and member.session in self._asked:
             self._program.ask(seat, "wheel give")
@@ -468,30 +458,25 @@ class Room:
         elif not seat.is_here:
             self._asked.add(member.session)
             member.hear(f"# {seat.name} is away with it: `# wheel` once more gives it back")
-        self.tell(text)
-        return text
+        return self.tell(text)
 
     def free_wheel(self) -> str:
-        """Has the wheel given back by who has it, and is away or idle. Answers what all are told.
-        Raises `Refusal`."""
+        """Has the wheel given back by who is away or idle. Answers what all are told, or why not."""
         with self._turns:
             try:
                 text = self._freed()
             except Refusal as refusal:
-                self._keep("room", "# free", f"no: {refusal}")
-                raise
+                text = f"no: {refusal}"
             self._keep("room", "# free", text)
-            self.tell(text)
-            return text
+            return text if text.startswith("no: ") else self.tell(text)
 
     def _freed(self) -> str:
-        holder = self._program.holder
+        seat = self._program.holder
         if self.is_over:
             raise Refusal("the room has ended")
-        if holder is None:
+        if seat is None:
             raise Refusal("nobody has the wheel")
-        seat, member = self._seats.of_number(holder), self._members.get(holder)
-        silence = self._silence(seat)
+        member, silence = self._members.get(seat.number), self._silence(seat)
         if member is not None and silence < self.idle:
             waited, enough = (counted(it, "second") for it in (silence, self.idle))
             why = f"{waited} without a line, {enough} would do"
@@ -510,15 +495,14 @@ class Room:
             self.when_over()
 
     def close(self) -> List[Audit]:
-        """Ends the program, tells all its audit, and answers it, behind those of the programs
-        before it whose history was full."""
+        """Ends the program; all are told its audit. Answers that behind those of others before."""
         with self._turns:
             self.is_over = True
         self._program.wait()
         with self._turns:
             for member in self._members.values():
                 self.end(member, f"broken off, at {self.place}")
-            audit = self._program.close()
+            audit = self._program.host.close()
             for row in self.counts.rows():
                 self._keep("room", "#", row)
                 self.tell(row)
@@ -530,14 +514,9 @@ class Room:
 
     def kill(self) -> None:
         """Ends the program at once, without its audit."""
-        self._program.kill()
+        self._program.host.kill()
 
 
 def plain(line: str) -> str:
     """A line as it goes to the program."""
     return line.encode("ascii", "replace").decode()
-
-
-def command_of(line: str) -> Optional[Command]:
-    """The command that a line is, if any."""
-    return read_line(plain(line))

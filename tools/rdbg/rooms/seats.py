@@ -54,8 +54,8 @@ class Seats:
     Guests have half of the sessions at the most, and nobody's who is away, so that however many
     connections come, names get in."""
 
-    def __init__(self, numbers: range) -> None:
-        self.all: List[Seat] = [Seat(number) for number in numbers]
+    def __init__(self, count: int) -> None:
+        self.all: List[Seat] = [Seat(number) for number in range(1, count + 1)]
         self._times = itertools.count(1)
 
     def by_name(self) -> Dict[str, Seat]:
@@ -66,14 +66,9 @@ class Seats:
         """The sessions of those who are here."""
         return (it for it in self.all if it.is_here)
 
-    def of_number(self, number: int) -> Seat:
-        """The session of a number."""
-        return self.all[number - 1]
-
     def find(self, name: Optional[str]) -> Seat:
-        """The session that somebody gets who comes by a name, or as a guest. Raises `Refusal` where
-        that name is here, or everybody is. Where another name is away with it, that one loses it:
-        nothing has changed yet."""
+        """The session of who comes by a name, or as a guest; who is away with it loses it, once it
+        is taken. Raises `Refusal` where that name is here, or all are."""
         names = self.by_name()
         if name is None:
             return names.get(self.guest_name()) or self._for_guest()
@@ -99,8 +94,7 @@ class Seats:
         return next(it for it in map(f"{GUEST}{{}}".format, itertools.count(1)) if it not in here)
 
     def _free(self, seats: List[Seat]) -> Seat:
-        """The one of these sessions that nobody has, or whose name was away longest. Raises
-        `Refusal` where all who have one are here."""
+        """That which nobody has, or whose name was away longest. Raises `Refusal` for none."""
         away = [it for it in seats if not it.is_here]
         if not away:
             raise Refusal(f"{all_of(len(self.all))} taken by who is here")

@@ -12,8 +12,7 @@ from rdbg.driving.target import BY_HAND, SINGLE, read
 
 
 class Sight:
-    """The application that a room has, the look at it that was last taken, and what was done by
-    hand at which place."""
+    """A room's application, the last look at it, and what was done by hand at which place."""
 
     def __init__(self, application: Application) -> None:
         self.application = application

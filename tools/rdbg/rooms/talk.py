@@ -3,7 +3,7 @@ import contextlib
 import os
 import stat
 import time
-from typing import IO, Optional
+from typing import IO
 
 from rdbg import own_file
 from rdbg.failure import Failure, trying
@@ -32,35 +32,24 @@ class Talk:
     """A file to which rows are added. Each is written whole, at once."""
 
     def __init__(self, path: str) -> None:
-        """Opens it, behind the talk that stands there. Raises `Failure` where it can't be written,
-        or something else stands there."""
+        """Opens it, behind the talk that is there. Raises `Failure` where that can't be."""
         self.path = path
         # Why no more can be written, if so.
         self.fault = ""
-        self._second, self._text = 0, ""
         with trying(f"write {path}"):
             self._file: IO[bytes] = os.fdopen(begun(path), "ab", buffering=0)
             if not self._file.tell():
                 self._file.write(HEAD.encode())
 
     def keep(self, who: str, line: str, reply: str) -> None:
-        """Adds a row; where that can't be done none is added any more."""
+        """Adds a row; where that can't be done none is added any more, and no part of one."""
         if self.fault:
             return
-        row = "\t".join([self._now(), who, field(line), field(reply)])
-        self._write(row.encode("utf-8", "replace") + b"\n")
-
-    def _now(self) -> str:
-        """The time, in UTC and to the millisecond."""
         now = time.time()
-        if int(now) != self._second:
-            self._second = int(now)
-            self._text = time.strftime("%Y-%m-%dT%H:%M:%S", time.gmtime(self._second))
-        return f"{self._text}.{int(now * 1_000) % 1_000:03}Z"
-
-    def _write(self, row: bytes) -> None:
-        """Writes a row; where that can't be done none is written any more, and no part of one."""
-        written = 0
+        second = time.strftime("%Y-%m-%dT%H:%M:%S", time.gmtime(now))
+        when = f"{second}.{int(now * 1_000) % 1_000:03}Z"
+        cells = "\t".join([when, who, field(line), field(reply)])
+        row, written = cells.encode("utf-8", "replace") + b"\n", 0
         try:
             while written < len(row):
                 written += self._file.write(row[written:])
@@ -75,8 +64,3 @@ class Talk:
             self._file.close()
         except OSError as error:
             self.fault = self.fault or error.strerror or "it can't be written"
-
-
-def opened(path: Optional[str]) -> Optional[Talk]:
-    """The file of a path, or none."""
-    return None if path is None else Talk(path)

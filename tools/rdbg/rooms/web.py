@@ -10,14 +10,14 @@ from typing import Any, Callable, Dict, Optional
 
 from rdbg.client import LOCAL
 from rdbg.commands import is_number
-from rdbg.door import Door, turn_away
+from rdbg.door import Door, Unheard, turn_away
 from rdbg.failure import Failure, trying
 from rdbg.rooms import web_document
 from rdbg.rooms import web_guard as guard
 from rdbg.rooms.room import Refusal, Room
 from rdbg.rooms.web_follower import Follower, Values
+from rdbg.rooms.web_known import Known
 from rdbg.rooms.web_guard import Denied
-from rdbg.rooms.web_key import Key, new
 from rdbg.rooms.web_pages import Page, Pages, as_json
 
 # A page is told that it is still told something after so many seconds.
@@ -29,17 +29,17 @@ HTML, TEXT, EVENTS = "text/html; charset=utf-8", "text/plain; charset=utf-8", "t
 # Where a page is let in by the key of its address.
 ENTRY = "/in"
 # What a page can say, by the path that is asked, and what it is answered.
-SAID: Dict[str, Callable[[Page, str], Dict[str, str]]] = {
+SAID: Dict[str, Callable[[Page, str], Optional[Dict[str, str]]]] = {
     "line": lambda page, line: {"reply": page.ask(line)},
-    "name": lambda page, name: page.rename(name),
-    "run": lambda page, _: page.begin_anew(),
+    "name": lambda page, name: page.member.rename(name),
+    "run": lambda page, _: page.tell("run", ""),  # (where it isn't shown where the target is)
     "save": lambda page, _: {"reply": page.moves()},
     "watches": lambda page, _: {"reply": page.watches()},
 }
 # For which moves it can ask, by the place at which those begin or end that it has.
-MOVES: Dict[str, Callable[[Follower, int], Values]] = {
-    "before": Follower.before,
-    "behind": Follower.behind,
+MOVES: Dict[str, Callable[[Known, int], Values]] = {
+    "before": Known.before,
+    "behind": Known.behind,
 }
 
 
@@ -56,20 +56,15 @@ class Handler(BaseHTTPRequestHandler):
         self.rfile = io.BufferedReader(self.bounded)
 
     def do_GET(self) -> None:
-        """The page, or what comes to it."""
-        self._do("GET")
-
-    def do_POST(self) -> None:
-        """A line."""
-        self._do("POST")
-
-    def _do(self, method: str) -> None:
+        """The page, or what comes to it; of a POST, a line."""
         try:
-            self._let_in(method)
+            self._let_in(self.command)
         except Denied as denied:
             self.send_error(denied.status, denied.text)
         except OSError:
             pass  # (the connection has gone)
+
+    do_POST = do_GET
 
     def _let_in(self, method: str) -> None:
         if self.bounded.is_over:
@@ -79,7 +74,8 @@ class Handler(BaseHTTPRequestHandler):
             self.server.unread.remove(self.connection)
             return self._answer(200, HTML, self.server.page)
         if self.path == ENTRY and method == "POST":
-            return self._trade(self._said())
+            self.server.key.use(self._said().get("key", ""))
+            return self._answer(200, guard.JSON, as_json({"token": self.server.token}))
         name, query = guard.check_token(self.path, self.server.token)
         if method == "POST":
             if name not in SAID and name not in MOVES:
@@ -98,18 +94,12 @@ class Handler(BaseHTTPRequestHandler):
         self.server.unread.remove(self.connection)
         return said
 
-    def _trade(self, said: Dict[str, str]) -> None:
-        """Lets a page in for the key of the address. Raises `Denied`."""
-        self.server.key.use(said.get("key", ""))
-        self._answer(200, guard.JSON, as_json({"token": self.server.token}))
-
     def _line(self, name: str, said: Dict[str, str]) -> None:
-        """Does what a page says."""
         try:
             page = self.server.pages.of(said.get("page", ""))
             if name in MOVES:
                 return self._answer(200, guard.JSON, self._moves(name, said.get(name, "")))
-            found = SAID[name](page, said.get(name, ""))
+            found = SAID[name](page, said.get(name, "")) or {}
         except Refusal as refusal:
             found = {"refused": str(refusal)}
         except Failure as failure:
@@ -122,7 +112,7 @@ class Handler(BaseHTTPRequestHandler):
             raise Refusal(f"'{place[:16]}' is no place")
         follower = self.server.follower
         with follower.guard:
-            return as_json(MOVES[name](follower, int(place)))
+            return as_json(MOVES[name](follower.known, int(place)))
 
     def _events(self, query: str) -> None:
         """Tells a page what comes, until it goes."""
@@ -191,8 +181,8 @@ class Served(ThreadingMixIn, HTTPServer):
     def __init__(self, room: Room, port: int, door: Door) -> None:
         self.room, self._door = room, door
         # (the one lets a browser in, once; the other one it has for it, and says with each request)
-        self.key, self.token = Key(), new()
-        self.unread, self.pages = guard.Unread(), Pages(room)
+        self.key, self.token = guard.Key(), guard.new()
+        self.unread, self.pages = Unheard(guard.MOST_UNREAD, guard.SECONDS), Pages(room)
         self.page = web_document.page()
         self.of_room = as_json(web_document.of_room(room.app_source))
         room.when_reloaded = self._reload

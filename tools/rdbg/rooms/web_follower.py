@@ -9,7 +9,7 @@ from rdbg.rooms.web_known import Known, Piece
 from rdbg.rooms.web_mirror import Differs, Mirror
 from rdbg.rooms.web_past import WRONG, Past
 from rdbg.driving.target import read
-from rdbg.driving.parts import Part, Told, Trim
+from rdbg.driving.parts import Part, Told
 
 # A line that made at most so many moves is looked at as a whole, where that takes so few seconds.
 # Of more, and where so many lines have come in a heap, the last moves are looked at, so many, and
@@ -39,8 +39,8 @@ class Follower:
         self.count_told = self.count_done = 0
         lines = room.follow(self.told)
         self._mirror = Mirror(source, lines)
-        self._known = Known(source.application, self._mirror.newest(LAST))
-        self._past = Past(source, lines, self.guard, self._wanted, self._found, self.lose)
+        self.known = Known(source.application, self._mirror.newest(LAST))
+        self._past = Past(self, source, lines)
         self._thread = threading.Thread(target=self._follow, daemon=True)
         self._thread.start()
 
@@ -58,46 +58,32 @@ class Follower:
         self._past.close()
 
     @property
-    def _done(self) -> int:
-        """How many moves are done."""
-        return self._mirror.place
-
-    @property
     def _end(self) -> int:
         """Up to which place moves that were taken back are looked at."""
-        return self._done + min(self._mirror.undone, MOST_AHEAD)
+        return self._mirror.place + min(self._mirror.undone, MOST_AHEAD)
 
     def values(self) -> Values:
         """What a page begins with, for who holds the guard: what is around the target."""
-        place = max(self._known.first, min(self._done, self._known.last))
-        return {**self._known.around(place), **self._now()}
-
-    def before(self, place: int) -> Values:
-        """What a page that begins at a place has to add there, for who holds the guard: some of the
-        moves before it, if they are known."""
-        return self._known.before(place) or {}
-
-    def behind(self, place: int) -> Values:
-        """The same of a page that ends at a place, and moves behind it."""
-        return self._known.behind(place) or {}
+        place = max(self.known.first, min(self._mirror.place, self.known.last))
+        return {**self.known.around(place), **self._now()}
 
     def _now(self) -> Values:
         """Where the target is, what is known by now, and how much more is to come."""
         return {
-            "done": self._done,
+            "done": self._mirror.place,
             "undone": self._mirror.undone,
-            "known": [self._known.first, self._known.last],
-            "toCome": 0 if self.lost else self._known.missing(self._end),
+            "known": [self.known.first, self.known.last],
+            "toCome": 0 if self.lost else self.known.missing(self._end),
             "lost": self.lost,
         }
 
-    def _wanted(self, count: int) -> Optional[Piece]:
-        """The moves that are to be looked at next, so many at the most."""
-        return None if self.lost else self._known.wanted(count, self._end)
+    def wanted(self, count: int) -> Optional[Piece]:
+        """The moves that are to be looked at next, so many at the most, for who holds the guard."""
+        return None if self.lost else self.known.wanted(count, self._end)
 
-    def _found(self, piece: Piece, part: Part) -> None:
-        """What earlier moves did, or moves that were taken back."""
-        behind = self._known.put(piece, part)
+    def found(self, piece: Piece, part: Part) -> None:
+        """What earlier moves did, or moves that were taken back, for who holds the guard."""
+        behind = self.known.put(piece, part)
         self._tell("more" if behind else "now", {**(behind or {}), **self._now()})
 
     def lose(self, why: Exception) -> None:
@@ -124,12 +110,11 @@ class Follower:
         with self.guard:
             for it in lines:
                 self._do(it, len(lines) > HEAP)
-            if not self._known.has(self._done):
-                if not self._known.find(self._done):
-                    count = self._known.near(self._done, LAST)
-                    self._known.jump(self._mirror.newest(count))
-                self._tell("run", {})
-            elif self._known.forget():
+            is_there = self.known.has(self._mirror.place)
+            if not is_there and not self.known.find(self._mirror.place):
+                count = self.known.near(self._mirror.place, LAST)
+                self.known.jump(self._mirror.newest(count))
+            if not is_there or self.known.forget():
                 self._tell("run", {})
             else:
                 self._tell("now", self._now())
@@ -138,25 +123,23 @@ class Follower:
         return len(lines) == len(heap)
 
     def _do(self, told: Told, is_heap: bool) -> None:
-        """Does what a line did."""
         self._past.told(told)
         word = told.text.split(" ")[0]
         if word == record.TRIM:
-            self._known.trim(Trim(told.place, told.text))
-            self._tell("trims", {"trims": self._known.trims(), **self._now()})
+            self.known.trims = [*self.known.trims, [told.place, told.text]]
+            self._tell("trims", {"trims": self.known.trims, **self._now()})
         elif word in (record.BACK, record.REDO):
             self._mirror.do(told)
         else:
             self._make(told, is_heap)
 
     def _make(self, told: Told, is_heap: bool) -> None:
-        """Makes new moves."""
-        count = told.place - self._done
+        count = told.place - self._mirror.place
         if count < 1:
             raise Differs(f"{told.text} led to {told.place}")
-        is_known = self._known.cut(self._done)
+        is_known = self.known.cut(self._mirror.place)
         if not is_known or is_heap or count > max(1, min(self._mirror.count(SECONDS), SHORT)):
             self._mirror.do(told)
             return
         part = self._mirror.do_and_look(told)
-        self._tell("more", {**self._known.add(part), **self._now()})
+        self._tell("more", {**self.known.add(part), **self._now()})

@@ -1,34 +1,34 @@
-"""Goals that are typed at a page: `reach GOAL`, whether some order of moves leads there from where
-the target stands, `lost GOAL` and `doomed GOAL`, asked of the program that searches, while the room
-goes on; and why words are none. Runs to them are in `web_ways`."""
+"""Goals that are typed at a page. `reach GOAL`, `lost GOAL` and `doomed GOAL` are asked of the
+program that searches, while the room goes on. To a goal lead runs and ways back: `until! GOAL`,
+`rc GOAL`, `rc! GOAL`, and those of `until` and `back until` for which rdbg has no line: the place
+is found in a program of the page's own, and gone to by one line of rdbg's."""
+import dataclasses
 import time
-from typing import Sequence
+from typing import NamedTuple, Optional, Sequence
 
-from rdbg import record
+from rdbg import commands, record
+from rdbg.driving.interrupt import Interrupted
+from rdbg.driving.opening import begin
 from rdbg.driving.parts import move_to
+from rdbg.driving.target import Limits, Unable
+from rdbg.driving.walk import Walk
 from rdbg.failure import Failure
+from rdbg.goals import sought
 from rdbg.goals.reading import NoGoal
-from rdbg.goals.words import for_search
 from rdbg.goals.scope import Scope
+from rdbg.goals.words import for_search
 from rdbg.reaching import handlers, losing
 from rdbg.reaching.asking import QUESTIONS, Asker
 from rdbg.reaching.behind import ask_behind
-from rdbg.rooms.room import Room
+from rdbg.replies import Refused
+from rdbg.rooms.quiet import SECONDS, Patience
+from rdbg.rooms.room import Member, Room
 
-# A search ends after so many seconds, or with so many mebibytes.
-SECONDS, MEBIBYTES = 20.0, 256
-
-
-def is_question(words: Sequence[str]) -> bool:
-    """Whether a line asks for what can still come."""
-    return words[:1] != [] and words[0] in QUESTIONS
-
-
-def lacks_goal(room: Room, words: Sequence[str]) -> str:
-    """What is answered to a question behind which no goal stands, nor was one asked for before."""
-    application = room.app_source.application
-    assert application is not None
-    return f"no: {QUESTIONS[words[0]].lacks_goal(application.tasks[0].name)}"
+# A search ends with so many mebibytes, and as what is typed does, after so many seconds.
+MEBIBYTES = 256
+# So many moves a run makes at the most, where no COUNT is said.
+MOST = 10_000
+SYNTAX = "no Syntax"
 
 
 def goal_in(line: str, reply: str) -> Sequence[str]:
@@ -40,8 +40,11 @@ def goal_in(line: str, reply: str) -> Sequence[str]:
 
 
 def answered(room: Room, words: Sequence[str]) -> str:
-    """What is answered to such a line, behind which a goal stands, in one."""
+    """What is answered to a question, in one line."""
     question, goal, source = QUESTIONS[words[0]], words[1:], room.app_source
+    if not goal:
+        assert source.application is not None
+        return f"no: {question.lacks_goal(source.application.tasks[0].name)}"
     try:
         _, asked = for_search(goal, Scope.of(source))
     except NoGoal as wrong:
@@ -57,3 +60,67 @@ def answered(room: Room, words: Sequence[str]) -> str:
         return f"no: {failure}"
     said = [f"{answer.head()}: {texts}" if texts else answer.head()]
     return "; ".join([*said, *filter(None, [handlers.told((), source.application)])])
+
+
+class Typed(NamedTuple):
+    """What was typed: whether it goes forwards, and to where a goal becomes so; and its words."""
+
+    is_forwards: bool
+    becoming: bool
+    goal: Sequence[str]
+
+
+def typed(line: str) -> Optional[Typed]:
+    """The run or the way back that a line asks for, where rdbg has no line for it."""
+    words = line.split()
+    head, behind = words[:1], words[1:]
+    if head == [record.BACK] and behind[:1] in (["until"], ["until!"]):
+        head, behind = ["rc!" if behind[0].endswith("!") else "rc"], behind[1:]
+    if commands.read(line) is not None or head not in (["until"], ["until!"], ["rc"], ["rc!"]):
+        return None
+    return Typed(head[0].startswith("until"), head[0].endswith("!"), behind)
+
+
+def gone(room: Room, member: Member, line: str, it: Typed) -> str:
+    """Goes to a goal, and answers where that is; all are told of it as of one line."""
+    if not it.goal:
+        return f"{SYNTAX}: to what? a goal, as `{line.strip()} asleep`"
+    has_wheel = any(who.has_wheel and who.session == member.session for who in room.people())
+    room.begin(member, line.strip())
+    reply = "" if has_wheel else member.ask("wheel take")
+    if reply.startswith("no "):
+        room.end(member, "")
+        return reply
+    said = ""
+    try:
+        said = to_place(room, member, it)
+        return said
+    finally:
+        if not has_wheel:
+            member.ask("wheel give")
+        room.end(member, said)
+
+
+def to_place(room: Room, member: Member, it: Typed) -> str:
+    """Finds the place, and goes there."""
+    target = begin(room.app_source, Limits(Limits.moves, commands.MOST_COUNT))
+    with target.session:
+        target.tell_all(room.lines())
+        start = target.place
+        try:
+            scope = dataclasses.replace(
+                Scope.of(room.app_source), watches=dict(member.seat.watches)
+            )
+            way, count = sought.way(it.goal, target, scope, it.becoming)
+            walk, most = Walk(target, Patience()), MOST if count is None else count
+            place = way.next(walk, most) if it.is_forwards else way.last(walk)
+        except NoGoal as wrong:
+            return f"{SYNTAX}: {wrong}"
+        except (Interrupted, Unable, Refused, Failure) as ended:
+            return f"no: {ended or f'it took more than {SECONDS:.0f} seconds'}; at {start} still"
+    if place is None or place == start:
+        where = f"in {most} moves" if it.is_forwards else "before"
+        return f"no: '{way.text}' wasn't met {where}; at {start} still"
+    line = f"forward {place - start}" if it.is_forwards else record.way(start, place)
+    reply = member.ask(line)
+    return reply if reply.startswith("no ") else f"at {place} met: {way.text}"

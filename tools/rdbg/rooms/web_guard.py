@@ -1,14 +1,20 @@
-"""Whom a room's pages let in: who has the token, from no other origin, with little to say."""
+"""Whom a room's pages let in: who has the token, from no other origin, with little to say. A
+browser gets it for the key in the page's address, which lets one in, once."""
+import contextlib
 import hmac
 import io
 import json
+import os
+import secrets
 import socket
+import sys
+import threading
 import urllib.parse
 from email.message import Message
-from typing import BinaryIO, Dict, List, Optional, Tuple
+from typing import BinaryIO, Callable, Dict, Iterator, List, Optional, Tuple
 
+from rdbg import own_file
 from rdbg.digits import is_digits
-from rdbg.door import Unheard
 
 # A request's head has so many bytes at the most, its body so many, and both take so many seconds.
 MOST_HEAD, MOST_BODY, SECONDS = 16_384, 4_096, 10.0
@@ -27,6 +33,11 @@ HEADERS = (
 )
 HOSTS = ("127.0.0.1", "localhost")
 JSON = "application/json"
+# So many bytes at random has what lets somebody in.
+BYTES = 24
+USED = "this isn't the key of the address that the room has said last"
+# What is printed at the start, and what says another address in its place.
+Said = Tuple[str, Callable[[str], object]]
 
 
 class Denied(Exception):
@@ -54,13 +65,6 @@ class Bounded(io.RawIOBase):
         count = self._connection.recv_into(buffer[: self._left])
         self._left -= count
         return count
-
-
-class Unread(Unheard):
-    """The connections whose request hasn't come yet."""
-
-    def __init__(self) -> None:
-        super().__init__(MOST_UNREAD, SECONDS)
 
 
 def refusal(why: str) -> bytes:
@@ -131,3 +135,54 @@ def body_of(headers: Message, stream: BinaryIO) -> Dict[str, str]:
     if not isinstance(found, dict) or not all(isinstance(it, str) for it in found.values()):
         raise Denied(400, "it has something else than texts")
     return found
+
+
+def new() -> str:
+    """A text that nobody guesses."""
+    return secrets.token_urlsafe(BYTES)
+
+
+class Key:
+    """What stands in the address of a room's page. Once it was used `say` says another one."""
+
+    def __init__(self) -> None:
+        self.text = new()
+        self.say: Callable[[], object] = lambda: None
+        self._guard = threading.Lock()
+
+    def use(self, given: str) -> None:
+        """Uses it up. Raises `Denied` for another one; it stays where the next can't be said."""
+        self._check(given)  # (who has another one doesn't wait for who is let in)
+        with self._guard:
+            self._check(given)
+            self.text = new()
+            try:
+                self.say()
+            except OSError as error:
+                self.text = given
+                why = f"the room can't say its next address: {error.strerror}"
+                raise Denied(503, why) from None
+
+    def _check(self, given: str) -> None:
+        """Raises `Denied` for another one, of which it takes as long to tell whichever it is."""
+        if not hmac.compare_digest(given.encode("utf-8", "replace"), self.text.encode()):
+            raise Denied(403, USED)
+
+
+@contextlib.contextmanager
+def said(address: str, is_terminal: bool) -> Iterator[Said]:
+    """All of it is said at a terminal; else where the page is and the path of a file that has the
+    address, for its user alone, as long as the block goes on. Raises `Failure` where that can't be
+    written; what says another one, `OSError`."""
+    if is_terminal:
+        # (in one piece, whatever else is printed meanwhile)
+        yield address, lambda it: os.write(sys.stdout.fileno(), f"web {it}\n".encode())
+        return
+    with own_file.kept("address", f"{address}\n", "the page's address") as path:
+
+        def write(text: str) -> None:
+            # (all addresses are as long)
+            with open(path, "r+") as file:
+                file.write(f"{text}\n")
+
+        yield f"{urllib.parse.urldefrag(address).url} {path}", write

@@ -1,9 +1,9 @@
 """What is known of a room's moves: blocks, one behind the other, of which a page shows a chain."""
-from typing import Dict, List, NamedTuple, Optional
+from typing import Any, Dict, List, NamedTuple, Optional
 
 from rdbg.application import Application
 from rdbg.page.recorder import Recorder
-from rdbg.driving.parts import Part, Trim
+from rdbg.driving.parts import Part
 
 # So many moves are kept at the least, and so many more until the oldest are forgotten.
 MOST_MOVES, SLACK = 20_000, 4_096
@@ -29,12 +29,6 @@ def block(application: Application, part: Part) -> Recorder:
     return found
 
 
-def first_of(it: Recorder) -> int:
-    """The first place of a block."""
-    assert it.first is not None
-    return it.first
-
-
 class Known:
     """The moves that were looked at. The chain is what is shown: its blocks touch each other. Where
     many moves were made at once it begins anew at their end, and what was known before is kept
@@ -44,7 +38,8 @@ class Known:
         self._application = application
         self._chain: List[Recorder] = [block(application, part)]
         self._older: List[Recorder] = []
-        self._trims: List[Trim] = []
+        # The trims, each with its place and line, also those whose places aren't known yet.
+        self.trims: List[List[Any]] = []
         # Whether other moves than those of the chain have been made since.
         self._is_void = False
         # Counts how often moves were dropped, or others are shown. (What was looked at meanwhile
@@ -54,7 +49,7 @@ class Known:
     @property
     def first(self) -> int:
         """The first place that is shown."""
-        return first_of(self._chain[0])
+        return self._chain[0].first
 
     @property
     def last(self) -> int:
@@ -66,19 +61,17 @@ class Known:
         return not self._is_void and self.first <= place <= self.last
 
     def find(self, place: int) -> bool:
-        """Goes to a place in what was known before; false where it isn't there. What is shown by
-        now is kept then in its stead."""
+        """Shows a place of what was known before, and keeps in its stead what was shown; if any."""
         older, self._older = self._older, [] if self._is_void else self._chain
         self._is_void = False
         self.version += 1
-        if not older or not first_of(older[0]) <= place <= older[-1].last:
+        if not older or not older[0].first <= place <= older[-1].last:
             return False
         self._chain, self._older = older, []
         return True
 
     def near(self, place: int, most: int) -> int:
-        """How many moves up to a place to look at before it is shown: so many at the most, and none
-        that are known."""
+        """How many moves up to a place are looked at first: unknown ones, so many at the most."""
         least = self._older[-1].last if self._older else 0
         return min(most, place - least if least < place else place)
 
@@ -97,9 +90,8 @@ class Known:
             self._older = []
 
     def cut(self, place: int) -> bool:
-        """Forgets the moves behind a place, since others are made there. Answers whether those up
-        to there are known: then the chain ends there."""
-        self._trims = [it for it in self._trims if it.place <= place]
+        """Forgets the moves behind a place, where others are made; whether the chain ends there."""
+        self.trims = [it for it in self.trims if it[0] <= place]
         if place != self.last:
             self.version += 1
         if place < self.first and self._older:
@@ -107,7 +99,7 @@ class Known:
         self._is_void = self._is_void or place < self.first
         if not self.has(place):
             return False
-        while len(self._chain) > 1 and first_of(self._chain[-1]) >= place:
+        while len(self._chain) > 1 and self._chain[-1].first >= place:
             self._chain.pop()
         if self.last > place:
             self._chain[-1].cut(place)
@@ -117,7 +109,7 @@ class Known:
         """Takes note of the moves behind the last one, and answers what a page has to add."""
         place = part.before.place
         end = self._chain[-1]
-        if end.last - first_of(end) >= BLOCK_MOVES or end.size > BLOCK_VALUES:
+        if end.last - end.first >= BLOCK_MOVES or end.size > BLOCK_VALUES:
             end = block(self._application, part)
             self._chain.append(end)
         else:
@@ -164,43 +156,27 @@ class Known:
             return False
         while len(self._chain) > 1 and self.last - self._chain[0].last >= MOST_MOVES:
             self._chain.pop(0)
-        self._trims = [it for it in self._trims if it.place >= self.first]
+        self.trims = [it for it in self.trims if it[0] >= self.first]
         self.version += 1
         return True
 
-    def trim(self, trim: Trim) -> None:
-        """Takes note of a trim."""
-        self._trims.append(trim)
-
-    def trims(self) -> List[List[object]]:
-        """The trims, each with its place and line, also those whose places aren't known yet."""
-        return [[it.place, it.line] for it in self._trims]
-
     def around(self, place: int) -> Values:
-        """What a page begins with: the blocks at a place that is shown. Scripts stand in the first
-        of them alone."""
-        at = self._block_at(place)
-        begin = at
-        while begin and place - first_of(self._chain[begin]) < NEAR:
+        """The blocks at a place, with which a page begins; the first of them alone has scripts."""
+        at = begin = max(at for at, it in enumerate(self._chain) if it.first <= place)
+        while begin and place - self._chain[begin].first < NEAR:
             begin -= 1
         shown = self._chain[begin : at + 1]
         blocks = [it.values(has_code=not index) for index, it in enumerate(shown)]
-        return {"blocks": blocks, "trims": self.trims()}
+        return {"blocks": blocks, "trims": self.trims}
 
-    def before(self, place: int) -> Optional[Values]:
+    def before(self, place: int) -> Values:
         """The block that ends at a place, which a page has as its first; none where none does."""
-        found = [it for it in self._chain if it.last == place and first_of(it) < place]
-        return found[0].values(has_code=False) if found else None
+        found = [it for it in self._chain if it.last == place and it.first < place]
+        return found[0].values(has_code=False) if found else {}
 
-    def behind(self, place: int) -> Optional[Values]:
-        """What a page has to add that ends at a place: the moves of one block; none where there are
-        none."""
+    def behind(self, place: int) -> Values:
+        """The moves of a block that a page which ends at a place has to add; none behind all."""
         if not self.first <= place < self.last:
-            return None
+            return {}
         found = next(it for it in self._chain if it.last > place)
         return {"cut": place, "last": found.last, **found.behind(place)}
-
-    def _block_at(self, place: int) -> int:
-        """The last block that has a place."""
-        firsts = [first_of(it) for it in self._chain]
-        return max(at for at, first in enumerate(firsts) if first <= place)

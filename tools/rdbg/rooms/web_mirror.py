@@ -13,7 +13,7 @@ from rdbg.driving.journal import Journal
 from rdbg.driving import trail
 from rdbg.driving.interrupt import Interrupt
 from rdbg.driving.opening import begin
-from rdbg.driving.target import RESERVE, SINGLE, Limits, Target, read, read_line
+from rdbg.driving.target import RESERVE, SINGLE, Limits, read, read_line
 from rdbg.driving.walk import LEAST_PIECE, Walk
 from rdbg.files.source import Source
 from rdbg.driving.parts import Part, Told, walk_through
@@ -34,15 +34,12 @@ class Mirror:
     def __init__(self, source: Source, lines: Sequence[str]) -> None:
         self._source, self._limits = source, Limits(MOST_COUNT, HISTORY)
         self._journal = Journal()
-        self._target = self._begin()
+        self._target = begin(self._source, self._limits)
         # What there is at the place, where that is known.
         self._look: Optional[Look] = None
         self._seconds = GUESS
         for line in lines:
             self.tell(line)
-
-    def _begin(self) -> Target:
-        return begin(self._source, self._limits)
 
     @property
     def place(self) -> int:
@@ -101,9 +98,8 @@ class Mirror:
         return Part(before, (trail.between(self._target, before, after),), (after,))
 
     def part(self, first: int, last: int) -> Part:
-        """The moves to these places, done or undone, with looks. The program stays there, and comes
-        back before it does anything else: so earlier and earlier moves aren't gone to again and
-        again."""
+        """The moves to these places, done or undone, with looks. The program comes back only before
+        it does anything else: so earlier and earlier moves aren't gone to again and again."""
         lines = trail.lines_for(last - first + 1, self._target.names) + last - first
         self._room(lines + abs(self._target.place - first) // LEAST_PIECE)
         walk = Walk(self._target, Interrupt())
@@ -127,14 +123,13 @@ class Mirror:
         Walk(self._target, Interrupt()).goto(self.place)
 
     def _room(self, lines: int) -> None:
-        """Begins a new program where the history has no room for so many lines: it does what the
-        one before did."""
+        """Has a new program do what this one did where there is no room for so many lines."""
         left = self._target.left()
         if left is None or left >= lines + 2 * RESERVE:
             return
         with contextlib.suppress(OSError):
             self._target.session.kill()
-        self._target = self._begin()
+        self._target = begin(self._source, self._limits)
         for reply in self._target.session.tell_all(self._journal.lines()):
             if reply.startswith("no "):
                 raise Differs(f"the moves were made again, and one was answered {reply}")

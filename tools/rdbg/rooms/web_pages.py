@@ -1,5 +1,4 @@
 """The pages that are open, each with a member of the room and with what it is still to be told."""
-import collections
 import contextlib
 import itertools
 import json
@@ -7,9 +6,10 @@ import secrets
 import socket
 import threading
 import time
-from typing import Callable, Deque, Dict, List, Optional, Sequence, Tuple
+from typing import Callable, Dict, List, Optional, Sequence, Tuple
 
-from rdbg.rooms import web_goals, web_ways
+from rdbg.reaching.asking import QUESTIONS
+from rdbg.rooms import web_goals
 from rdbg.rooms.room import Member, Refusal, Room
 from rdbg.rooms.web_follower import Follower, Values
 from rdbg.rooms.web_prompt import Prompt
@@ -36,12 +36,11 @@ class Page:
     def __init__(self, room: Room) -> None:
         self._room = room
         self.key = secrets.token_urlsafe(18)
-        self.member: Optional[Member] = None
+        self.member: Member  # (once it has joined)
         self._guard = threading.Lock()
-        self._moves: Deque[Event] = collections.deque()
-        self._waiting = 0
-        self._notices: Deque[str] = collections.deque()
-        self._dropped = 0
+        # (how many signs the moves have that wait, and how many notices were dropped)
+        self._moves, self._waiting = [], 0  # type: List[Event], int
+        self._notices, self._dropped = [], 0  # type: List[str], int
         self._needs_run, self._is_old = True, False
         self._who = ""
         # The goal that was asked for or gone to last.
@@ -73,7 +72,7 @@ class Page:
         with self._guard:
             self._notices.append(notice)
             if len(self._notices) > MOST_NOTICES:
-                self._notices.popleft()
+                del self._notices[0]
                 self._dropped += 1
             self._wake()
 
@@ -100,36 +99,27 @@ class Page:
         if self._is_old:
             return [("anew", "null")]
         found = self._past()
-        with self._guard:
-            needs_run = self._needs_run
-        if needs_run:
+        if self._needs_run:
             with follower.guard:
-                with self._guard:
-                    self._needs_run = False
+                self._needs_run = False
                 found.append(("run", as_json(follower.values())))
         with self._guard:
-            moves = [] if self._needs_run else list(self._moves)
-            self._moves.clear()
-            self._waiting = 0
-            notices, dropped = list(self._notices), self._dropped
-            self._notices.clear()
-            self._dropped = 0
-        found += moves
+            moves, self._moves, self._waiting = self._moves, [], 0
+            notices, self._notices = self._notices, []
+            dropped, self._dropped = self._dropped, 0
         if dropped:
-            found.append(("notice", as_json(f"# {dropped} notices before these weren't kept")))
-        found += [("notice", as_json(it)) for it in notices]
-        return found + self._who_is_here(room)
+            notices.insert(0, f"# {dropped} notices before these weren't kept")
+        told = [("notice", as_json(it)) for it in notices]
+        return [*found, *moves, *told, *self._who_is_here(room)]
 
     def _past(self) -> List[Event]:
         """What all were told before this page came, once."""
-        assert self.member is not None
         before, self.member.before = self.member.before, ()
         told = [[int(1_000 * it.when), it.text] for it in before]
         return [("past", as_json(told))] if told else []
 
     def _who_is_here(self, room: Room) -> List[Event]:
         """Who this page is, and who else is here, where that isn't as it was."""
-        assert self.member is not None
         people = [
             {
                 "name": it.name,
@@ -142,27 +132,24 @@ class Page:
         ]
         watches = dict(self.member.seat.watches)
         who = as_json({"name": self.member.name, "people": people, "watches": watches})
-        if who == self._who:
-            return []
-        self._who = who
-        return [("who", who)]
+        was, self._who = self._who, who
+        return [] if who == was else [("who", who)]
 
     def ask(self, line: str) -> str:
-        """The reply to a line; empty of one that begins with `#`, which notices answer. Raises
-        `Refusal`."""
+        """The reply to a line; empty of one with `#`, which notices answer. Raises `Refusal`."""
         if not self._lines.acquire(blocking=False):
             raise TooMany(f"{MOST_LINES} lines wait for their replies already")
         try:
             with self._turn:
-                assert self.member is not None
-                if web_goals.is_question(line.split()):
-                    return self._answered(line.split())
-                if line.split() == ["reload"]:
+                words = line.split()
+                if words and words[0] in QUESTIONS:
+                    return self._answered(words)
+                if words == ["reload"]:
                     line = "# reload"
                 if line.lstrip(" ").startswith("#"):
                     self.member.remark(line)
                     return ""
-                way = web_ways.typed(line)
+                way = web_goals.typed(line)
                 if way is not None:
                     return self._gone(line, way)
                 return self._said(line)
@@ -170,18 +157,15 @@ class Page:
             self._lines.release()
 
     def _said(self, line: str) -> str:
-        """What is said to a line of rdbg's, or to a word of `sh`; of what is refused with what
-        would be right."""
-        assert self.member is not None
+        """What is said to a line of rdbg's or a word of `sh`, and behind a refusal."""
         self._prompt = self._prompt or Prompt(self._room, self.member)
         said = self._prompt.said(line)
         self._goal = web_goals.goal_in(line, said) or self._goal
         return said
 
-    def _gone(self, line: str, way: web_ways.Typed) -> str:
+    def _gone(self, line: str, way: web_goals.Typed) -> str:
         """Goes to a goal for which rdbg has no line."""
-        assert self.member is not None
-        reply = web_ways.gone(self._room, self.member, line, way)
+        reply = web_goals.gone(self._room, self.member, line, way)
         if reply.startswith("at "):
             self._goal = reply.split(" met: ", 1)[1].split()
         return reply
@@ -189,8 +173,6 @@ class Page:
     def _answered(self, words: Sequence[str]) -> str:
         """The answer to a question, of the goal before where it says none."""
         asked = words if words[1:] else [*words, *self._goal]
-        if not asked[1:]:
-            return web_goals.lacks_goal(self._room, words)
         reply = web_goals.answered(self._room, asked)
         if not reply.startswith("no: "):
             self._goal = asked[1:]
@@ -198,7 +180,6 @@ class Page:
 
     def watches(self) -> str:
         """Which watches hold now, which nobody has asked for."""
-        assert self.member is not None
         with self._turn:
             self.member.remark("# does")
             try:
@@ -209,17 +190,6 @@ class Page:
     def moves(self) -> str:
         """The lines that lead to where the target stands, as a file of commands."""
         return "".join(f"{line}\n" for line in self._room.lines())
-
-    def begin_anew(self) -> Dict[str, str]:
-        """Is told all anew: it isn't shown where the target is."""
-        self.tell("run", "")
-        return {}
-
-    def rename(self, name: str) -> Dict[str, str]:
-        """Goes on by another name. Raises `Refusal`."""
-        assert self.member is not None
-        self.member.rename(name)
-        return {}
 
 
 class Pages:
@@ -257,13 +227,12 @@ class Pages:
         try:
             page.member = self._join(name, page.hear)
         except BaseException:
-            self.close(page)
+            self._drop(page)
             raise
         return page
 
     def _join(self, name: Optional[str], hear: Callable[[str], None]) -> Member:
-        """Joins by a name. Who says none gets one that is nobody's, here or away: with a number,
-        where others have it without."""
+        """Joins by a name; without one as `web`, with a number where anybody has that name."""
         if name is not None:
             return self._room.join(name, hear)
         with self._naming:
@@ -275,7 +244,7 @@ class Pages:
         """The page of a key. Raises `Refusal` where it isn't open."""
         with self._guard:
             page = self._open.get(key)
-        if page is None or page.member is None:
+        if page is None:
             raise Refusal("this page has left the room: load it again")
         return page
 
@@ -293,10 +262,12 @@ class Pages:
 
     def close(self, page: Page) -> None:
         """A page has gone."""
+        self._drop(page)
+        page.member.leave()
+
+    def _drop(self, page: Page) -> None:
         with self._guard:
-            self._open.pop(page.key, None)
-        if page.member is not None:
-            page.member.leave()
+            del self._open[page.key]
         page.close()
 
 

@@ -1,5 +1,4 @@
-"""The cases of a folder, as its file `goals.json` lists them: of an application a goal, how it is
-asked for, and what is expected."""
+"""The cases of a folder, as `goals.json` lists them: what is asked of which application."""
 import argparse
 import dataclasses
 import os
@@ -203,7 +202,6 @@ class Cases:
         return found
 
     def _case(self, node: Node, label: str) -> None:
-        """A case."""
         before = len(self.faults)
         found = self._members(node, label, NAMES)
         if not isinstance(node.value, Object):
@@ -222,8 +220,7 @@ class Cases:
 
 
 def file_of(path: str) -> str:
-    """The file that lists the cases, given as itself or by its folder. Raises `Failure` where the
-    folder has none."""
+    """The file that lists the cases, given by itself or its folder. Raises `Failure` for none."""
     if not os.path.isdir(path):
         return path
     found = os.path.join(path, FILE)

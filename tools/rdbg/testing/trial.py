@@ -1,11 +1,11 @@
 """A case that is tried: what the program that searches answers, and the order in it."""
 import contextlib
 import enum
-import functools
+
 import io
 import os
 import time
-from typing import Callable, Iterator, NamedTuple, Tuple
+from typing import Iterator, NamedTuple, Tuple
 
 from rdbg.driving.target import Unable
 from rdbg.failure import Failure
@@ -111,9 +111,3 @@ def tried(folder: str, case: Case) -> Result:
     verdict = Verdict.OK if case.is_met(answer.head()) else Verdict.WRONG
     beside = told_of_interrupts(case.isr, ready.source.application)
     return Result(verdict, answer.head(), took, tuple(told), beside)
-
-
-@contextlib.contextmanager
-def trier(folder: str) -> Iterator[Callable[[Case], Result]]:
-    """What tries cases of a folder, as long as a block goes on."""
-    yield functools.partial(tried, folder)

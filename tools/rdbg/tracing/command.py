@@ -1,12 +1,11 @@
-"""What `rdbg trace` does, once its words are read: a run is looked at or asked for, and written as
-rows, as events or as a page."""
+"""What `rdbg trace` does, once its words are read: it writes a run as rows, events or a page."""
 import argparse
 import dataclasses
 import functools
 import os
 import sys
 import time
-from typing import Callable, Dict, Iterable, Iterator, List, NamedTuple, Optional, Sequence, Tuple
+from typing import Callable, Dict, Iterable, Iterator, List, Optional, Sequence, Tuple
 
 from rdbg import commands, record
 from rdbg.application import Application
@@ -33,26 +32,20 @@ from rdbg.tracing.events import Events
 from rdbg.tracing.page import ways
 from rdbg.tracing.page.asked import Asked, asked
 from rdbg.tracing.page.document import page
-from rdbg.tracing.page.report import Opening, Report, Text
+from rdbg.tracing.page.report import Report, Text
 from rdbg.tracing.run import Line, Plan, Run, parts, plan
 from rdbg.tracing.table import Row, Table, rows
 from rdbg.whole_file import written
 from rdbg.wording import nearest, shown
 
 
-class Answered(NamedTuple):
-    """A question, its goal as it is typed, the answer, and the lines behind which it was asked."""
-
-    question: Question
-    goal: str
-    answer: Answer
-    lines: List[str]
+# A question, its goal as it is typed, the answer, and the lines behind which it was asked.
+Answered = Tuple[Question, str, Answer, List[str]]
 
 
 @dataclasses.dataclass(frozen=True)
 class Lost:
-    """What is answered of a goal that a run may have lost, in words; and the place of the move that
-    lost it, where one did."""
+    """What is answered of a goal that a run may have lost, and the place of the move that did."""
 
     goal: str
     said: str
@@ -67,29 +60,19 @@ class Lost:
         return dataclasses.replace(row, cells=(*cells, ", ".join(texts)))
 
 
-def question_of(text: str) -> Question:
-    """Which question these words are; `reach` where they are a goal alone."""
-    return QUESTIONS.get(text.partition(" ")[0], REACH)
-
-
-def option_of(text: str) -> str:
-    """By which option they are asked, in short."""
-    return f"--{LOST.word}" if question_of(text) is LOST else "--ask"
-
-
 def ask(text: str, source: Optional[Source], told: Sequence[Told]) -> Answered:
-    """The question that these words are, of a run or at its end, with the answer. Raises `Failure`
-    where it can't be asked."""
+    """The question that these words are, `reach` where they are a goal alone, of a run or at its
+    end, with the answer. Raises `Failure` where it can't be asked."""
+    question, words = QUESTIONS.get(text.partition(" ")[0], REACH), text.split()
+    option = f"--{LOST.word}" if question is LOST else "--ask"
     if source is None:
-        raise Failure(f"{option_of(text)} goes with a file: rdbg trace FILE", 2)
-    question, words = question_of(text), text.split()
+        raise Failure(f"{option} goes with a file: rdbg trace FILE", 2)
     goal = words[words[:1] == [question.word] :]
-    with turned(of_words, NoGoal, of=option_of(text)):
+    with turned(of_words, NoGoal, of=option):
         _, words_asked = for_search(goal, Scope.of(source))
     # (`back` leads no further behind a trim, but what is there is the same)
     lines = [it.text for it in told if it.text.split(" ")[0] != record.TRIM]
-    answer = ask_behind(source, lines, question, words_asked)
-    return Answered(question, " ".join(goal), answer, lines)
+    return question, " ".join(goal), ask_behind(source, lines, question, words_asked), lines
 
 
 def of_page(text: Optional[str], source: Optional[Source], told: Sequence[Told]) -> Optional[Asked]:
@@ -114,8 +97,9 @@ def lost_in(text: Optional[str], source: Optional[Source], told: Sequence[Told])
     loss = losing.loss_of(answer)
     said = f"{answer.head()}: {texts}" if texts else answer.head()
     beside = told_of((), source.application)
-    said += f" ({beside})" if beside else ""
-    return Lost(goal, said, loss.place if loss is not None and loss.place else None)
+    return Lost(
+        goal, said + (f" ({beside})" if beside else ""), loss.place or None if loss else None
+    )
 
 
 STANDARD_INPUT = "-"
@@ -181,19 +165,17 @@ def write_page(
     other: Optional[Dict[str, object]] = None,
 ) -> None:
     """Writes the page of all parts, of which there is one at the least, and of another run."""
-    opening = Opening(report)
+    seen: Optional[int] = None
     with written(path) as file:
         for part in found:
-            opening.see(part)
+            seen = report.seen_in(part) if seen is None else seen
             recorder.add(part)
-        assert recorder.first is not None
-        at = opening.place(recorder.first, recorder.last)
+        at = report.opens(seen, recorder.first, recorder.last)
         file.write(page(recorder.values(trims), way(recorder), report, at, other))
 
 
 def wanted(only: Optional[str], names: Names, cores: int) -> Optional[List[str]]:
-    """The names that rows are wanted of; none where all are. Raises `Failure` where nothing has one
-    of them."""
+    """The names that rows are wanted of, none where all are. Raises `Failure` for others."""
     if only is None:
         return None
     numbers = [str(core) for core in range(cores)]
@@ -218,17 +200,14 @@ def print_rows(found: Iterable[Row], table: Table, names: Optional[Sequence[str]
 
 def moves_in(found: Iterable[Part], goal: Optional[Goal]) -> Iterator[Move]:
     """The moves of all parts, or those alone behind which a goal holds."""
-    for part in found:
-        for move, look in zip(part.moves, part.looks):
-            if goal is None or goal.is_so(look):
-                yield move
+    seen = (pair for part in found for pair in zip(part.moves, part.looks))
+    return (move for move, look in seen if goal is None or goal.is_so(look))
 
 
 def goal_of(option: str, words: Optional[str], scope: Scope) -> Optional[Goal]:
     """The goal that an option is given, if it is. Raises `Failure` where words are none."""
     with turned(of_words, NoGoal, of=option):
-        goal = None if words is None else read(words.split(), scope)
-    return goal
+        return None if words is None else read(words.split(), scope)
 
 
 def report_of(given: argparse.Namespace, scope: Scope) -> Report:
@@ -246,16 +225,19 @@ def page_of(source: Source, told: Sequence[str], path: str, asked: Callable[[int
     lines = tuple(Line(at, text) for at, text in enumerate(told, 1))
     run = Run(source, lines, Limits(Limits.moves, commands.MOST_COUNT))
     whole = plan(run)
-    seen = parts(run, whole.pieces, processors()) if whole.pieces else [end_of(whole)]
     way = ways.of_run(source, whole.told, None, whole.base)
     text = Text("", "".join(f"{line}\n" for line in told))
     report = Report(asked=asked(whole.done), source=source, lines=text)
-    write_page(seen, whole.trims, path, Recorder(source.application), lambda _: way, report)
+    recorder, seen = Recorder(source.application), looked(run, whole)
+    write_page(seen, whole.trims, path, recorder, lambda _: way, report)
 
 
-def processors() -> int:
-    """How many processors there are for this process."""
-    return len(os.sched_getaffinity(0))
+def looked(run: Run, plan: Plan, has_end: bool = True) -> Iterable[Part]:
+    """Looks at a run, by as many programs as there are processors; at its end alone, where that is
+    wanted, if no moves are to be looked at."""
+    if has_end and not plan.pieces:
+        return [Part(plan.end, (), ())]
+    return parts(run, plan.pieces, len(os.sched_getaffinity(0)))
 
 
 def other_run(
@@ -267,14 +249,9 @@ def other_run(
     tell_refused(whole, text.name)
     found = whole.within(given.first or 1, given.last)
     recorder = Recorder(application)
-    for part in parts(other, found.pieces, processors()) if found.pieces else [end_of(whole)]:
+    for part in looked(other, found):
         recorder.add(part)
     return {"name": os.path.basename(text.name), "run": recorder.values(found.trims)}
-
-
-def end_of(whole: Plan) -> Part:
-    """The end of a run of which no moves are looked at."""
-    return Part(whole.end, (), ())
 
 
 def trace_run(given: argparse.Namespace, source: Optional[Source]) -> None:
@@ -290,13 +267,12 @@ def trace_run(given: argparse.Namespace, source: Optional[Source]) -> None:
     whole = plan(run)
     tell_refused(whole, given.commands or STANDARD_INPUT)
     found = whole.within(given.first or 1, given.last)
-    seen = with_progress(parts(run, found.pieces, processors()), found.count())
+    seen = with_progress(looked(run, found, has_end=bool(given.page)), found.count())
     if given.events:
         write_events(seen, found.trims, given.events)
         return
     if given.page:
         way = ways.of_run(source, whole.told, given.moves, whole.base)
-        seen = seen if found.pieces else iter([end_of(whole)])
         asked = of_page(given.ask, source, whole.told)
         beside = None if given.against is None else text_of(given.against)
         other = other_run(given, run, beside, application) if beside else None

@@ -18,6 +18,8 @@ WAKES = ("woke", "given", "time up")
 # Behind the tracks of the cores: that of the ticks, and that of what is done by hand.
 TICKS, BY_HAND = 1_000, 1_001
 Event = Dict[str, object]
+# The process and the thread by which a track is named.
+Track = Tuple[int, int]
 
 
 def phase_of(task: replies.Task) -> str:
@@ -53,7 +55,7 @@ class Events:
         self._end = 0
         self._flows = 0
         # What is open: who is on a core and what a task does, and since when.
-        self._open: Dict[Tuple[int, int], Tuple[str, int]] = {}
+        self._open: Dict[Track, Tuple[str, int]] = {}
         self._levels: Dict[Key, Dict[str, int]] = {}
         self._tasks: List[str] = []
 
@@ -63,7 +65,8 @@ class Events:
             self._begin(part.before)
         for move, look in zip(part.moves, part.looks):
             self._end = move.place * MOVE
-            self._slice(CORES, track_of(move), move.text(), self._end - MOVE, said_of(move))
+            track = (CORES, track_of(move))
+            self._slice(track, move.text(), self._end - MOVE, said_of(move))
             self._see(look)
             for effect in move.effects:
                 if effect.kind in WAKES:
@@ -73,8 +76,9 @@ class Events:
         """Closes what is open, and ends the file."""
         if self._is_first:
             self._put("")
-        for (process, track), (name, since) in self._open.items():
-            self._slice(process, track, name, since, {}, self._end + MOVE)
+        self._end += MOVE
+        for track, (name, since) in self._open.items():
+            self._slice(track, name, since, {})
         for trim in trims:
             at = {"ph": "i", "s": "g", "ts": trim.place * MOVE, "pid": CORES, "tid": BY_HAND}
             self._event({"name": trim.line, **at})
@@ -98,12 +102,12 @@ class Events:
     def _see(self, look: Look) -> None:
         """Takes note of who is where, and of what objects hold, from this place on."""
         for core, seated in enumerate(look.cores.running):
-            self._turn_to(CORES, core, seated)
+            self._turn_to((CORES, core), seated)
         for name, task in look.tasks.items():
             if name not in self._tasks:  # (of a port, one may become known behind the first place)
                 self._name("thread_name", TASKS, len(self._tasks), name)
                 self._tasks.append(name)
-            self._turn_to(TASKS, self._tasks.index(name), phase_of(task))
+            self._turn_to((TASKS, self._tasks.index(name)), phase_of(task))
         for key, it in look.objects.items():
             level = level_of(it)
             if self._levels.get(key) != level:
@@ -111,29 +115,19 @@ class Events:
                 counter: Event = {"ph": "C", "ts": self._end, "pid": OBJECTS, "tid": 0}
                 self._event({"name": " ".join(key), **counter, "args": level})
 
-    def _turn_to(self, process: int, track: int, name: Optional[str]) -> None:
+    def _turn_to(self, track: Track, name: Optional[str]) -> None:
         """Ends the slice that is open on a track where it isn't this one, and begins this one."""
-        key = (process, track)
-        was = self._open.get(key)
+        was = self._open.get(track)
         if (was and was[0]) == name:
             return
         if was is not None:
-            self._slice(process, track, was[0], was[1], {})
-            del self._open[key]
+            self._slice(track, *was, {})
+            del self._open[track]
         if name is not None:
-            self._open[key] = (name, self._end)
+            self._open[track] = (name, self._end)
 
-    def _slice(
-        self,
-        process: int,
-        track: int,
-        name: str,
-        since: int,
-        args: Event,
-        until: Optional[int] = None,
-    ) -> None:
-        end = self._end if until is None else until
-        at: Event = {"ph": "X", "ts": since, "dur": end - since, "pid": process, "tid": track}
+    def _slice(self, track: Track, name: str, since: int, args: Event) -> None:
+        at = {"ph": "X", "ts": since, "dur": self._end - since, "pid": track[0], "tid": track[1]}
         self._event({"name": name, **at, **({"args": args} if args else {})})
 
     def _flow(self, move: Move, effect: Effect) -> None:

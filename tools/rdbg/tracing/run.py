@@ -91,8 +91,7 @@ class Plan:
 
 
 def pieces_of(run: Run, target: Target, told: int, first: int, last: int) -> Iterator[Piece]:
-    """The pieces in which moves are looked at. Raises `Failure` where a history has too little
-    room behind the lines."""
+    """The pieces in which moves are looked at. Raises `Failure` for a history without room."""
     left = run.limits.history - told - RESERVE - run.ways - trail.lines_for(0, target.names)
     count = min(MOST_MOVES, left // (trail.lines_for(1, target.names) + 1))
     if first <= last and count < 1:

@@ -10,8 +10,7 @@ from rdbg.reaching.said import Answer, Kind
 @dataclasses.dataclass(frozen=True)
 class Asked:
     """A question with its answer: the words of a command line, sentences, the place at which a page
-    opens for it, the first place from which the goal can't come any more, and an order that leads
-    to where the answer is seen."""
+    opens, the first from which the goal can't come, and an order to where that is seen."""
 
     words: str
     said: Tuple[str, ...]
@@ -61,9 +60,8 @@ def asked(
     order: Sequence[str] = (),
     beside: str = "",
 ) -> Asked:
-    """A question about a goal, asked at a place, or of the run up to there, with what was answered,
-    and what is said beside it. The order of the answer is shown where it isn't the run of the page,
-    which leads to the place."""
+    """A question about a goal, asked at a place, or of the run up to there, with what was answered
+    and is said beside it. The order of the answer is shown where it isn't the run of the page."""
     loss = loss_of(answer) if question is LOST else None
     lost = loss.place if loss else None
     own = f"the order of this page, to place {place},"

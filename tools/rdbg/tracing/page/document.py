@@ -1,9 +1,9 @@
-"""The page of a run: a file of HTML in which style, scripts and the run's values stand, and that
-needs nothing else."""
+"""The page of a run: a file of HTML with style, scripts and values, which needs nothing else."""
 import pathlib
 from typing import Mapping, Optional
 
 from rdbg.page.document import body_of, document, json_of
+from rdbg.tracing.page.note import as_html
 from rdbg.tracing.page.report import Report
 
 HERE = pathlib.Path(__file__).resolve().parent
@@ -26,6 +26,6 @@ def page(
     it opens at a place, or at the first. Another run stands below it where one is given."""
     title = f"{way['file'] or 'rdbg'}: places {run['first']} to {run['last']}"
     values = {"title": title, "way": way, "run": run, "report": report.values(at), "other": other}
-    parts = {"run": json_of(values), "note": report.note_as_html()}
+    parts = {"run": json_of(values), "note": as_html(report.note)}
     body = body_of(HERE / "run.html", parts, LINK)
     return document(report.title or title, body, SCRIPTS, STYLES)

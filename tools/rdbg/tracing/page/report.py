@@ -9,9 +9,7 @@ from rdbg.driving.parts import Part
 from rdbg.failure import Failure
 from rdbg.files.source import Source
 from rdbg.goals.claims import Goal
-from rdbg.looks import Look
 from rdbg.tracing.page.asked import Asked
-from rdbg.tracing.page.note import as_html
 from rdbg.tracing.page.ways import file_of
 
 DAY = "%Y-%m-%d"
@@ -27,10 +25,9 @@ class Text:
 
 @dataclasses.dataclass(frozen=True)
 class Report:
-    """What is said beside a run: a title and a note in Markdown by whoever makes the page, the
-    place at which it opens, by number or as the first where a goal holds, the question that it
-    answers, the application, the lines, those of another run beside it, and the port at which it
-    was done."""
+    """What is said beside a run: a title and a note in Markdown, the place at which the page opens,
+    by number or as the first where a goal holds, the question that it answers, the application, the
+    lines, those of another run beside it, and the port at which it was done."""
 
     title: str = ""
     note: str = ""
@@ -40,10 +37,6 @@ class Report:
     lines: Optional[Text] = None
     other: Optional[Text] = None
     port: Optional[int] = None
-
-    def note_as_html(self) -> str:
-        """The note as a part of the page."""
-        return as_html(self.note)
 
     def values(self, at: Optional[int]) -> Dict[str, object]:
         """What the page has of it, where it opens at a place."""
@@ -62,44 +55,28 @@ class Report:
             "other": named(self.other) if self.other else None,
         }
 
+    def seen_in(self, part: Part) -> Optional[int]:
+        """The first place of a part where the goal holds at which the page opens, if any."""
+        if not isinstance(self.at, Goal):
+            return None
+        return next((it.place for it in (part.before, *part.looks) if self.at.is_so(it)), None)
+
+    def opens(self, seen: Optional[int], first: int, last: int) -> Optional[int]:
+        """The place among these at which the page opens, `seen` where a goal says it; none where
+        none is said. Raises `Failure` for another one."""
+        if isinstance(self.at, Goal):
+            if seen is None:
+                why = f"--at: {self.at.text} is so at none of the places {first} to {last}"
+                raise Failure(why, 2)
+            return seen
+        if self.at is not None:
+            if not first <= self.at <= last:
+                raise Failure(f"--at {self.at}: the page has the places {first} to {last}", 2)
+            return self.at
+        found = self.asked.at if self.asked else None
+        return None if found is None else max(first, min(found, last))
+
 
 def named(it: Text, otherwise: str = "") -> Dict[str, str]:
     """A text as values, with the name that a file of it can have."""
     return {"name": pathlib.PurePath(it.name).name or otherwise, "text": it.text}
-
-
-class Opening:
-    """Finds the place at which a page opens, as the parts of its run are taken."""
-
-    def __init__(self, report: Report) -> None:
-        self._at = report.at
-        self._asked = report.asked
-        self._found: Optional[int] = None
-        self._is_first = True
-
-    def see(self, part: Part) -> None:
-        """Looks at a part."""
-        if self._is_first:
-            self._look(part.before)
-            self._is_first = False
-        for look in part.looks:
-            self._look(look)
-
-    def _look(self, look: Look) -> None:
-        if self._found is None and isinstance(self._at, Goal) and self._at.is_so(look):
-            self._found = look.place
-
-    def place(self, first: int, last: int) -> Optional[int]:
-        """The place, among these, or none where none is said. Raises `Failure` for another one."""
-        if isinstance(self._at, Goal):
-            if self._found is None:
-                raise Failure(
-                    f"--at: {self._at.text} is so at none of the places {first} to {last}", 2
-                )
-            return self._found
-        if self._at is not None:
-            if not first <= self._at <= last:
-                raise Failure(f"--at {self._at}: the page has the places {first} to {last}", 2)
-            return self._at
-        found = self._asked.at if self._asked else None
-        return None if found is None else max(first, min(found, last))

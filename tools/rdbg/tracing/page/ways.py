@@ -1,4 +1,5 @@
 """What to type to come to a place of a run: its lines, up to where the place is made to stay."""
+import itertools
 import pathlib
 import shlex
 from typing import Dict, List, Optional, Sequence
@@ -13,12 +14,8 @@ def settled(told: Sequence[Told]) -> List[List[object]]:
     behind it and all later ones: the moves up to there stay as they are. So a place is reached by
     the lines up to the first of which these are as many, and then `back` by as many as too many
     were made: this line made them, so they have records, whatever was trimmed before."""
-    found: List[List[object]] = []
-    least: Optional[int] = None
-    for it in reversed(told):
-        least = it.place if least is None else min(least, it.place)
-        found.append([it.text, it.place, least])
-    return found[::-1]
+    leasts = [*itertools.accumulate((it.place for it in reversed(told)), min)]
+    return [[it.text, it.place, least] for it, least in zip(told, reversed(leasts))]
 
 
 def file_of(source: Optional[Source]) -> str:
