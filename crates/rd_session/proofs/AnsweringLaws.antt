@@ -1,7 +1,6 @@
 -- A line that is begun, answered, and out.
 use Rattle.std.proofs.Common.{◌≡◌, ◌∙◌, ℕ, ◌+◌, ◌<◌, List, [], ◌∷◌, ◌++◌, length, refl, ap, subst, sym, arith}
 use Rattle.std.specs.Prelude.{Option, Some, Result, Ok, Err, OnErr, OnOk}
-use Rattle.rd_ends.specs.Ends.{SinkView}
 use Rattle.rd_hall.specs.SeatView.{SeatView}
 use Rattle.rd_session.specs.BuffersView.{PendingView}
 use Rattle.rd_session.specs.Calls.{Adds, Before, GateCall}
@@ -9,9 +8,9 @@ use Rattle.rd_session.specs.Lines.{Line, Whole, Long, last_of}
 use Rattle.rd_session.specs.Replies.{TooLong, text}
 use Rattle.std.proofs.lemmas.List.{append-nil}
 use Rattle.rd_session.specs.Answers.{Talk, Talks}
-use Rattle.rd_session.specs.Gathering.{Answered, Begins, BreaksAmid, GoesOn, HearsMore, IsFlushed, IsLost, IsSaid, IsUnsaid, SaysAll, Spot, spot}
+use Rattle.rd_session.specs.Gathering.{Answered, Begins, BreaksAmid, GoesOn, HearsMore, IsFlushed, IsLost, IsSaid, IsUnsaid, SaysAll, Spot, spot, with_seat}
 use Rattle.rd_session.proofs.GatheringLaws.{Answers, BreaksOff-more, Talking-begun, Talking-gathered, Talks-of, answer_long}
-use Rattle.rd_session.proofs.LineLaws.{last_line, no_last_line}
+use Rattle.rd_session.proofs.LineLaws.{last_line}
 
 -- ---- where a call succeeds, and where it fails
 
@@ -30,93 +29,92 @@ on_err (Err fault) f a = f a
 -- ---- one line
 
 -- its answer was told
-pub Answered-told : {T E : Type 0} (who : ℕ) (line : Line) (seat after : SeatView) (said : List ℕ) (sink sink' : SinkView) (calls calls' : Option (List GateCall)) (pending pending' : PendingView) (result : Result T E)
-    → Answers line seat after said → OnOk result (IsSaid who said sink calls pending sink' calls' pending') → OnErr result (IsUnsaid who said sink calls pending sink' calls')
-    → Answered who line seat after sink calls pending sink' calls' pending' result
-Answered-told who line seat after said sink sink' calls calls' pending pending' result a ok err = record {
-  answer = a.answer;
-  to_line = a.to_line;
-  gained = a.gained;
-  said = subst (λ (bs : List ℕ). OnOk result (IsSaid who bs sink calls pending sink' calls' pending')) (sym a.says) ok;
-  unsaid = subst (λ (bs : List ℕ). OnErr result (IsUnsaid who bs sink calls pending sink' calls')) (sym a.says) err;
-}
+pub Answered-told : {T E : Type 0} (line : Line) (said : List ℕ) (old new : Spot) (seat : SeatView) (result : Result T E)
+    → new.talk.seat ≡ seat → Answers line old.talk.seat seat said
+    → OnOk result (IsSaid said (with_seat old seat) new) → OnErr result (IsUnsaid said (with_seat old seat) new.talk)
+    → Answered line old new result
+Answered-told line said old new seat result is a ok err =
+    let told = subst (λ (bs : List ℕ). OnOk result (IsSaid bs (with_seat old seat) new)) (sym a.says) ok in
+    let fails = subst (λ (bs : List ℕ). OnErr result (IsUnsaid bs (with_seat old seat) new.talk)) (sym a.says) err in
+    record {
+      answer = a.answer;
+      to_line = a.to_line;
+      gained = is ∙ a.gained;
+      said = subst (λ (s : SeatView). OnOk result (IsSaid (text a.answer) (with_seat old s) new)) (sym is) told;
+      unsaid = subst (λ (s : SeatView). OnErr result (IsUnsaid (text a.answer) (with_seat old s) new.talk)) (sym is) fails;
+    }
 
 -- its answer was gathered
-pub Answered-gathered : {T E : Type 0} (who : ℕ) (line : Line) (seat after : SeatView) (said : List ℕ) (sink : SinkView) (calls : Option (List GateCall)) (pending pending' : PendingView) (done : T)
-    → Answers line seat after said → pending'.bytes ≡ pending.bytes ++ said → pending'.begun ≡ pending.begun → pending'.out ≡ pending.out
-    → Answered {T = T} {E = E} who line seat after sink calls pending sink calls pending' (Ok done)
-Answered-gathered who line seat after said sink calls pending pending' done a bytes begun out = record {
+pub Answered-gathered : {T E : Type 0} (line : Line) (said : List ℕ) (old : Spot) (seat : SeatView) (pending : PendingView) (done : T)
+    → Answers line old.talk.seat seat said → pending.bytes ≡ old.pending.bytes ++ said → pending.begun ≡ old.pending.begun → pending.out ≡ old.pending.out
+    → Answered {T = T} {E = E} line old (spot seat old.talk.sink old.talk.calls pending) (Ok done)
+Answered-gathered line said old seat pending done a bytes begun out = record {
   answer = a.answer;
   to_line = a.to_line;
   gained = a.gained;
-  said = λ start heard s answer is says t. Talking-gathered start heard s answer said sink calls pending pending' (says ∙ a.says) bytes begun out t;
+  said = λ start heard answer is says t.
+      Talking-gathered start heard seat answer said old.talk.sink old.talk.calls old.pending pending (says ∙ a.says) bytes begun out t;
   unsaid = tt;
 }
 
 -- there was room for its answer, and the gate was called
-pub Begins-of : (who : ℕ) (sink sink' : SinkView) (calls calls' calls'' : Option (List GateCall)) (pending pending' pending'' : PendingView) (number : ℕ)
-    → GoesOn who sink calls pending sink' calls' pending' → pending'' ≡ record pending' { begun = pending'.begun + 1 } → number ≡ pending''.begun → Adds calls' calls'' (Before who number ∷ [])
-    → Begins who sink calls pending sink' calls'' pending''
-Begins-of who sink sink' calls calls' calls'' pending pending' pending'' number goes_on is number_is added start heard seat after line answer who_is to_line gained t =
-    Talking-begun who start heard seat after line answer sink' calls' calls'' pending' pending'' number who_is to_line gained added
+pub Begins-of : (old mid : Spot) (calls : Option (List GateCall)) (pending : PendingView) (who number : ℕ)
+    → GoesOn old mid → who ≡ old.talk.seat.who → pending ≡ record mid.pending { begun = mid.pending.begun + 1 } → number ≡ pending.begun → Adds mid.talk.calls calls (Before who number ∷ [])
+    → Begins old (spot mid.talk.seat mid.talk.sink calls pending)
+Begins-of old mid calls pending who number goes_on who_is is number_is added start heard after line answer same to_line gained t =
+    Talking-begun who start heard mid.talk.seat after line answer mid.talk.sink mid.talk.calls calls mid.pending pending number (same ∙ sym who_is) to_line gained added
     (number_is ∙ ap (λ (q : PendingView). q.begun) is)
     (ap (λ (q : PendingView). q.bytes) is) (ap (λ (q : PendingView). q.begun) is) (ap (λ (q : PendingView). q.out) is)
-    (goes_on start heard seat who_is t)
+    (goes_on start heard same t)
 
 -- it was heard, or the sink failed
-pub line_heard : {T E : Type 0} (line : Line) (seat after : SeatView) (sink sink' sink'' : SinkView) (calls calls' calls'' : Option (List GateCall)) (pending pending' pending'' : PendingView) (result : Result T E)
-    → Begins seat.who sink calls pending sink' calls' pending' → Answered seat.who line seat after sink' calls' pending' sink'' calls'' pending'' result
-    → OnOk result (HearsMore (line ∷ []) (spot seat sink calls pending) (spot after sink'' calls'' pending''))
-    × OnErr result (BreaksAmid (line ∷ []) (spot seat sink calls pending) (record { seat = after; sink = sink''; calls = calls'' }))
-line_heard line seat after sink sink' sink'' calls calls' calls'' pending pending' pending'' (Ok done) begins a = (
-  λ start heard who t. a.said start (heard ++ line ∷ []) after a.answer who refl (begins start heard seat after line a.answer who a.to_line a.gained t),
+pub line_heard : {T E : Type 0} (line : Line) (old mid new : Spot) (result : Result T E) → mid.talk.seat.who ≡ old.talk.seat.who
+    → Begins old mid → Answered line mid new result → OnOk result (HearsMore (line ∷ []) old new) × OnErr result (BreaksAmid (line ∷ []) old new.talk)
+line_heard line old mid new (Ok done) same begins a = (
+  λ start heard who t. a.said start (heard ++ line ∷ []) a.answer (who ∙ sym same ∙ sym (ap (λ (s : SeatView). s.who) a.gained)) refl
+      (begins start heard new.talk.seat line a.answer who a.to_line a.gained t),
   tt,
 )
-line_heard line seat after sink sink' sink'' calls calls' calls'' pending pending' pending'' (Err fault) begins a = (
+line_heard line old mid new (Err fault) same begins a = (
   tt,
-  λ start heard who t. a.unsaid start (heard ++ line ∷ []) after a.answer who refl (begins start heard seat after line a.answer who a.to_line a.gained t),
+  λ start heard who t. a.unsaid start (heard ++ line ∷ []) a.answer (who ∙ sym same ∙ sym (ap (λ (s : SeatView). s.who) a.gained)) refl
+      (begins start heard new.talk.seat line a.answer who a.to_line a.gained t),
 )
 
 -- it wasn't begun
-pub line_lost : (line : Line) (seat : SeatView) (sink sink' : SinkView) (calls calls' : Option (List GateCall)) (pending : PendingView)
-    → IsLost seat.who sink calls pending sink' calls' → BreaksAmid (line ∷ []) (spot seat sink calls pending) (record { seat = seat; sink = sink'; calls = calls' })
-line_lost line seat sink sink' calls calls' pending lost start heard who t = BreaksOff-more heard (line ∷ []) start _ (lost start heard [] seat who tt t)
+pub line_lost : (line : Line) (old : Spot) (new : Talk) → IsLost old new → BreaksAmid (line ∷ []) old new
+line_lost line old new lost start heard who t = BreaksOff-more heard (line ∷ []) start new (lost start heard [] who tt t)
 
 -- one that is too long
-pub long_heard : (seat : SeatView) (sink sink' : SinkView) (calls calls' : Option (List GateCall)) (pending pending' pending'' : PendingView)
-    → Begins seat.who sink calls pending sink' calls' pending' → pending''.bytes ≡ pending'.bytes ++ text TooLong → pending''.begun ≡ pending'.begun → pending''.out ≡ pending'.out
-    → HearsMore (Long ∷ []) (spot seat sink calls pending) (spot seat sink' calls' pending'')
-long_heard seat sink sink' calls calls' pending pending' pending'' begins bytes begun out start heard who t =
-    let a = answer_long seat in
-    Talking-gathered start (heard ++ Long ∷ []) seat a.answer (text TooLong) sink' calls' pending' pending'' a.says bytes begun out
-    (begins start heard seat seat Long a.answer who a.to_line a.gained t)
+pub long_heard : (old mid : Spot) (pending : PendingView)
+    → Begins old mid → pending.bytes ≡ mid.pending.bytes ++ text TooLong → pending.begun ≡ mid.pending.begun → pending.out ≡ mid.pending.out
+    → HearsMore (Long ∷ []) old (spot mid.talk.seat mid.talk.sink mid.talk.calls pending)
+long_heard old mid pending begins bytes begun out start heard who t =
+    let a = answer_long mid.talk.seat in
+    Talking-gathered start (heard ++ Long ∷ []) mid.talk.seat a.answer (text TooLong) mid.talk.sink mid.talk.calls mid.pending pending a.says bytes begun out
+    (begins start heard mid.talk.seat Long a.answer who a.to_line a.gained t)
 
 -- ---- all answers are written
 
-pub all_heard : (who : ℕ) (lines : List Line) (old : Spot) (seat : SeatView) (sink sink' : SinkView) (calls calls' : Option (List GateCall)) (pending pending' : PendingView)
-    → who ≡ old.talk.seat.who → HearsMore lines old (spot seat sink calls pending) → IsFlushed who pending.begun sink calls pending sink' calls' pending'
-    → HearsMore lines old (spot seat sink' calls' pending')
-all_heard who lines old seat sink sink' calls calls' pending pending' is more flushed start heard who_is t =
-    flushed start (heard ++ lines) [] seat (who_is ∙ sym is) (omega arith) (more start heard who_is t)
+pub all_heard : (lines : List Line) (old mid new : Spot) → mid.talk.seat.who ≡ old.talk.seat.who → HearsMore lines old mid → IsFlushed mid.pending.begun mid new
+    → HearsMore lines old new
+all_heard lines old mid new same more flushed start heard who t =
+    flushed start (heard ++ lines) [] (who ∙ sym same) (omega arith) (more start heard who t)
 
-pub all_said : (who : ℕ) (lines : List Line) (old : Spot) (seat : SeatView) (sink sink' : SinkView) (calls calls' : Option (List GateCall)) (pending pending' : PendingView)
-    → who ≡ old.talk.seat.who → HearsMore lines old (spot seat sink calls pending) → IsFlushed who pending.begun sink calls pending sink' calls' pending'
-    → pending' ≡ record pending { bytes = []; out = pending.begun } → SaysAll lines old (record { seat = seat; sink = sink'; calls = calls' })
-all_said who lines old seat sink sink' calls calls' pending pending' is more flushed now start heard who_is t =
-    Talks-of (heard ++ lines) start (spot seat sink' calls' pending') (ap (λ (q : PendingView). q.out) now ∙ sym (ap (λ (q : PendingView). q.begun) now))
-    (all_heard who lines old seat sink sink' calls calls' pending pending' is more flushed start heard who_is t)
+pub all_said : (lines : List Line) (old mid new : Spot) → mid.talk.seat.who ≡ old.talk.seat.who → HearsMore lines old mid → IsFlushed mid.pending.begun mid new
+    → new.pending ≡ record mid.pending { bytes = []; out = mid.pending.begun } → SaysAll lines old new.talk
+all_said lines old mid new same more flushed now start heard who t =
+    Talks-of (heard ++ lines) start new (ap (λ (q : PendingView). q.out) now ∙ sym (ap (λ (q : PendingView). q.begun) now))
+    (all_heard lines old mid new same more flushed start heard who t)
 
-pub all_lost : (who : ℕ) (lines : List Line) (old : Spot) (seat : SeatView) (sink sink' : SinkView) (calls calls' : Option (List GateCall)) (pending : PendingView)
-    → who ≡ old.talk.seat.who → HearsMore lines old (spot seat sink calls pending) → IsLost who sink calls pending sink' calls'
-    → BreaksAmid lines old (record { seat = seat; sink = sink'; calls = calls' })
-all_lost who lines old seat sink sink' calls calls' pending is more lost start heard who_is t =
-    lost start (heard ++ lines) [] seat (who_is ∙ sym is) tt (more start heard who_is t)
+pub all_lost : (lines : List Line) (old mid : Spot) (new : Talk) → mid.talk.seat.who ≡ old.talk.seat.who → HearsMore lines old mid → IsLost mid new → BreaksAmid lines old new
+all_lost lines old mid new same more lost start heard who t =
+    lost start (heard ++ lines) [] (who ∙ sym same) tt (more start heard who t)
 
 -- nothing was pending
-pub nothing_said : (seat : SeatView) (sink : SinkView) (calls : Option (List GateCall)) (pending : PendingView) → pending.out ≡ pending.begun
-    → SaysAll [] (spot seat sink calls pending) (record { seat = seat; sink = sink; calls = calls })
-nothing_said seat sink calls pending all start heard who t =
-    subst (λ (ls : List Line). Talks ls start (record { seat = seat; sink = sink; calls = calls })) (sym (append-nil heard)) (Talks-of heard start (spot seat sink calls pending) all t)
+pub nothing_said : (old : Spot) → old.pending.out ≡ old.pending.begun → SaysAll [] old old.talk
+nothing_said old all start heard who t =
+    subst (λ (ls : List Line). Talks ls start old.talk) (sym (append-nil heard)) (Talks-of heard start old all t)
 
 -- what stands at the end of the input is a line
 pub rest_said : (rest : List ℕ) (old : Spot) (new : Talk) → 0 < length rest → SaysAll (Whole rest ∷ []) old new → SaysAll (last_of (Some rest)) old new
@@ -124,8 +122,3 @@ rest_said rest old new some said = subst (λ (ls : List Line). SaysAll ls old ne
 
 pub rest_breaks : (rest : List ℕ) (old : Spot) (new : Talk) → 0 < length rest → BreaksAmid (Whole rest ∷ []) old new → BreaksAmid (last_of (Some rest)) old new
 rest_breaks rest old new some off = subst (λ (ls : List Line). BreaksAmid ls old new) (sym (last_line rest some)) off
-
-pub no_rest_said : (rest : List ℕ) (seat : SeatView) (sink : SinkView) (calls : Option (List GateCall)) (pending : PendingView) → length rest ≡ 0 → pending.out ≡ pending.begun
-    → SaysAll (last_of (Some rest)) (spot seat sink calls pending) (record { seat = seat; sink = sink; calls = calls })
-no_rest_said rest seat sink calls pending none all =
-    subst (λ (ls : List Line). SaysAll ls (spot seat sink calls pending) (record { seat = seat; sink = sink; calls = calls })) (sym (no_last_line rest none)) (nothing_said seat sink calls pending all)

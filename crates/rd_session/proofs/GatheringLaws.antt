@@ -17,9 +17,9 @@ use Rattle.rd_hall.specs.Seats.{Gains}
 use Rattle.rd_session.specs.BuffersView.{PendingView}
 use Rattle.rd_session.specs.Calls.{Adds, Before, GateCall}
 use Rattle.rd_session.specs.Lines.{Line, Whole, Long}
-use Rattle.rd_session.specs.Replies.{LineAnswer, Served, Unserved, Syntax, TooLong, refusal_line, refusal_of, reply_line, text}
+use Rattle.rd_session.specs.Replies.{LineAnswer, Served, Unserved, Syntax, TooLong, refusal_line, refusal_of, text}
 use Rattle.rd_session.specs.Answers.{AreAnswers, BreaksOff, HasNoRoom, IsAnswerTo, Talk, Talks, receipt_in, receipts_in, texts, with_all}
-use Rattle.rd_session.specs.Gathering.{AreOut, Spot, Talking, spot}
+use Rattle.rd_session.specs.Gathering.{AreOut, Spot, Talking, last_line, line_in, spot}
 use Rattle.rd_session.proofs.CallLaws.{GateCalled-begun, GateCalled-none, GateCalled-out, GateCalled-same, GateCalled-weak}
 
 -- ---- texts and receipts
@@ -47,11 +47,10 @@ seat_same who rs rs' n n' receipts share =
     ap (λ (r : List Receipt). seat_of who r n) receipts ∙ ap (seat_of who rs') share
 
 -- the last receipt of a seat that has gained one
-gained_last : (xs ys : List Receipt) (receipt last : Receipt) → ys ≡ xs ++ receipt ∷ [] → slice_get ys (length ys - 1) ≡ Some last → last ≡ receipt
-gained_last xs ys receipt last is at =
+gained_last : (xs ys : List Receipt) (receipt : Receipt) → ys ≡ xs ++ receipt ∷ [] → slice_get ys (length ys - 1) ≡ Some receipt
+gained_last xs ys receipt is =
     let place : length ys - 1 ≡ length xs = omega (arith, ap length is, length_push xs receipt) in
-    let found : slice_get ys (length ys - 1) ≡ Some receipt = ap (slice_get ys) place ∙ ap (λ (zs : List Receipt). slice_get zs (length xs)) is ∙ last_pushed xs receipt in
-    cc
+    ap (slice_get ys) place ∙ ap (λ (zs : List Receipt). slice_get zs (length xs)) is ∙ last_pushed xs receipt
 
 gained_nothing : (seat after : SeatView) → after ≡ seat → after ≡ with_all seat []
 gained_nothing seat after same =
@@ -76,17 +75,17 @@ pub record Answers (line : Line) (seat after : SeatView) (said : List ℕ) : Typ
   pub gained : after ≡ with_all seat (receipt_in answer)
   pub says : text answer ≡ said
 
-pub answer_served : (line : List ℕ) (command : CommandView) (seat after : SeatView) (last : Receipt)
-    → command_of (words_of line) ≡ Some command → (receipt : Receipt) × Gains seat (Ask command) after receipt → slice_get after.receipts (length after.receipts - 1) ≡ Some last
-    → Answers (Whole line) seat after (reply_line last.entry.reply)
-answer_served line command seat after last is gains at =
+pub answer_served : (line : List ℕ) (command : CommandView) (seat after : SeatView)
+    → command_of (words_of line) ≡ Some command → (receipt : Receipt) × Gains seat (Ask command) after receipt
+    → Answers (Whole line) seat after (last_line after)
+answer_served line command seat after is gains =
     let receipt = gains.0 in
-    let same : last ≡ receipt = gained_last seat.receipts after.receipts receipt last (ap (λ (s : SeatView). s.receipts) gains.1.after) at in
+    let last = gained_last seat.receipts after.receipts receipt (ap (λ (s : SeatView). s.receipts) gains.1.after) in
     record {
       answer = Served receipt;
       to_line = ap (option_map Ask) is ∙ ap (λ (e : Event). Some e) (sym gains.1.event);
       gained = gains.1.after ∙ seat_same seat.who (seat.receipts ++ receipt ∷ []) (seat.receipts ++ receipt ∷ []) (seat.share + 1) (seat.share + length (receipt ∷ [])) refl (omega arith);
-      says = ap (λ (r : Receipt). reply_line r.entry.reply) (sym same);
+      says = sym (ap line_in last);
     }
 
 pub answer_refused : (line : List ℕ) (command : CommandView) (seat after : SeatView) (error : NotServed)

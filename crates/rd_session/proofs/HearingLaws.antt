@@ -1,5 +1,5 @@
 -- What a session hears, one page after the other.
-use Rattle.std.proofs.Common.{◌≡◌, ◌∙◌, ℕ, ◌+◌, ◌<◌, ◌≤◌, true, false, List, [], ◌∷◌, ◌++◌, length, take, drop, refl, ap, subst, sym, arith}
+use Rattle.std.proofs.Common.{◌≡◌, ◌∙◌, ℕ, ◌+◌, ◌<◌, true, false, List, [], ◌∷◌, ◌++◌, length, take, drop, refl, ap, subst, sym, arith}
 use Rattle.std.specs.Prelude.{Option, Some, None, Result, Ok, Err, OnErr, OnOk, nat_eq, if◌then◌else◌}
 use Rattle.std.proofs.lemmas.Bool.Decides.{nat_tests}
 use Rattle.std.specs.Io.KnownBytes.{Consumes, IsAtEnd, Keeps}
@@ -154,10 +154,6 @@ Hears-new had start spot held unread none told who =
       faults = unread.faults;
     })
 
--- it can read
-pub held_short : (had now : SourceView) (start : Talk) (spot : Spot) (held : List ℕ) → Hears had now start spot held → length held ≤ 1024
-held_short had now start spot held hears = (part_cut held hears.part).2
-
 -- the lines of a page are those of what is left and the page
 page_lines : (bytes held page all : List ℕ) → rest_from (Some []) bytes ≡ Some held → front_of held ≡ front.Part → all ≡ held ++ page
     → (lines_from (Some []) (bytes ++ page) ≡ lines_from (Some []) bytes ++ lines_from (Some []) all) × (rest_from (Some []) (bytes ++ page) ≡ rest_from (Some []) all)
@@ -272,7 +268,7 @@ Heard-spent had now start spot held hears all spent = record {
 }
 
 pub Heard-stops : (why : Ended) (had now later : SourceView) (start : Talk) (spot : Spot) (new : Talk) (all : List ℕ)
-    → Read had now later start spot all → Stops why (lines_from (Some []) all) spot new (rest_from (Some []) all) → Heard had later start new
+    → Read had now later start spot all → Stops why (lines_from (Some []) all) (rest_from (Some []) all) spot new → Heard had later start new
 Heard-stops LineTooLong had now later start spot new all r stops = record {
   pages = r.pages;
   are_pages = r.are_pages;

@@ -1,13 +1,15 @@
 -- Answers that are gathered, and written many at a time.
-use Rattle.std.specs.Prelude.{ℕ, ◌≡◌, ◌+◌, ◌≤◌, List, [], ◌∷◌, ◌++◌, length, Option}
-use Rattle.std.specs.Prelude.{None, Result, OnErr, OnOk}
+use Rattle.std.specs.Prelude.{ℕ, ◌≡◌, ◌+◌, ◌-◌, ◌<◌, ◌≤◌, List, [], ◌∷◌, ◌++◌, length, slice_get}
+use Rattle.std.specs.Prelude.{Option, None, Some, Result, OnErr, OnOk}
 use Rattle.std.specs.Io.KnownBytes.{Appends}
 use Rattle.rd_ends.specs.Ends.{SinkView}
+use Rattle.rd_desk.specs.declared.entry.Receipt.{Receipt}
+use Rattle.rd_reply.specs.declared.reply.TheConstants.{MAX_REPLY}
 use Rattle.rd_hall.specs.SeatView.{SeatView}
 use Rattle.rd_session.specs.BuffersView.{PendingView}
 use Rattle.rd_session.specs.Calls.{Adds, GateCall, GateCalled, LeadTo}
 use Rattle.rd_session.specs.Lines.{Line}
-use Rattle.rd_session.specs.Replies.{LineAnswer, text}
+use Rattle.rd_session.specs.Replies.{LineAnswer, IsShown, reply_line, text}
 use Rattle.rd_session.specs.Answers.{AreAnswers, BreaksOff, HasNoRoom, IsAnswerTo, Talk, Talks}
 use Rattle.rd_session.specs.Answers.{receipt_in, receipts_in, texts, with_all}
 use Rattle.rd_session.specs.declared.session.Ended.{Ended}
@@ -23,6 +25,26 @@ spot seat sink calls pending = record {
   talk = record { seat = seat; sink = sink; calls = calls };
   pending = pending;
 }
+
+-- the spot with this seat
+abbrev pub with_seat : Spot → SeatView → Spot
+with_seat old seat = spot seat old.talk.sink old.talk.calls old.pending
+
+-- No more answers are out than lines were begun, and no write has failed.
+pub record IsAtWork (now : Spot) : Type 0 where
+  pub out : now.pending.out ≤ now.pending.begun
+  pub faults : now.talk.sink.faults ≡ 0
+
+-- There is room for a reply in a few words.
+abbrev pub HasReplyRoom : PendingView → Type 0
+HasReplyRoom pending = length pending.bytes + MAX_REPLY ≤ pending.capacity
+
+-- A line was begun that has no answer yet, there is room for a reply in a few words, and no write
+-- has failed.
+pub record IsReady (now : Spot) : Type 0 where
+  pub room : HasReplyRoom now.pending
+  pub out : now.pending.out < now.pending.begun
+  pub faults : now.talk.sink.faults ≡ 0
 
 -- Since the beginning these lines were heard and answered: some of the answers are written (told),
 -- some gathered behind them (waiting), and some are neither yet (unsaid). So many at the most of the
@@ -55,69 +77,67 @@ AreOut who out upto old new =
     × LeadTo who calls (record { begun = begun; out = out; round = round })
     (record { begun = begun; out = upto; round = round' }))
 
+-- the line of the reply in the last receipt of a seat
+abbrev pub line_in : Option Receipt → List ℕ
+line_in None = []
+line_in (Some receipt) = reply_line receipt.entry.reply
+
+abbrev pub last_line : SeatView → List ℕ
+last_line seat = line_in (slice_get seat.receipts (length seat.receipts - 1))
+
+-- That reply is a view.
+abbrev pub is_shown_in : Option Receipt → Type 0
+is_shown_in None = ⊥
+is_shown_in (Some receipt) = IsShown receipt.entry.reply
+
+abbrev pub has_shown : SeatView → Type 0
+has_shown seat = is_shown_in (slice_get seat.receipts (length seat.receipts - 1))
+
 -- All that was gathered is written; what is unsaid isn't out.
-abbrev pub IsFlushed : ℕ → ℕ → SinkView → Option (List GateCall) → PendingView → SinkView
-    → Option (List GateCall) → PendingView → Type 0
-IsFlushed who upto sink calls pending sink' calls' pending' =
-    (start : Talk) (heard : List Line) (unsaid : List LineAnswer) (seat : SeatView)
-    → start.seat.who ≡ who → upto + length unsaid ≡ pending.begun
-    → Talking start heard unsaid 0 (spot seat sink calls pending)
-    → Talking start heard unsaid (length unsaid) (spot seat sink' calls' pending')
+abbrev pub IsFlushed : ℕ → Spot → Spot → Type 0
+IsFlushed upto old new = (start : Talk) (heard : List Line) (unsaid : List LineAnswer)
+    → start.seat.who ≡ old.talk.seat.who → upto + length unsaid ≡ old.pending.begun
+    → Talking start heard unsaid 0 old → Talking start heard unsaid (length unsaid) new
 
 -- What was heard and answered stays so.
-abbrev pub GoesOn : ℕ → SinkView → Option (List GateCall) → PendingView → SinkView
-    → Option (List GateCall) → PendingView → Type 0
-GoesOn who sink calls pending sink' calls' pending' =
-    (start : Talk) (heard : List Line) (seat : SeatView) → start.seat.who ≡ who
-    → Talking start heard [] 0 (spot seat sink calls pending)
-    → Talking start heard [] 0 (spot seat sink' calls' pending')
+abbrev pub GoesOn : Spot → Spot → Type 0
+GoesOn old new = (start : Talk) (heard : List Line) → start.seat.who ≡ old.talk.seat.who
+    → Talking start heard [] 0 old → Talking start heard [] 0 new
 
 -- A write has failed that was given all that was gathered.
-abbrev pub IsLost : ℕ → SinkView → Option (List GateCall) → PendingView → SinkView
-    → Option (List GateCall) → Type 0
-IsLost who sink calls pending sink' calls' =
-    (start : Talk) (heard : List Line) (unsaid : List LineAnswer) (seat : SeatView)
-    → start.seat.who ≡ who → HasNoRoom pending.bytes unsaid
-    → Talking start heard unsaid 0 (spot seat sink calls pending)
-    → BreaksOff heard start (record { seat = seat; sink = sink'; calls = calls' })
+abbrev pub IsLost : Spot → Talk → Type 0
+IsLost old new = (start : Talk) (heard : List Line) (unsaid : List LineAnswer)
+    → start.seat.who ≡ old.talk.seat.who → HasNoRoom old.pending.bytes unsaid
+    → Talking start heard unsaid 0 old → BreaksOff heard start new
 
 -- An answer with this text, which was neither gathered nor written before, is so now.
-abbrev pub IsSaid : ℕ → List ℕ → SinkView → Option (List GateCall) → PendingView → SinkView
-    → Option (List GateCall) → PendingView → Type 0
-IsSaid who line sink calls pending sink' calls' pending' =
-    (start : Talk) (heard : List Line) (seat : SeatView) (answer : LineAnswer)
-    → start.seat.who ≡ who → text answer ≡ line
-    → Talking start heard (answer ∷ []) 0 (spot seat sink calls pending)
-    → Talking start heard [] 0 (spot seat sink' calls' pending')
+abbrev pub IsSaid : List ℕ → Spot → Spot → Type 0
+IsSaid line old new = (start : Talk) (heard : List Line) (answer : LineAnswer)
+    → start.seat.who ≡ old.talk.seat.who → text answer ≡ line
+    → Talking start heard (answer ∷ []) 0 old → Talking start heard [] 0 new
 
 -- A write has failed where an answer with this text was to be gathered or written.
-abbrev pub IsUnsaid : ℕ → List ℕ → SinkView → Option (List GateCall) → PendingView → SinkView
-    → Option (List GateCall) → Type 0
-IsUnsaid who line sink calls pending sink' calls' =
-    (start : Talk) (heard : List Line) (seat : SeatView) (answer : LineAnswer)
-    → start.seat.who ≡ who → text answer ≡ line
-    → Talking start heard (answer ∷ []) 0 (spot seat sink calls pending)
-    → BreaksOff heard start (record { seat = seat; sink = sink'; calls = calls' })
+abbrev pub IsUnsaid : List ℕ → Spot → Talk → Type 0
+IsUnsaid line old new = (start : Talk) (heard : List Line) (answer : LineAnswer)
+    → start.seat.who ≡ old.talk.seat.who → text answer ≡ line
+    → Talking start heard (answer ∷ []) 0 old → BreaksOff heard start new
 
 -- A line was begun: with an answer to it, and the seat that has its receipt, it is heard.
-abbrev pub Begins : ℕ → SinkView → Option (List GateCall) → PendingView → SinkView
-    → Option (List GateCall) → PendingView → Type 0
-Begins who sink calls pending sink' calls' pending' =
-    (start : Talk) (heard : List Line) (seat after : SeatView) (line : Line) (answer : LineAnswer)
-    → start.seat.who ≡ who → IsAnswerTo line answer → after ≡ with_all seat (receipt_in answer)
-    → Talking start heard [] 0 (spot seat sink calls pending)
-    → Talking start (heard ++ line ∷ []) (answer ∷ []) 0 (spot after sink' calls' pending')
+abbrev pub Begins : Spot → Spot → Type 0
+Begins old new = (start : Talk) (heard : List Line) (after : SeatView) (line : Line)
+    (answer : LineAnswer)
+    → start.seat.who ≡ old.talk.seat.who → IsAnswerTo line answer
+    → after ≡ with_all new.talk.seat (receipt_in answer) → Talking start heard [] 0 old
+    → Talking start (heard ++ line ∷ []) (answer ∷ []) 0 (with_seat new after)
 
 -- A line that was begun has its answer, whose text was gathered or written, or the sink failed.
-pub record Answered {T E : Type 0} (who : ℕ) (line : Line) (seat after : SeatView)
-    (sink : SinkView) (calls : Option (List GateCall)) (pending : PendingView)
-    (sink' : SinkView) (calls' : Option (List GateCall)) (pending' : PendingView)
-    (result : Result T E) : Type 0 where
-  pub answer : LineAnswer
-  pub to_line : IsAnswerTo line answer
-  pub gained : after ≡ with_all seat (receipt_in answer)
-  pub said : OnOk result (IsSaid who (text answer) sink calls pending sink' calls' pending')
-  pub unsaid : OnErr result (IsUnsaid who (text answer) sink calls pending sink' calls')
+pub record Answered {T E : Type 0} (line : Line) (old new : Spot) (result : Result T E) : Type 0
+  where
+    pub answer : LineAnswer
+    pub to_line : IsAnswerTo line answer
+    pub gained : new.talk.seat ≡ with_all old.talk.seat (receipt_in answer)
+    pub said : OnOk result (IsSaid (text answer) (with_seat old new.talk.seat) new)
+    pub unsaid : OnErr result (IsUnsaid (text answer) (with_seat old new.talk.seat) new.talk)
 
 -- These lines were heard, and answered.
 abbrev pub HearsMore : List Line → Spot → Spot → Type 0
@@ -136,6 +156,6 @@ SaysAll lines old new = (start : Talk) (heard : List Line) → start.seat.who �
     → Talking start heard [] 0 old → Talks (heard ++ lines) start new
 
 -- What was answered where a session stops amid these lines.
-abbrev pub Stops : Ended → List Line → Spot → Talk → Option (List ℕ) → Type 0
-Stops LineTooLong lines old new rest = SaysAll lines old new × (rest ≡ None)
-Stops WriteFault lines old new rest = BreaksAmid lines old new
+abbrev pub Stops : Ended → List Line → Option (List ℕ) → Spot → Talk → Type 0
+Stops LineTooLong lines rest old new = SaysAll lines old new × (rest ≡ None)
+Stops WriteFault lines rest old new = BreaksAmid lines old new

@@ -5,4 +5,5 @@ pub mod Lines
 pub mod Replies
 pub mod Answers
 pub mod Gathering
+pub mod Spots
 pub mod Hearing

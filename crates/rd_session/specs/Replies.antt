@@ -16,6 +16,12 @@ reply_line Done = []
 reply_line (Told told) = line_of (reply_text told)
 reply_line (Shown line) = line
 
+-- It is a view.
+abbrev pub IsShown : DeskReply → Type 0
+IsShown Done = ⊥
+IsShown (Told told) = ⊥
+IsShown (Shown line) = Unit {0}
+
 -- the line of a refusal
 abbrev pub refusal_line : Refusal → List ℕ
 refusal_line refusal = line_of (reply_text (Refused refusal))

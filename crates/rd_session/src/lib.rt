@@ -1,6 +1,6 @@
 //! A session: it reads lines, asks a hall for what they spell, and answers each.
 //! Page: `docs/FORMATS.md`. Definitions in reading order (`specs/`): `BuffersView`, `Calls`,
-//! `Lines`, `Replies`, `Answers`, `Gathering`, `Hearing`.
+//! `Lines`, `Replies`, `Answers`, `Gathering`, `Spots`, `Hearing`.
 #![tactic(auto)]
 
 pub mod buffers;
@@ -9,4 +9,5 @@ pub mod lines;
 mod pending;
 pub mod render;
 pub mod session;
+mod spot;
 mod telling;

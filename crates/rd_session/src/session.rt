@@ -2,7 +2,7 @@
 
 ghost use Rattle.std.specs.Prelude.{◌≡◌, ◌+◌, ◌^◌, ◌<◌, ◌≤◌, ◌⊎◌, ◌∷◌, [], Some, length};
 ghost use Rattle.std.specs.Prelude.{IfErr, OnErr, OnOk};
-ghost use Rattle.rd_ends.specs.Ends.{IsUnread, faults_after};
+ghost use Rattle.rd_ends.specs.Ends.{IsUnread};
 ghost use Rattle.rd_command.specs.Bindings.{known_of};
 ghost use Rattle.rd_desk.specs.declared.entry.Event.TheVariants.{Leave};
 ghost use Rattle.rd_hall.specs.SeatView.{SeatView};
@@ -10,16 +10,17 @@ ghost use Rattle.rd_hall.specs.Seats.{Finds, Gained, LetsGo};
 ghost use Rattle.rd_session.specs.Lines.{Whole, Long, front_of, last_of, lines_from, rest_from};
 ghost use Rattle.rd_session.specs.declared.lines.Front.TheVariants.{Part};
 ghost use Rattle.rd_session.specs.Replies.{refusal_of};
-ghost use Rattle.rd_session.specs.Gathering.{Answered, Begins, BreaksAmid, GoesOn, HearsMore};
-ghost use Rattle.rd_session.specs.Gathering.{IsFlushed, IsLost, SaysAll, Stops, spot};
+ghost use Rattle.rd_session.specs.Gathering.{Answered, Begins, BreaksAmid, GoesOn, HasReplyRoom};
+ghost use Rattle.rd_session.specs.Gathering.{HearsMore, IsFlushed, IsLost, IsAtWork, IsReady};
+ghost use Rattle.rd_session.specs.Gathering.{SaysAll, Stops};
+ghost use Rattle.rd_session.specs.Spots.{At, Between, IsSame, Leaves, spot_of};
 ghost use Rattle.rd_session.specs.Hearing.{Heard};
 ghost use Rattle.rd_reply.specs.declared.reply.TheConstants.{MAX_REPLY};
 
 use crate::buffers::Buffers;
 use crate::gate::Gate;
 use crate::lines::{Front, Lines};
-use crate::pending::Pending;
-use crate::telling::{flush, tell};
+use crate::spot::Spot;
 use rd_command::binding::bind;
 use rd_command::command::parse_line;
 use rd_command::order::Order;
@@ -76,328 +77,255 @@ fn refusal_of(error: &NotServed) -> Refusal
     }
 }
 
-// Writes all answers.
-fn finish<G: Gate, W: ByteSink>(
-    gate: &mut G,
-    who: u32,
-    pending: &mut Pending,
-    sink: &mut W,
-) -> Result<(), WriteFault>
-    requires out { pending.old.out ≤ pending.old.begun }
-    requires counts { (W.seen sink.old).faults ≡ 0 }
-    ensures flushed { OnOk result (IsFlushed who pending.old.begun (W.seen sink.old)
-        (G.calls gate.old) pending.old (W.seen sink.new) (G.calls gate.new) pending.new) }
-    ensures pending { OnOk result (pending.new
-        ≡ record pending.old { bytes = []; out = pending.old.begun }) }
-    ensures lost { OnErr result (IsLost who (W.seen sink.old) (G.calls gate.old) pending.old
-        (W.seen sink.new) (G.calls gate.new)) }
-    ensures faults { (W.seen sink.new).faults ≡ faults_after (W.seen sink.old).faults result }
-{
-    flush(gate, who, pending.begun(), pending, sink)
-}
-
-// Makes room for a reply in a few words: where there is none the answers before it are written.
-fn make_room<G: Gate, W: ByteSink>(
-    gate: &mut G,
-    who: u32,
-    pending: &mut Pending,
-    sink: &mut W,
-) -> Result<(), WriteFault>
-    requires out { pending.old.out ≤ pending.old.begun }
-    requires counts { (W.seen sink.old).faults ≡ 0 }
-    ensures goes_on { OnOk result (GoesOn who (W.seen sink.old) (G.calls gate.old) pending.old
-        (W.seen sink.new) (G.calls gate.new) pending.new) }
-    ensures room { OnOk result (length pending.new.bytes + MAX_REPLY ≤ pending.new.capacity) }
-    ensures begun { OnOk result (pending.new.begun ≡ pending.old.begun) }
-    ensures out { OnOk result (pending.new.out ≤ pending.new.begun) }
-    ensures lost { OnErr result (IsLost who (W.seen sink.old) (G.calls gate.old) pending.old
-        (W.seen sink.new) (G.calls gate.new)) }
-    ensures faults { (W.seen sink.new).faults ≡ faults_after (W.seen sink.old).faults result }
-{
-    if pending.fits(MAX_REPLY) {
-        return Ok(());
+impl<L: Setup, G: Gate, W: ByteSink> Spot<'_, L, G, W> {
+    // Writes all answers.
+    fn finish(&mut self) -> Result<(), WriteFault>
+        requires at_work { At W.seen G.calls IsAtWork self.old }
+        ensures flushed { OnOk result (Between W.seen G.calls
+            (IsFlushed self.old.pending.now.begun) self.old self.new) }
+        ensures pending { OnOk result (self.new.pending.now
+            ≡ record self.old.pending.now { bytes = []; out = self.old.pending.now.begun }) }
+        ensures lost { OnErr result (Leaves W.seen G.calls IsLost self.old self.new) }
+        ensures at_work { OnOk result (At W.seen G.calls IsAtWork self.new) }
+        ensures same { IsSame self.old self.new }
+    {
+        let begun = self.pending.begun();
+        self.flush(begun)
     }
-    finish(gate, who, pending, sink)
-}
 
-// Begins a line: makes room for a reply in a few words, and calls the gate. Where answers before it
-// can't be written, the line isn't begun.
-fn begin<G: Gate, W: ByteSink>(
-    gate: &mut G,
-    who: u32,
-    pending: &mut Pending,
-    sink: &mut W,
-) -> Result<(), WriteFault>
-    requires out { pending.old.out ≤ pending.old.begun }
-    requires begun { pending.old.begun < 2 ^ 63 }
-    requires counts { (W.seen sink.old).faults ≡ 0 }
-    ensures begins { OnOk result (Begins who (W.seen sink.old) (G.calls gate.old) pending.old
-        (W.seen sink.new) (G.calls gate.new) pending.new) }
-    ensures room { OnOk result (length pending.new.bytes + MAX_REPLY ≤ pending.new.capacity) }
-    ensures begun { OnOk result (pending.new.begun ≡ pending.old.begun + 1) }
-    ensures out { OnOk result (pending.new.out < pending.new.begun) }
-    ensures lost { OnErr result (IsLost who (W.seen sink.old) (G.calls gate.old) pending.old
-        (W.seen sink.new) (G.calls gate.new)) }
-    ensures faults { (W.seen sink.new).faults ≡ faults_after (W.seen sink.old).faults result }
-{
-    make_room(gate, who, pending, sink)?;
-    pending.begin();
-    gate.before(who, pending.begun());
-    Ok(())
-}
-
-// Asks the hall, and tells its reply, or why the command wasn't served.
-fn ask<R: Wait, L: Setup, G: Gate, W: ByteSink>(
-    host: &Host<'_, R, L>,
-    gate: &mut G,
-    seat: &mut Seat<L>,
-    order: &Order<'_, '_>,
-    pending: &mut Pending,
-    sink: &mut W,
-) -> Result<(), WriteFault>
-    requires application { order.now.known ≡ known_of L.app }
-    requires room { length pending.old.bytes + MAX_REPLY ≤ pending.old.capacity }
-    requires out { pending.old.out < pending.old.begun }
-    requires counts { (W.seen sink.old).faults ≡ 0 }
-    ensures answered { Answered seat.old.session.who (Whole order.now.line) seat.old.session
-        seat.new.session (W.seen sink.old) (G.calls gate.old) pending.old (W.seen sink.new)
-        (G.calls gate.new) pending.new result }
-    ensures begun { OnOk result (pending.new.begun ≡ pending.old.begun) }
-    ensures out { OnOk result (pending.new.out ≤ pending.new.begun) }
-    ensures faults { (W.seen sink.new).faults ≡ faults_after (W.seen sink.old).faults result }
-{
-    // (its line says which command it is)
-    order.line();
-    let who = seat.who();
-    match host.hall.serve(host.rt, seat, order) {
-        Ok(()) => tell(gate, who, pending, sink, &seat.last().entry.reply),
-        Err(error) => {
-            let refusal = refusal_of(&error);
-            pending.put_short(&Short::Refused { refusal });
-            Ok(())
+    // Makes room for a reply in a few words: where there is none the answers before it are written.
+    fn make_room(&mut self) -> Result<(), WriteFault>
+        requires at_work { At W.seen G.calls IsAtWork self.old }
+        ensures goes_on { OnOk result (Between W.seen G.calls GoesOn self.old self.new) }
+        ensures room { OnOk result (HasReplyRoom self.new.pending.now) }
+        ensures begun { OnOk result (self.new.pending.now.begun ≡ self.old.pending.now.begun) }
+        ensures lost { OnErr result (Leaves W.seen G.calls IsLost self.old self.new) }
+        ensures at_work { OnOk result (At W.seen G.calls IsAtWork self.new) }
+        ensures same { IsSame self.old self.new }
+    {
+        if self.pending.fits(MAX_REPLY) {
+            return Ok(());
         }
+        self.finish()
     }
-}
 
-// Answers a line that was begun, and isn't among those that were bound lately. (By itself, since
-// else each call would zero the stack that its words take.)
-#[inline(never)]
-fn answer_anew<R: Wait, L: Setup, G: Gate, W: ByteSink>(
-    host: &mut Host<'_, R, L>,
-    gate: &mut G,
-    seat: &mut Seat<L>,
-    line: &[u8],
-    pending: &mut Pending,
-    sink: &mut W,
-) -> Result<(), WriteFault>
-    requires room { length pending.old.bytes + MAX_REPLY ≤ pending.old.capacity }
-    requires out { pending.old.out < pending.old.begun }
-    requires counts { (W.seen sink.old).faults ≡ 0 }
-    ensures answered { Answered seat.old.session.who (Whole line.now) seat.old.session
-        seat.new.session (W.seen sink.old) (G.calls gate.old) pending.old (W.seen sink.new)
-        (G.calls gate.new) pending.new result }
-    ensures begun { OnOk result (pending.new.begun ≡ pending.old.begun) }
-    ensures out { OnOk result (pending.new.out ≤ pending.new.begun) }
-    ensures faults { (W.seen sink.new).faults ≡ faults_after (W.seen sink.old).faults result }
-{
-    let mut behind = Behind::new();
-    // (looked at where it is, since what is taken out of a result is copied)
-    match &parse_line(line, &mut behind) {
-        Ok(command) => {
-            let known = host.hall.known();
-            let bound = bind(command, known);
-            let order = Order::new(command, known, &bound);
-            let asked = ask(host, gate, seat, &order, pending, sink);
-            if host.recent.is_turn() {
-                host.recent.keep(command, bound);
+    // Begins a line: makes room for a reply in a few words, and calls the gate. Where answers
+    // before it can't be written, the line isn't begun.
+    fn begin(&mut self) -> Result<(), WriteFault>
+        requires at_work { At W.seen G.calls IsAtWork self.old }
+        requires begun { self.old.pending.now.begun < 2 ^ 63 }
+        ensures begins { OnOk result (Between W.seen G.calls Begins self.old self.new) }
+        ensures ready { OnOk result (At W.seen G.calls IsReady self.new) }
+        ensures begun { OnOk result (self.new.pending.now.begun ≡ self.old.pending.now.begun + 1) }
+        ensures lost { OnErr result (Leaves W.seen G.calls IsLost self.old self.new) }
+        ensures same { IsSame self.old self.new }
+    {
+        self.make_room()?;
+        self.pending.begin();
+        self.gate.before(self.seat.who(), self.pending.begun());
+        Ok(())
+    }
+
+    // Asks the hall, and tells its reply, or why the command wasn't served.
+    fn ask<R: Wait>(
+        &mut self,
+        host: &Host<'_, R, L>,
+        order: &Order<'_, '_>,
+    ) -> Result<(), WriteFault>
+        requires application { order.now.known ≡ known_of L.app }
+        requires ready { At W.seen G.calls IsReady self.old }
+        ensures answered { Answered (Whole order.now.line) (spot_of W.seen G.calls self.old)
+            (spot_of W.seen G.calls self.new) result }
+        ensures begun { OnOk result (self.new.pending.now.begun ≡ self.old.pending.now.begun) }
+        ensures at_work { OnOk result (At W.seen G.calls IsAtWork self.new) }
+        ensures same { IsSame self.old self.new }
+    {
+        // (its line says which command it is)
+        order.line();
+        match host.hall.serve(host.rt, self.seat, order) {
+            Ok(()) => self.tell(),
+            Err(error) => {
+                let refusal = refusal_of(&error);
+                self.pending.put_short(&Short::Refused { refusal });
+                Ok(())
             }
-            asked
-        }
-        Err(_) => {
-            let refusal = Refusal::Syntax;
-            pending.put_short(&Short::Refused { refusal });
-            Ok(())
         }
     }
-}
 
-// Answers a line that was begun.
-fn answer<R: Wait, L: Setup, G: Gate, W: ByteSink>(
-    host: &mut Host<'_, R, L>,
-    gate: &mut G,
-    seat: &mut Seat<L>,
-    line: &[u8],
-    pending: &mut Pending,
-    sink: &mut W,
-) -> Result<(), WriteFault>
-    requires room { length pending.old.bytes + MAX_REPLY ≤ pending.old.capacity }
-    requires out { pending.old.out < pending.old.begun }
-    requires counts { (W.seen sink.old).faults ≡ 0 }
-    ensures answered { Answered seat.old.session.who (Whole line.now) seat.old.session
-        seat.new.session (W.seen sink.old) (G.calls gate.old) pending.old (W.seen sink.new)
-        (G.calls gate.new) pending.new result }
-    ensures begun { OnOk result (pending.new.begun ≡ pending.old.begun) }
-    ensures out { OnOk result (pending.new.out ≤ pending.new.begun) }
-    ensures faults { (W.seen sink.new).faults ≡ faults_after (W.seen sink.old).faults result }
-{
-    match host.recent.find(line) {
-        Some(order) => ask(host, gate, seat, &order, pending, sink),
-        None => answer_anew(host, gate, seat, line, pending, sink),
-    }
-}
-
-// Begins a line, and answers it.
-fn answer_line<R: Wait, L: Setup, G: Gate, W: ByteSink>(
-    host: &mut Host<'_, R, L>,
-    gate: &mut G,
-    seat: &mut Seat<L>,
-    line: &[u8],
-    pending: &mut Pending,
-    sink: &mut W,
-) -> Result<(), WriteFault>
-    requires out { pending.old.out ≤ pending.old.begun }
-    requires begun { pending.old.begun < 2 ^ 63 }
-    requires counts { (W.seen sink.old).faults ≡ 0 }
-    ensures more { OnOk result (HearsMore (Whole line.now ∷ [])
-        (spot seat.old.session (W.seen sink.old) (G.calls gate.old) pending.old)
-        (spot seat.new.session (W.seen sink.new) (G.calls gate.new) pending.new)) }
-    ensures breaks { OnErr result (BreaksAmid (Whole line.now ∷ [])
-        (spot seat.old.session (W.seen sink.old) (G.calls gate.old) pending.old)
-        (spot seat.new.session (W.seen sink.new) (G.calls gate.new) pending.new).talk) }
-    ensures who { seat.new.session.who ≡ seat.old.session.who }
-    ensures begun { OnOk result (pending.new.begun ≡ pending.old.begun + 1) }
-    ensures out { OnOk result (pending.new.out ≤ pending.new.begun) }
-    ensures faults { (W.seen sink.new).faults ≡ faults_after (W.seen sink.old).faults result }
-{
-    begin(gate, seat.who(), pending, sink)?;
-    answer(host, gate, seat, line, pending, sink)
-}
-
-// Answers a line that is too long, and writes all answers.
-fn answer_long<L: Setup, G: Gate, W: ByteSink>(
-    gate: &mut G,
-    seat: &Seat<L>,
-    pending: &mut Pending,
-    sink: &mut W,
-) -> Result<(), WriteFault>
-    requires out { pending.old.out ≤ pending.old.begun }
-    requires begun { pending.old.begun < 2 ^ 63 }
-    requires counts { (W.seen sink.old).faults ≡ 0 }
-    ensures said { OnOk result (SaysAll (Long ∷ [])
-        (spot seat.now.session (W.seen sink.old) (G.calls gate.old) pending.old)
-        (spot seat.now.session (W.seen sink.new) (G.calls gate.new) pending.new).talk) }
-    ensures breaks { OnErr result (BreaksAmid (Long ∷ [])
-        (spot seat.now.session (W.seen sink.old) (G.calls gate.old) pending.old)
-        (spot seat.now.session (W.seen sink.new) (G.calls gate.new) pending.new).talk) }
-    ensures faults { (W.seen sink.new).faults ≡ faults_after (W.seen sink.old).faults result }
-{
-    let who = seat.who();
-    begin(gate, who, pending, sink)?;
-    let refusal = Refusal::LineTooLong;
-    pending.put_short(&Short::Refused { refusal });
-    finish(gate, who, pending, sink)
-}
-
-// Answers all whole lines that were read, and writes the answers.
-fn answer_lines<R: Wait, L: Setup, G: Gate, W: ByteSink>(
-    host: &mut Host<'_, R, L>,
-    gate: &mut G,
-    seat: &mut Seat<L>,
-    lines: &mut Lines,
-    pending: &mut Pending,
-    sink: &mut W,
-) -> Result<(), Ended>
-    requires out { pending.old.out ≤ pending.old.begun }
-    requires begun { pending.old.begun + length lines.old < 2 ^ 63 }
-    requires counts { (W.seen sink.old).faults ≡ 0 }
-    ensures more { OnOk result (HearsMore (lines_from (Some []) lines.old)
-        (spot seat.old.session (W.seen sink.old) (G.calls gate.old) pending.old)
-        (spot seat.new.session (W.seen sink.new) (G.calls gate.new) pending.new)) }
-    ensures rest { OnOk result (rest_from (Some []) lines.old ≡ Some lines.new) }
-    ensures part { OnOk result (front_of lines.new ≡ Part) }
-    ensures who { seat.new.session.who ≡ seat.old.session.who }
-    ensures sent { OnOk result (pending.new.out ≡ pending.new.begun) }
-    ensures begun { OnOk result
-        (pending.new.begun ≤ pending.old.begun + length lines.old) }
-    ensures faults { OnOk result ((W.seen sink.new).faults ≡ 0) }
-    ensures stops { IfErr result (λ why. Stops why (lines_from (Some []) lines.old)
-        (spot seat.old.session (W.seen sink.old) (G.calls gate.old) pending.old)
-        (spot seat.new.session (W.seen sink.new) (G.calls gate.new) pending.new).talk
-        (rest_from (Some []) lines.old)) }
-{
-    loop {
-        match lines.front() {
-            Front::Line { len } => {
-                let line = lines.line(len);
-                answer_line(host, gate, seat, line, pending, sink)?;
-                lines.advance(len + 1);
+    // Answers a line that was begun, and isn't among those that were bound lately. (By itself,
+    // since else each call would zero the stack that its words take.)
+    #[inline(never)]
+    fn answer_anew<R: Wait>(
+        &mut self,
+        host: &mut Host<'_, R, L>,
+        line: &[u8],
+    ) -> Result<(), WriteFault>
+        requires ready { At W.seen G.calls IsReady self.old }
+        ensures answered { Answered (Whole line.now) (spot_of W.seen G.calls self.old)
+            (spot_of W.seen G.calls self.new) result }
+        ensures begun { OnOk result (self.new.pending.now.begun ≡ self.old.pending.now.begun) }
+        ensures at_work { OnOk result (At W.seen G.calls IsAtWork self.new) }
+        ensures same { IsSame self.old self.new }
+    {
+        let mut behind = Behind::new();
+        // (looked at where it is, since what is taken out of a result is copied)
+        match &parse_line(line, &mut behind) {
+            Ok(command) => {
+                let known = host.hall.known();
+                let bound = bind(command, known);
+                let order = Order::new(command, known, &bound);
+                let asked = self.ask(host, &order);
+                if host.recent.is_turn() {
+                    host.recent.keep(command, bound);
+                }
+                asked
             }
-            Front::TooLong => {
-                answer_long(gate, seat, pending, sink)?;
-                return Err(Ended::LineTooLong);
+            Err(_) => {
+                let refusal = Refusal::Syntax;
+                self.pending.put_short(&Short::Refused { refusal });
+                Ok(())
             }
-            Front::Part => return Ok(finish(gate, seat.who(), pending, sink)?),
         }
     }
-}
 
-// At the end of the input, answers what stands behind the last LF, if there is something, and
-// writes the answer.
-fn answer_rest<R: Wait, L: Setup, G: Gate, W: ByteSink>(
-    host: &mut Host<'_, R, L>,
-    gate: &mut G,
-    seat: &mut Seat<L>,
-    rest: &[u8],
-    pending: &mut Pending,
-    sink: &mut W,
-) -> Result<(), WriteFault>
-    requires out { pending.old.out ≡ pending.old.begun }
-    requires begun { pending.old.begun < 2 ^ 63 }
-    requires counts { (W.seen sink.old).faults ≡ 0 }
-    ensures said { OnOk result (SaysAll (last_of (Some rest.now))
-        (spot seat.old.session (W.seen sink.old) (G.calls gate.old) pending.old)
-        (spot seat.new.session (W.seen sink.new) (G.calls gate.new) pending.new).talk) }
-    ensures breaks { OnErr result (BreaksAmid (last_of (Some rest.now))
-        (spot seat.old.session (W.seen sink.old) (G.calls gate.old) pending.old)
-        (spot seat.new.session (W.seen sink.new) (G.calls gate.new) pending.new).talk) }
-{
-    if rest.is_empty() {
-        return Ok(());
-    }
-    answer_line(host, gate, seat, rest, pending, sink)?;
-    finish(gate, seat.who(), pending, sink)
-}
-
-// Reads and answers until an end.
-fn listen<R: Wait, L: Setup, G: Gate, S: ByteSource, W: ByteSink>(
-    host: &mut Host<'_, R, L>,
-    gate: &mut G,
-    source: &mut S,
-    sink: &mut W,
-    seat: &mut Seat<L>,
-    lines: &mut Lines,
-    pending: &mut Pending,
-)
-    requires held { lines.old ≡ [] }
-    requires pending { (pending.old.bytes ≡ []) × (pending.old.begun ≡ 0)
-        × (pending.old.out ≡ 0) }
-    requires unread { IsUnread (S.seen source.old) }
-    requires unwritten { (W.seen sink.old).faults ≡ 0 }
-    ensures heard { Heard (S.seen source.old) (S.seen source.new)
-        (record { seat = seat.old.session; sink = W.seen sink.old; calls = G.calls gate.old })
-        (record { seat = seat.new.session; sink = W.seen sink.new; calls = G.calls gate.new }) }
-    ensures reads { (S.seen source.new).reads ≤ 16777216 }
-{
-    for _turn in 0..MAX_READS {
-        let Ok(count) = lines.read_from(source) else {
-            return;
-        };
-        if count == 0 {
-            let _ = answer_rest(host, gate, seat, lines.rest(), pending, sink);
-            return;
+    // Answers a line that was begun.
+    fn answer<R: Wait>(&mut self, host: &mut Host<'_, R, L>, line: &[u8]) -> Result<(), WriteFault>
+        requires ready { At W.seen G.calls IsReady self.old }
+        ensures answered { Answered (Whole line.now) (spot_of W.seen G.calls self.old)
+            (spot_of W.seen G.calls self.new) result }
+        ensures begun { OnOk result (self.new.pending.now.begun ≡ self.old.pending.now.begun) }
+        ensures at_work { OnOk result (At W.seen G.calls IsAtWork self.new) }
+        ensures same { IsSame self.old self.new }
+    {
+        match host.recent.find(line) {
+            Some(order) => self.ask(host, &order),
+            None => self.answer_anew(host, line),
         }
-        if let Err(_why) = answer_lines(host, gate, seat, lines, pending, sink) {
-            return;
+    }
+
+    // Begins a line, and answers it.
+    fn answer_line<R: Wait>(
+        &mut self,
+        host: &mut Host<'_, R, L>,
+        line: &[u8],
+    ) -> Result<(), WriteFault>
+        requires at_work { At W.seen G.calls IsAtWork self.old }
+        requires begun { self.old.pending.now.begun < 2 ^ 63 }
+        ensures more { OnOk result (Between W.seen G.calls (HearsMore (Whole line.now ∷ []))
+            self.old self.new) }
+        ensures breaks { OnErr result (Leaves W.seen G.calls (BreaksAmid (Whole line.now ∷ []))
+            self.old self.new) }
+        ensures begun { OnOk result (self.new.pending.now.begun ≡ self.old.pending.now.begun + 1) }
+        ensures at_work { OnOk result (At W.seen G.calls IsAtWork self.new) }
+        ensures same { IsSame self.old self.new }
+    {
+        self.begin()?;
+        self.answer(host, line)
+    }
+
+    // Answers a line that is too long, and writes all answers.
+    fn answer_long(&mut self) -> Result<(), WriteFault>
+        requires at_work { At W.seen G.calls IsAtWork self.old }
+        requires begun { self.old.pending.now.begun < 2 ^ 63 }
+        ensures said { OnOk result (Leaves W.seen G.calls (SaysAll (Long ∷ []))
+            self.old self.new) }
+        ensures breaks { OnErr result (Leaves W.seen G.calls (BreaksAmid (Long ∷ []))
+            self.old self.new) }
+        ensures same { IsSame self.old self.new }
+    {
+        self.begin()?;
+        let refusal = Refusal::LineTooLong;
+        self.pending.put_short(&Short::Refused { refusal });
+        self.finish()
+    }
+
+    // Answers all whole lines that were read, and writes the answers.
+    fn answer_lines<R: Wait>(
+        &mut self,
+        host: &mut Host<'_, R, L>,
+        lines: &mut Lines,
+    ) -> Result<(), Ended>
+        requires at_work { At W.seen G.calls IsAtWork self.old }
+        requires begun { self.old.pending.now.begun + length lines.old < 2 ^ 63 }
+        ensures more { OnOk result (Between W.seen G.calls
+            (HearsMore (lines_from (Some []) lines.old)) self.old self.new) }
+        ensures rest { OnOk result (rest_from (Some []) lines.old ≡ Some lines.new) }
+        ensures part { OnOk result (front_of lines.new ≡ Part) }
+        ensures sent { OnOk result (self.new.pending.now.out ≡ self.new.pending.now.begun) }
+        ensures begun { OnOk result
+            (self.new.pending.now.begun ≤ self.old.pending.now.begun + length lines.old) }
+        ensures stops { IfErr result (λ why. Leaves W.seen G.calls (Stops why
+            (lines_from (Some []) lines.old) (rest_from (Some []) lines.old)) self.old self.new) }
+        ensures at_work { OnOk result (At W.seen G.calls IsAtWork self.new) }
+        ensures same { IsSame self.old self.new }
+    {
+        loop {
+            match lines.front() {
+                Front::Line { len } => {
+                    let line = lines.line(len);
+                    self.answer_line(host, line)?;
+                    lines.advance(len + 1);
+                }
+                Front::TooLong => {
+                    self.answer_long()?;
+                    return Err(Ended::LineTooLong);
+                }
+                Front::Part => return Ok(self.finish()?),
+            }
+        }
+    }
+
+    // At the end of the input, answers what stands behind the last LF, if there is something, and
+    // writes the answer.
+    fn answer_rest<R: Wait>(
+        &mut self,
+        host: &mut Host<'_, R, L>,
+        rest: &[u8],
+    ) -> Result<(), WriteFault>
+        requires at_work { At W.seen G.calls IsAtWork self.old }
+        requires sent { self.old.pending.now.out ≡ self.old.pending.now.begun }
+        requires begun { self.old.pending.now.begun < 2 ^ 63 }
+        ensures said { OnOk result (Leaves W.seen G.calls (SaysAll (last_of (Some rest.now)))
+            self.old self.new) }
+        ensures breaks { OnErr result (Leaves W.seen G.calls
+            (BreaksAmid (last_of (Some rest.now))) self.old self.new) }
+        ensures same { IsSame self.old self.new }
+    {
+        if rest.is_empty() {
+            return Ok(());
+        }
+        self.answer_line(host, rest)?;
+        self.finish()
+    }
+
+    // Reads and answers until an end.
+    fn listen<R: Wait, S: ByteSource>(
+        &mut self,
+        host: &mut Host<'_, R, L>,
+        source: &mut S,
+        lines: &mut Lines,
+    )
+        requires held { lines.old ≡ [] }
+        requires pending { (self.old.pending.now.bytes ≡ []) × (self.old.pending.now.begun ≡ 0)
+            × (self.old.pending.now.out ≡ 0) }
+        requires unread { IsUnread (S.seen source.old) }
+        requires unwritten { (W.seen self.old.sink.now).faults ≡ 0 }
+        ensures heard { Heard (S.seen source.old) (S.seen source.new)
+            (spot_of W.seen G.calls self.old).talk (spot_of W.seen G.calls self.new).talk }
+        ensures reads { (S.seen source.new).reads ≤ 16777216 }
+        ensures same { IsSame self.old self.new }
+    {
+        for _turn in 0..MAX_READS {
+            let Ok(count) = lines.read_from(source) else {
+                return;
+            };
+            if count == 0 {
+                let _ = self.answer_rest(host, lines.rest());
+                return;
+            }
+            if let Err(_why) = self.answer_lines(host, lines) {
+                return;
+            }
         }
     }
 }
@@ -442,14 +370,7 @@ pub fn session<L: Setup, S: ByteSource, W: ByteSink, G: Gate>(
         recent: Recent::new(hall.known()),
     };
     let mut seat = seat;
-    listen(
-        &mut host,
-        gate,
-        source,
-        sink,
-        &mut seat,
-        &mut buffers.lines,
-        &mut buffers.pending,
-    );
+    let mut spot = Spot::new(gate, &mut seat, &mut buffers.pending, sink);
+    spot.listen(&mut host, source, &mut buffers.lines);
     hall.leave(rt, seat)
 }
