@@ -14,7 +14,7 @@ from rdbg.adapter.variables import Shown, Variable, named, within
 # Why a task has failed, as docs/FORMATS.md has it.
 PLACE = "the task was to wait at the reader's or the writer's place of a buffer that names another"
 CAUSES: Dict[str, str] = {
-    "SetFull": "an item was to be put into a member of a set that has no room for its handle",
+    "SetFull": "an item was to be put into a member of a set that has no space for its handle",
     "TwoReaders": PLACE,
     "TwoWriters": PLACE,
     "EmptyData": "data of no bytes was to be written to a buffer",
