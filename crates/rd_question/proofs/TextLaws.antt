@@ -1,5 +1,5 @@
 -- A text in two parts.
-use Rattle.std.proofs.Common.{◌≡◌, ◌∙◌, ℕ, List, ◌++◌, take, drop, ap, sym}
+use Rattle.std.proofs.Common.{◌≡◌, ◌∙◌, ℕ, List, [], ◌∷◌, ◌++◌, length, take, refl, ap, sym, arith}
 use Rattle.std.proofs.lemmas.List.{take-append-drop}
 use Rattle.std.specs.Str.Pattern.{FindsText, SplitsAroundMatch}
 
@@ -10,3 +10,7 @@ in_parts text by front back h =
     sym (take-append-drop i text) ∙ ap (λ (rest : List ℕ). take i text ++ rest) h.2.1.split
     ∙ ap (λ (rest : List ℕ). take i text ++ (by ++ rest)) (sym h.4)
     ∙ ap (λ (first : List ℕ). first ++ (by ++ back)) (sym h.3)
+
+pub no_text : (text : List ℕ) → length text ≡ 0 → text ≡ []
+no_text [] none = refl
+no_text (code ∷ text) none = absurd (omega (arith, none))

@@ -1,10 +1,12 @@
 -- How an interrupt is said: how often it comes, which one it follows, and how far it is apart.
 use denote.Ref.{Bor}
-use Rattle.std.specs.Prelude.{ℕ, ◌&&◌, if◌then◌else◌, nat_le, List, Option, None, Some, codes}
+use Rattle.std.specs.Prelude.{◌≡◌, ◌⊎◌, ℕ, ◌&&◌, if◌then◌else◌, nat_le, List, Option, None, Some, codes}
 use Rattle.std.specs.Prelude.{option_and_then, option_map, slice_get}
 use Rattle.std.specs.Str.{bytes_eq}
 use Rattle.rd_text.specs.Words.{number_of}
 use Rattle.rd_question.specs.declared.handler.Handler.{Handler}
+use Rattle.rd_question.specs.declared.handler.NoHandler.{NoHandler}
+use Rattle.rd_question.specs.declared.handler.NoHandler.TheVariants.{After, Apart, NoMemory, Times, Unlimited}
 
 -- the number of at least so much that a text writes, up to 255
 abbrev pub small_number : ℕ → List ℕ → Option ℕ
@@ -31,3 +33,20 @@ times_at handlers place = option_and_then (λ handler. handler.times) (slice_get
 abbrev pub apart_said : Option (Bor (List ℕ)) → Option ℕ
 apart_said None = Some 0
 apart_said (Some text) = small_number 0 text.now
+
+-- What is said of the one that it follows is no number, or the number of none that was said before.
+abbrev pub IsWhyNotAfter : Option (Bor (List ℕ)) → List Handler → Type 0
+IsWhyNotAfter said before =
+    (follows_said said ≡ None)
+    ⊎ ((place : ℕ) × (follows_said said ≡ Some (Some place)) × (slice_get before place ≡ None))
+
+-- It follows one that was said before, and one of the two may come any number of times.
+abbrev pub IsUnlimited : Option (Bor (List ℕ)) → Option ℕ → List Handler → Type 0
+IsUnlimited said times before =
+    (place : ℕ) × (follows_said said ≡ Some (Some place))
+    × ((times ≡ None) ⊎ (times_at before place ≡ None))
+
+-- One of its options is wrong, or there is no memory.
+abbrev pub IsWrong : NoHandler → Type 0
+IsWrong cause =
+    (cause ≡ Times) ⊎ (cause ≡ After) ⊎ (cause ≡ Unlimited) ⊎ (cause ≡ Apart) ⊎ (cause ≡ NoMemory)

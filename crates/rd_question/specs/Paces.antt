@@ -1,5 +1,5 @@
 -- How a pace is written.
-use Rattle.std.specs.Prelude.{◌≡◌, ℕ, ◌≤◌, Option, None, Some, List, [], ◌∷◌, ◌++◌, IfSome, codes}
+use Rattle.std.specs.Prelude.{◌≡◌, ◌≢◌, ◌⊎◌, ℕ, ◌<◌, ◌≤◌, Option, None, Some, List, [], ◌∷◌, ◌++◌, IfSome, codes}
 use Rattle.rd_text.specs.Words.{number_of}
 use Rattle.rd_question.specs.declared.pace.Pace.{Pace}
 
@@ -24,3 +24,26 @@ pub record IsWritten (word : List ℕ) (pace : Pace) : Type 0 where
   pub parts : word ≡ least ++ (codes ".." ++ most)
   pub at_least : IsLeast least pace.at_least
   pub at_most : IsMost most pace.at_most
+
+-- The text writes no number up to 255.
+abbrev pub IsNoSmall : List ℕ → Type 0
+IsNoSmall text = (number : ℕ) → number_of text ≡ Some number → 255 < number
+
+-- The text is no least, and no most: it is some text, and no number up to 255, or not at least 1.
+abbrev pub IsNoLeast : List ℕ → Type 0
+IsNoLeast text = (text ≢ []) × IsNoSmall text
+
+abbrev pub IsNoMost : List ℕ → Type 0
+IsNoMost text = (text ≢ []) × (IsNoSmall text ⊎ (number_of text ≡ Some 0))
+
+-- The word has no '..', or nothing beside it, or what stands there is no such number.
+abbrev pub IsOutOfForm : List ℕ → Type 0
+IsOutOfForm word =
+    ((least most : List ℕ) → word ≢ least ++ (codes ".." ++ most))
+    ⊎ ((least : List ℕ) × (most : List ℕ) × (word ≡ least ++ (codes ".." ++ most))
+    × (((least ≡ []) × (most ≡ [])) ⊎ IsNoLeast least ⊎ IsNoMost most))
+
+-- The word writes a pace by which no tick could come.
+abbrev pub IsCrossed : List ℕ → Type 0
+IsCrossed word = (pace : Pace) × IsWritten word pace
+    × (most : ℕ) × (pace.at_most ≡ Some most) × (most < pace.at_least)

@@ -1,8 +1,11 @@
 //! Interrupts as they are asked for.
 
-ghost use Rattle.std.specs.Prelude.{◌≡◌, IfOk, IfSome, IsSome, Some};
+ghost use Rattle.std.specs.Prelude.{◌≡◌, ◌⊎◌, ℕ, Option, IfErr, IfOk, IfSome, IsErrOf, IsSome, None, Some, slice_get};
+ghost use Rattle.rd_question.specs.Handlers.{IsUnlimited, IsWhyNotAfter, IsWrong};
 ghost use Rattle.rd_question.specs.Handlers.{apart_said, follows_said, small_number, times_at};
 ghost use Rattle.rd_question.specs.Handlers.{times_said};
+ghost use Rattle.rd_question.specs.declared.handler.NoHandler.TheVariants.{After, Apart};
+ghost use Rattle.rd_question.specs.declared.handler.NoHandler.TheVariants.{Times, Unlimited};
 
 use rd_text::words::number;
 use std::alloc::{AllocError, AllocFailed, Global};
@@ -74,12 +77,20 @@ pub enum NoHandler {
 }
 
 impl From<AllocError> for NoHandler {
+    ghost use Rattle.rd_question.specs.declared.handler.NoHandler.{NoHandler};
+
+    ghost from_gives = { λ _ cause. cause ≡ NoHandler.NoMemory };
+
     fn from(_error: AllocError) -> NoHandler {
         NoHandler::NoMemory
     }
 }
 
 impl<T: Drop> From<AllocFailed<T>> for NoHandler {
+    ghost use Rattle.rd_question.specs.declared.handler.NoHandler.{NoHandler};
+
+    ghost from_gives = { λ _ cause. cause ≡ NoHandler.NoMemory };
+
     fn from(_failed: AllocFailed<T>) -> NoHandler {
         NoHandler::NoMemory
     }
@@ -121,7 +132,8 @@ fn small_number(text: &str, least: u32) -> Option<u8>
 
 // How often one comes of which this is said.
 fn times_of(said: Option<&str>) -> Result<Option<u8>, NoHandler>
-    ensures { IfOk result (λ times. times_said said.entry ≡ Some times) }
+    ensures ok { IfOk result (λ times. times_said said.entry ≡ Some times) }
+    ensures err { IfErr result (λ cause. (cause ≡ Times) × (times_said said.entry ≡ None)) }
 {
     match said {
         None => Ok(Some(1)),
@@ -135,7 +147,8 @@ fn times_of(said: Option<&str>) -> Result<Option<u8>, NoHandler>
 
 // How often one of those before comes at the most, if that is limited.
 fn times_at(before: &[Handler], place: usize) -> Result<Option<u8>, NoHandler>
-    ensures { IfOk result (λ times. times_at before.now place ≡ times) }
+    ensures ok { IfOk result (λ times. times_at before.now place ≡ times) }
+    ensures err { IfErr result (λ cause. (cause ≡ After) × (slice_get before.now place ≡ None)) }
 {
     match before.get(place) {
         Some(handler) => Ok(handler.times),
@@ -153,6 +166,9 @@ fn follows_of(
     ensures own { IfOk result (λ follows. IfSome follows (λ place. IsSome times)) }
     ensures other { IfOk result (λ follows. IfSome follows (λ place.
         IsSome (times_at before.now place))) }
+    ensures after { IsErrOf result After → IsWhyNotAfter said.entry before.now }
+    ensures unlimited { IsErrOf result Unlimited → IsUnlimited said.entry times before.now }
+    ensures causes { IfErr result (λ cause. (cause ≡ After) ⊎ (cause ≡ Unlimited)) }
 {
     let Some(text) = said else {
         return Ok(None);
@@ -167,7 +183,8 @@ fn follows_of(
 
 // How far it is apart.
 fn apart_of(said: Option<&str>) -> Result<u8, NoHandler>
-    ensures { IfOk result (λ apart. apart_said said.entry ≡ Some apart) }
+    ensures ok { IfOk result (λ apart. apart_said said.entry ≡ Some apart) }
+    ensures err { IfErr result (λ cause. (cause ≡ Apart) × (apart_said said.entry ≡ None)) }
 {
     match said {
         None => Ok(0),
@@ -186,6 +203,12 @@ pub fn handler_of(alloc: Global, said: Said<'_>, before: &[Handler]) -> Result<H
     ensures other { IfOk result (λ handler. IfSome handler.follows (λ place.
         IsSome (times_at before.now place))) }
     ensures apart { IfOk result (λ handler. apart_said said.entry.apart ≡ Some handler.apart) }
+    ensures bad_times { IsErrOf result Times → times_said said.entry.times ≡ None }
+    ensures bad_after { IsErrOf result After → IsWhyNotAfter said.entry.after before.now }
+    ensures unlimited { IsErrOf result Unlimited → (times : Option ℕ)
+        × (times_said said.entry.times ≡ Some times) × IsUnlimited said.entry.after times before.now }
+    ensures bad_apart { IsErrOf result Apart → apart_said said.entry.apart ≡ None }
+    ensures causes { IfErr result IsWrong }
 {
     let times = times_of(said.times)?;
     let follows = follows_of(said.after, times, before)?;

@@ -1,8 +1,10 @@
 //! The pace: how time is said apart from moves.
 
-ghost use Rattle.std.specs.Prelude.{◌≡◌, ◌≤◌, IfOk, IfSome, Some, false};
+ghost use Rattle.std.specs.Prelude.{◌≡◌, ◌<◌, ◌≤◌, ℕ, IfErr, IfOk, IfSome, IsErrOf, Some, false, true};
 ghost use Rattle.rd_text.specs.Words.{number_of};
-ghost use Rattle.rd_question.specs.Paces.{CanCome, IsLeast, IsMost, IsWritten};
+ghost use Rattle.rd_question.specs.Paces.{CanCome, IsCrossed, IsLeast, IsMost, IsNoLeast, IsNoMost};
+ghost use Rattle.rd_question.specs.Paces.{IsNoSmall, IsOutOfForm, IsWritten};
+ghost use Rattle.rd_question.specs.declared.pace.NoPace.TheVariants.{Crossed, Form};
 
 use rd_text::words::number;
 use thiserror::Error;
@@ -35,7 +37,8 @@ pub enum NoPace {
 
 // The number of at most 255 that a text writes.
 fn number_in(text: &str) -> Result<u8, NoPace>
-    ensures { IfOk result (λ number. number_of text.now ≡ Some number) }
+    ensures ok { IfOk result (λ number. number_of text.now ≡ Some number) }
+    ensures err { IfErr result (λ cause. (cause ≡ Form) × IsNoSmall text.now) }
 {
     match number(text.as_bytes()) {
         Some(number) if number <= 255 => Ok(number as u8),
@@ -45,7 +48,8 @@ fn number_in(text: &str) -> Result<u8, NoPace>
 
 // The least number of moves, which is 0 where nothing is said.
 fn least_of(text: &str) -> Result<u8, NoPace>
-    ensures { IfOk result (IsLeast text.now) }
+    ensures ok { IfOk result (IsLeast text.now) }
+    ensures err { IfErr result (λ cause. (cause ≡ Form) × IsNoLeast text.now) }
 {
     if text.is_empty() {
         Ok(0)
@@ -58,6 +62,7 @@ fn least_of(text: &str) -> Result<u8, NoPace>
 fn most_of(text: &str) -> Result<Option<u8>, NoPace>
     ensures written { IfOk result (IsMost text.now) }
     ensures some { IfOk result (λ most. IfSome most (λ moves. 1 ≤ moves)) }
+    ensures err { IfErr result (λ cause. (cause ≡ Form) × IsNoMost text.now) }
 {
     if text.is_empty() {
         return Ok(None);
@@ -71,8 +76,10 @@ fn most_of(text: &str) -> Result<Option<u8>, NoPace>
 
 // Whether ticks can come, and moves.
 fn is_crossed(pace: &Pace) -> bool
-    ensures { result ≡ false
+    ensures not { result ≡ false
         → IfSome pace.now.at_most (λ most. pace.now.at_least ≤ most) }
+    ensures crossed { result ≡ true → (most : ℕ) × (pace.now.at_most ≡ Some most)
+        × (most < pace.now.at_least) }
 {
     match pace.at_most {
         Some(most) => pace.at_least > most,
@@ -86,6 +93,8 @@ fn is_crossed(pace: &Pace) -> bool
 pub fn pace_of(word: &str) -> Result<Pace, NoPace>
     ensures written { IfOk result (IsWritten word.now) }
     ensures comes { IfOk result CanCome }
+    ensures form { IsErrOf result Form → IsOutOfForm word.now }
+    ensures crossed { IsErrOf result Crossed → IsCrossed word.now }
 {
     let (least, most) = word.split_once("..").ok_or(NoPace::Form)?;
     if least.is_empty() && most.is_empty() {

@@ -1,8 +1,10 @@
 //! The schedule that a question asks for.
 
-ghost use Rattle.std.specs.Prelude.{◌≡◌, All, IfOk, string_bytes};
+ghost use Rattle.std.specs.Prelude.{◌≡◌, ◌≢◌, [], false, All, IfErr, IfOk, IsErrOf, string_bytes};
+ghost use Rattle.rd_app.specs.Profiles.{has_interrupts};
 ghost use Rattle.rd_command.specs.Bindings.{known_of};
 ghost use Rattle.rd_moves.specs.Carried.{IsCarriedOf};
+ghost use Rattle.rd_question.specs.declared.handler.NoHandler.TheVariants.{NoIsr};
 ghost use Rattle.rd_question.specs.Asked.{AreEach, IsCallOf, IsIsrFor, IsPlanOf};
 ghost use Rattle.rd_reach.specs.Explored.{AreIsrsOf};
 ghost use Rattle.rd_reach.specs.Plans.{IsrPlan};
@@ -21,7 +23,9 @@ use rd_reach::schedule::{Isr, Schedule};
 use std::alloc::Global;
 
 // A line that is no call of an interrupt.
-fn no_call(alloc: Global, line: &str) -> NoHandler {
+fn no_call(alloc: Global, line: &str) -> NoHandler
+    ensures { result ≢ NoIsr }
+{
     match String::from_str(alloc, line) {
         Ok(call) => NoHandler::Call { call },
         Err(_) => NoHandler::NoMemory,
@@ -29,7 +33,9 @@ fn no_call(alloc: Global, line: &str) -> NoHandler {
 }
 
 // A line that names what isn't there.
-fn unknown(alloc: Global, line: &str) -> NoHandler {
+fn unknown(alloc: Global, line: &str) -> NoHandler
+    ensures { result ≢ NoIsr }
+{
     match String::from_str(alloc, line) {
         Ok(call) => NoHandler::Unknown { call },
         Err(_) => NoHandler::NoMemory,
@@ -41,6 +47,7 @@ fn call_of(alloc: Global, app: &App, known: &Known, line: &str) -> Result<Carrie
     requires known { known.now ≡ known_of app.now }
     ensures said { IfOk result (IsCallOf app.now line.now) }
     ensures named { IfOk result (IsCarriedOf app.now.runs) }
+    ensures err { IfErr result (λ cause. cause ≢ NoIsr) }
 {
     let mut behind = Behind::new();
     let Ok(command) = parse_line(line.as_bytes(), &mut behind) else {
@@ -78,6 +85,7 @@ fn calls_of(
     ensures said { IfOk result (λ calls.
         AreEach (λ line call. IsCallOf app.now (string_bytes line) call) lines.now calls.items) }
     ensures named { IfOk result (λ calls. All (IsCarriedOf app.now.runs) calls.items) }
+    ensures err { IfErr result (λ cause. cause ≢ NoIsr) }
 {
     let mut calls = Vec::new(alloc);
     for line in lines {
@@ -98,6 +106,7 @@ fn isrs_of(
     ensures said { IfOk result (λ isrs. AreEach (IsIsrFor app.now) handlers.now isrs.items) }
     ensures named { IfOk result (λ isrs.
         All (λ (isr : IsrPlan). All (IsCarriedOf app.now.runs) isr.calls) isrs.items) }
+    ensures err { IfErr result (λ cause. cause ≢ NoIsr) }
 {
     let mut isrs = Vec::new(alloc);
     for handler in handlers {
@@ -115,6 +124,8 @@ fn isrs_of(
 pub fn schedule_of(alloc: Global, app: &App, question: &Question<'_>) -> Result<Schedule, NoHandler>
     ensures plan { IfOk result (IsPlanOf app.now question.now) }
     ensures isrs { IfOk result (AreIsrsOf app.now.runs) }
+    ensures no_isr { IsErrOf result NoIsr → (has_interrupts app.now.runs.profile ≡ false)
+        × (question.now.isrs.items ≢ []) }
 {
     let handlers = question.isrs.as_slice();
     if !handlers.is_empty() && !app.profile().has_interrupts() {
