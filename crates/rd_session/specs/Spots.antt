@@ -5,14 +5,14 @@ use Rattle.rd_ends.specs.Ends.{SinkView}
 use Rattle.rd_session.specs.Calls.{GateCall}
 use Rattle.rd_session.specs.Answers.{Talk}
 use Rattle.rd_session.specs.Gathering.{Spot, spot}
-use Rattle.rd_session.specs.declared.spot.Spot.{Spot as Place}
+use Rattle.rd_session.specs.declared.spot.Spot.{Spot as BorrowedSpot}
 
 -- It borrows the same, with the same value.
 abbrev pub IsLent : {T : Type 0} → MutBor T → MutBor T → Type 0
 IsLent held lent = (held.now ≡ lent.now) × (held.ghost_name ≡ lent.ghost_name)
 
 -- It is borrowed of the same as before, and the session is the same.
-pub record IsSame {L G W : Type 0} (old new : Place L G W) : Type 0 where
+pub record IsSameSpot {L G W : Type 0} (old new : BorrowedSpot L G W) : Type 0 where
   pub gate : new.gate.ghost_name ≡ old.gate.ghost_name
   pub seat : new.seat.ghost_name ≡ old.seat.ghost_name
   pub pending : new.pending.ghost_name ≡ old.pending.ghost_name
@@ -21,17 +21,17 @@ pub record IsSame {L G W : Type 0} (old new : Place L G W) : Type 0 where
 
 module _ {L G W : Type 0} (seen : W → SinkView) (calls : G → Option (List GateCall)) where
   -- what is seen of a spot
-  abbrev pub spot_of : Place L G W → Spot
+  abbrev pub spot_of : BorrowedSpot L G W → Spot
   spot_of s = spot s.seat.now.session (seen s.sink.now) (calls s.gate.now) s.pending.now
 
   -- This is so of what is seen of it.
-  abbrev pub At : (Spot → Type 0) → Place L G W → Type 0
+  abbrev pub At : (Spot → Type 0) → BorrowedSpot L G W → Type 0
   At fact s = fact (spot_of s)
 
   -- This is so of what was seen of it and what is.
-  abbrev pub Between : (Spot → Spot → Type 0) → Place L G W → Place L G W → Type 0
+  abbrev pub Between : (Spot → Spot → Type 0) → BorrowedSpot L G W → BorrowedSpot L G W → Type 0
   Between fact old new = fact (spot_of old) (spot_of new)
 
   -- This is so of what was seen of it and of what is, but for its answers: a write may have failed.
-  abbrev pub Leaves : (Spot → Talk → Type 0) → Place L G W → Place L G W → Type 0
+  abbrev pub Leaves : (Spot → Talk → Type 0) → BorrowedSpot L G W → BorrowedSpot L G W → Type 0
   Leaves fact old new = fact (spot_of old) (spot_of new).talk

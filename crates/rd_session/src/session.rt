@@ -13,7 +13,7 @@ ghost use Rattle.rd_session.specs.Replies.{refusal_of};
 ghost use Rattle.rd_session.specs.Gathering.{Answered, Begins, BreaksAmid, GoesOn, HasReplyRoom};
 ghost use Rattle.rd_session.specs.Gathering.{HearsMore, IsFlushed, IsLost, IsAtWork, IsReady};
 ghost use Rattle.rd_session.specs.Gathering.{SaysAll, Stops};
-ghost use Rattle.rd_session.specs.Spots.{At, Between, IsSame, Leaves, spot_of};
+ghost use Rattle.rd_session.specs.Spots.{At, Between, IsSameSpot, Leaves, spot_of};
 ghost use Rattle.rd_session.specs.Hearing.{Heard};
 ghost use Rattle.rd_reply.specs.declared.reply.TheConstants.{MAX_REPLY};
 
@@ -87,7 +87,7 @@ impl<L: Setup, G: Gate, W: ByteSink> Spot<'_, L, G, W> {
             ≡ record self.old.pending.now { bytes = []; out = self.old.pending.now.begun }) }
         ensures lost { OnErr result (Leaves W.seen G.calls IsLost self.old self.new) }
         ensures at_work { OnOk result (At W.seen G.calls IsAtWork self.new) }
-        ensures same { IsSame self.old self.new }
+        ensures same { IsSameSpot self.old self.new }
     {
         let begun = self.pending.begun();
         self.flush(begun)
@@ -101,7 +101,7 @@ impl<L: Setup, G: Gate, W: ByteSink> Spot<'_, L, G, W> {
         ensures begun { OnOk result (self.new.pending.now.begun ≡ self.old.pending.now.begun) }
         ensures lost { OnErr result (Leaves W.seen G.calls IsLost self.old self.new) }
         ensures at_work { OnOk result (At W.seen G.calls IsAtWork self.new) }
-        ensures same { IsSame self.old self.new }
+        ensures same { IsSameSpot self.old self.new }
     {
         if self.pending.fits(MAX_REPLY) {
             return Ok(());
@@ -118,7 +118,7 @@ impl<L: Setup, G: Gate, W: ByteSink> Spot<'_, L, G, W> {
         ensures ready { OnOk result (At W.seen G.calls IsReady self.new) }
         ensures begun { OnOk result (self.new.pending.now.begun ≡ self.old.pending.now.begun + 1) }
         ensures lost { OnErr result (Leaves W.seen G.calls IsLost self.old self.new) }
-        ensures same { IsSame self.old self.new }
+        ensures same { IsSameSpot self.old self.new }
     {
         self.make_room()?;
         self.pending.begin();
@@ -138,7 +138,7 @@ impl<L: Setup, G: Gate, W: ByteSink> Spot<'_, L, G, W> {
             (spot_of W.seen G.calls self.new) result }
         ensures begun { OnOk result (self.new.pending.now.begun ≡ self.old.pending.now.begun) }
         ensures at_work { OnOk result (At W.seen G.calls IsAtWork self.new) }
-        ensures same { IsSame self.old self.new }
+        ensures same { IsSameSpot self.old self.new }
     {
         // (its line says which command it is)
         order.line();
@@ -165,7 +165,7 @@ impl<L: Setup, G: Gate, W: ByteSink> Spot<'_, L, G, W> {
             (spot_of W.seen G.calls self.new) result }
         ensures begun { OnOk result (self.new.pending.now.begun ≡ self.old.pending.now.begun) }
         ensures at_work { OnOk result (At W.seen G.calls IsAtWork self.new) }
-        ensures same { IsSame self.old self.new }
+        ensures same { IsSameSpot self.old self.new }
     {
         let mut behind = Behind::new();
         // (looked at where it is, since what is taken out of a result is copied)
@@ -195,7 +195,7 @@ impl<L: Setup, G: Gate, W: ByteSink> Spot<'_, L, G, W> {
             (spot_of W.seen G.calls self.new) result }
         ensures begun { OnOk result (self.new.pending.now.begun ≡ self.old.pending.now.begun) }
         ensures at_work { OnOk result (At W.seen G.calls IsAtWork self.new) }
-        ensures same { IsSame self.old self.new }
+        ensures same { IsSameSpot self.old self.new }
     {
         match host.recent.find(line) {
             Some(order) => self.ask(host, &order),
@@ -217,7 +217,7 @@ impl<L: Setup, G: Gate, W: ByteSink> Spot<'_, L, G, W> {
             self.old self.new) }
         ensures begun { OnOk result (self.new.pending.now.begun ≡ self.old.pending.now.begun + 1) }
         ensures at_work { OnOk result (At W.seen G.calls IsAtWork self.new) }
-        ensures same { IsSame self.old self.new }
+        ensures same { IsSameSpot self.old self.new }
     {
         self.begin()?;
         self.answer(host, line)
@@ -231,7 +231,7 @@ impl<L: Setup, G: Gate, W: ByteSink> Spot<'_, L, G, W> {
             self.old self.new) }
         ensures breaks { OnErr result (Leaves W.seen G.calls (BreaksAmid (Long ∷ []))
             self.old self.new) }
-        ensures same { IsSame self.old self.new }
+        ensures same { IsSameSpot self.old self.new }
     {
         self.begin()?;
         let refusal = Refusal::LineTooLong;
@@ -257,7 +257,7 @@ impl<L: Setup, G: Gate, W: ByteSink> Spot<'_, L, G, W> {
         ensures stops { IfErr result (λ why. Leaves W.seen G.calls (Stops why
             (lines_from (Some []) lines.old) (rest_from (Some []) lines.old)) self.old self.new) }
         ensures at_work { OnOk result (At W.seen G.calls IsAtWork self.new) }
-        ensures same { IsSame self.old self.new }
+        ensures same { IsSameSpot self.old self.new }
     {
         loop {
             match lines.front() {
@@ -289,7 +289,7 @@ impl<L: Setup, G: Gate, W: ByteSink> Spot<'_, L, G, W> {
             self.old self.new) }
         ensures breaks { OnErr result (Leaves W.seen G.calls
             (BreaksAmid (last_of (Some rest.now))) self.old self.new) }
-        ensures same { IsSame self.old self.new }
+        ensures same { IsSameSpot self.old self.new }
     {
         if rest.is_empty() {
             return Ok(());
@@ -313,7 +313,7 @@ impl<L: Setup, G: Gate, W: ByteSink> Spot<'_, L, G, W> {
         ensures heard { Heard (S.seen source.old) (S.seen source.new)
             (spot_of W.seen G.calls self.old).talk (spot_of W.seen G.calls self.new).talk }
         ensures reads { (S.seen source.new).reads ≤ 16777216 }
-        ensures same { IsSame self.old self.new }
+        ensures same { IsSameSpot self.old self.new }
     {
         for _turn in 0..MAX_READS {
             let Ok(count) = lines.read_from(source) else {

@@ -4,7 +4,7 @@ ghost use Rattle.std.specs.Prelude.{◌≡◌, ◌+◌, ◌<◌, ◌≤◌, [], 
 ghost use Rattle.rd_session.specs.Replies.{IsShown, reply_line};
 ghost use Rattle.rd_session.specs.Gathering.{AreOut, IsFlushed, IsLost, IsAtWork, IsReady};
 ghost use Rattle.rd_session.specs.Gathering.{IsSaid, IsUnsaid, has_shown, last_line};
-ghost use Rattle.rd_session.specs.Spots.{At, Between, IsSame, Leaves};
+ghost use Rattle.rd_session.specs.Spots.{At, Between, IsSameSpot, Leaves};
 
 use crate::gate::Gate;
 use crate::spot::Spot;
@@ -32,7 +32,7 @@ impl<L: Setup, G: Gate, W: ByteSink> Spot<'_, L, G, W> {
         ensures pending { self.new.pending.now ≡ record self.old.pending.now { out = upto } }
         ensures seat { self.new.seat.now ≡ self.old.seat.now }
         ensures sink { self.new.sink.now ≡ self.old.sink.now }
-        ensures same { IsSame self.old self.new }
+        ensures same { IsSameSpot self.old self.new }
     {
         let who = self.seat.who();
         for line in self.pending.out()..upto {
@@ -52,7 +52,7 @@ impl<L: Setup, G: Gate, W: ByteSink> Spot<'_, L, G, W> {
         ensures lost { OnErr result (Leaves W.seen G.calls IsLost self.old self.new) }
         ensures seat { self.new.seat.now ≡ self.old.seat.now }
         ensures at_work { OnOk result (At W.seen G.calls IsAtWork self.new) }
-        ensures same { IsSame self.old self.new }
+        ensures same { IsSameSpot self.old self.new }
     {
         self.pending.send(self.sink)?;
         self.let_out(upto);
@@ -74,7 +74,7 @@ impl<L: Setup, G: Gate, W: ByteSink> Spot<'_, L, G, W> {
         ensures seat { self.new.seat.now ≡ self.old.seat.now }
         ensures begun { OnOk result (self.new.pending.now.begun ≡ self.old.pending.now.begun) }
         ensures at_work { OnOk result (At W.seen G.calls IsAtWork self.new) }
-        ensures same { IsSame self.old self.new }
+        ensures same { IsSameSpot self.old self.new }
     {
         let begun = self.pending.begun();
         self.flush(begun - 1)?;
@@ -95,7 +95,7 @@ impl<L: Setup, G: Gate, W: ByteSink> Spot<'_, L, G, W> {
         ensures seat { self.new.seat.now ≡ self.old.seat.now }
         ensures begun { OnOk result (self.new.pending.now.begun ≡ self.old.pending.now.begun) }
         ensures at_work { OnOk result (At W.seen G.calls IsAtWork self.new) }
-        ensures same { IsSame self.old self.new }
+        ensures same { IsSameSpot self.old self.new }
     {
         match &self.seat.last().entry.reply {
             DeskReply::Done => Ok(()),

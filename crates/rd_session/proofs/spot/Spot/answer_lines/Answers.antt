@@ -6,14 +6,14 @@ use Rattle.std.proofs.lemmas.Result.{err_from_is_err_and}
 use Rattle.rd_session.proofs.AnsweringLaws.{all_heard, all_lost}
 use Rattle.rd_session.proofs.HearingLaws.{Answering-breaks, Answering-long, Answering-long_breaks, Answering-lost, Answering-more, Answering-new, Answering-part, Answering-rest, HearsMore-none}
 use Rattle.rd_session.proofs.LineLaws.{line_cut}
-use Rattle.rd_session.proofs.SpotLaws.{IsSame-refl, IsSame-then}
+use Rattle.rd_session.proofs.SpotLaws.{IsSameSpot-refl, IsSameSpot-then}
 use Rattle.rd_session.proofs.spot.Spot.answer_lines.Goals as goal
 
 pub loop-len-init : goal.loop-len-init
 loop-len-init g c = record {
   answering = Answering-new c.args.lines.now _;
   at_work = c.requires.at_work;
-  same = IsSame-refl _;
+  same = IsSameSpot-refl _;
   begun = omega arith;
 }
 
@@ -25,7 +25,7 @@ loop-len-preserved g c =
     record {
       answering = Answering-more _ _ _ c.in-Line.len _ _ _ c.line-line.result.now c.loop-len.invariant.answering at c.line-line.ensures heard.more c.answer_line.ensures.same.who c.advance.ensures;
       at_work = heard.at_work;
-      same = IsSame-then _ _ _ c.loop-len.invariant.same c.answer_line.ensures.same;
+      same = IsSameSpot-then _ _ _ c.loop-len.invariant.same c.answer_line.ensures.same;
       begun = omega (arith, heard.begun, c.loop-len.invariant.begun, ap length c.advance.ensures, length-drop (c.in-Line.len + 1) c.loop-len.lines, cut.2);
     }
 

@@ -2,14 +2,14 @@
 use Rattle.std.proofs.Common.{◌≡◌, ◌<◌, refl, arith, rules}
 use Rattle.rd_session.proofs.GatheringLaws.{Talking-new}
 use Rattle.rd_session.proofs.HearingLaws.{Heard-ended, Heard-failed, Heard-spent, Heard-stops, Hears-more, Hears-new, Read-of}
-use Rattle.rd_session.proofs.SpotLaws.{IsSame-refl, IsSame-then}
+use Rattle.rd_session.proofs.SpotLaws.{IsSameSpot-refl, IsSameSpot-then}
 use Rattle.rd_session.proofs.spot.Spot.listen.Goals as goal
 
 pub loop-turn-init : goal.loop-turn-init
 loop-turn-init g c = record {
   hears = Hears-new _ _ _ _ c.requires.unread c.requires.held (Talking-new _ c.args.self.now.pending.now c.requires.pending.0 c.requires.pending.1 c.requires.pending.2) refl;
   at_work = record { out = omega (arith, c.requires.pending.1, c.requires.pending.2); faults = c.requires.unwritten };
-  same = IsSame-refl _;
+  same = IsSameSpot-refl _;
   out = omega (arith, c.requires.pending.1, c.requires.pending.2);
   begun = omega (arith, c.requires.pending.1);
   reads = c.requires.unread.reads;
@@ -40,7 +40,7 @@ loop-turn-preserved g c =
       hears = Hears-more _ _ _ _ _ _ _ _ read (rw c.in_default-answer_lines.is at c.answer_lines.ensures.more) c.answer_lines.ensures.same.who (rw c.in_default-answer_lines.is at c.answer_lines.ensures.rest)
           (rw c.in_default-answer_lines.is at c.answer_lines.ensures.part);
       at_work = rw c.in_default-answer_lines.is at c.answer_lines.ensures.at_work;
-      same = IsSame-then _ _ _ c.loop-turn.invariant.same c.answer_lines.ensures.same;
+      same = IsSameSpot-then _ _ _ c.loop-turn.invariant.same c.answer_lines.ensures.same;
       out = rw c.in_default-answer_lines.is at c.answer_lines.ensures.sent;
       begun = omega (arith, begun, c.loop-turn.invariant.begun, c.in-Ok.ensures.within);
       reads = omega (arith, c.in-Ok.ensures.reads, c.loop-turn.invariant.reads);
