@@ -12,7 +12,7 @@ from rdbg.options import APPLICATION, Parser, bounded, port
 from rdbg.door import TOKEN, Door
 from rdbg.ending import Terminated
 from rdbg.failure import Failure
-from rdbg.rooms import keys, remarks, web, web_guard
+from rdbg.rooms import keys, remarks, web_guard
 from rdbg.rooms.host import MOST_SESSIONS, Hindered
 from rdbg.rooms.program import HISTORY
 from rdbg.rooms.port import Port, listening
@@ -101,7 +101,7 @@ def with_pages(
 ) -> Tuple[Served, str]:
     """The room's pages, and what is said of where they are. Without them the room ends."""
     try:
-        pages = web.serve(room, number, door)
+        pages = Served(room, number, door)
         is_terminal = sys.stdout.isatty()
         where, say = ends.enter_context(web_guard.said(pages.address, is_terminal))
         pages.key.say = lambda: say(pages.address)
