@@ -15,7 +15,7 @@ from rdbg.failure import Failure
 from rdbg.rooms import keys, remarks, web_guard
 from rdbg.rooms.host import MOST_SESSIONS, Hindered
 from rdbg.rooms.program import HISTORY
-from rdbg.rooms.port import Port, listening
+from rdbg.rooms.port import Port
 from rdbg.rooms.room import IDLE, Room
 from rdbg.rooms.talk import Talk
 from rdbg.rooms.web import Served
@@ -116,7 +116,7 @@ def serve(room: Room, port: Port, talk: Optional[Talk], pages: Optional[Served])
     room.when_over = port.stop
     try:
         with port.heard():
-            port.serve()
+            port.serve(room)
         audits = room.close()
     except BaseException:
         room.kill()
@@ -150,11 +150,12 @@ def open_and_serve(given: argparse.Namespace, ends: contextlib.ExitStack) -> int
     if limits.history < 4 * given.sessions:
         least = 4 * given.sessions
         raise Failure(f"--history is {least} at the least for {given.sessions} sessions", 2)
-    listener, door = listening(given.port), Door(given.anyone)
+    door = Door(given.anyone)
+    port = Port(given.port, door)
     talk = None if given.talk is None else Talk(given.talk)
     signals = Signals()
     room = open_room(source, limits, given.sessions, talk)
-    signals.port = port = Port(room, listener, door)
+    signals.port = port
     pages, where = (None, "") if given.web is None else with_pages(room, given.web, door, ends)
     print(f"listening {given.port}{door.said}", flush=True)
     if door.token:

@@ -162,7 +162,7 @@ class Room:
     def leave(self, member: Member, why: str = "") -> None:
         """Somebody is away."""
         with self._turns:
-            if not member.is_here:
+            if not member.is_here or self.is_over:
                 return
             self.end(member, f"broken off, at {self.place}")
             member.is_here = False
@@ -177,8 +177,8 @@ class Room:
             self._keep(member.name, "#", text)
             self.tell(f"{member.name} {text}")
 
-    def ask(self, member: Member, line: str) -> str:
-        """The reply to a line of somebody's."""
+    def ask(self, member: Member, line: str, answer: Hear) -> str:
+        """The reply to a line of somebody's, which is told before anybody else has a turn."""
         with self._turns:
             if not member.is_here:
                 raise Refusal(f"{member.name} has left")
@@ -197,6 +197,7 @@ class Room:
                 self._keep(member.name, line, reply)
                 self.counts.line(member.name, command, reply, self.place - place)
             self._warn(member, reply)
+            answer(reply)
             return reply
 
     def begin(self, member: Member, text: str) -> None:
