@@ -58,9 +58,11 @@ class Server:
         self._frames, self._sender = Frames(lines), Sender(answers)
         self.debugger = Debugger(self._sender.send)
         self.debugger.serve = self._meanwhile
-        self.debugger.came = lambda: self._asked.put(HEARD)
+        self.debugger.came = self._came
         self._asked: "queue.Queue[Optional[Asked]]" = queue.Queue(MOST_WAITING)
         self._waiting: List[Optional[Asked]] = []
+        # Whether something has come from a room that isn't heard yet.
+        self._has_come = False
         # The number of the request that is at work, and those of requests that won't be.
         self._at_work = 0
         self._cancelled: Set[int] = set()
@@ -75,6 +77,7 @@ class Server:
                 if request is None:
                     return
                 if request is HEARD:
+                    self._has_come = False
                     self._guarded(self.debugger.heard)
                 else:
                     self._at_work = request.seq
@@ -105,6 +108,11 @@ class Server:
             self._asked.put(request)
             if request is None:
                 return
+
+    def _came(self) -> None:
+        if not self._has_come:
+            self._has_come = True
+            self._asked.put(HEARD)
 
     def _cancel(self, given: Arguments) -> None:
         """Ends what a request to cancel names, or sees to it that it isn't begun."""
