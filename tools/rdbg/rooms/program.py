@@ -1,7 +1,7 @@
 """The program of a room: what it was asked and answered, its target's place, who has the wheel."""
 import threading
 import time
-from typing import Callable, Dict, List, Optional, Sequence
+from typing import Callable, Dict, List, Optional, Sequence, Tuple
 
 from rdbg import record, replies
 from rdbg.commands import Command
@@ -149,73 +149,63 @@ class Program:
         ends meanwhile. Raises `Failure`."""
         if time.monotonic() < self._again:
             return False
-        seats, watches = self._seats, sum(len(it.watch_lines()) for it in self._seats)
         checks = [*self.sight.lines, "show moves", "show wheel"]
         lines = self.journal.lines()
-        used = 2 * len(seats) + watches + len(lines) + len(checks) + 1
-        host = None
+        used = self._entries() + len(lines) + len(checks)
+        is_new = False
         try:
             if 2 * used <= self.limits.history:
-                host = Host.start(self.source, self.limits, len(seats), TRIES)
-                self._bring_here(host, lines, dict(zip(checks, self._looks(seats[0], checks))))
-        except Failure:
-            if host is not None:
-                host.kill()
-            self._again = time.monotonic() + AGAIN
-            raise
-        if host is None:
-            self._again = time.monotonic() + AGAIN
-            return False
-        self._go_on_with(host)
-        self._used = used
-        return True
+                self._go_on(self.source, lines, checks)
+                self._used, is_new = used, True
+        finally:
+            self._again = 0.0 if is_new else time.monotonic() + AGAIN
+        return is_new
 
-    def _go_on_with(self, host: Host) -> None:
+    def reload(self, source: Source, lines: List[str]) -> List[str]:
+        """Goes on with a new program that has another source, where these lines lead. Answers the
+        watches that it refuses, which are dropped. Raises `Failure`."""
+        assert source.application is not None
+        entries = self._entries()
+        answers, dropped = self._go_on(source, lines, [])
+        self.source, self.sight = source, Sight(source.application)
+        self.journal, self.memory, self._used = Journal(), Memory(), entries
+        self._rows.clear()
+        self._take(self._seats[0], lines, answers)
+        return dropped
+
+    def _entries(self) -> int:
+        """How many entries a new program's history has for its sessions, watches and the wheel."""
+        watches = sum(2 * len(it.watches) + len(it.watch_lines()) for it in self._seats)
+        return 2 * len(self._seats) + watches + 1
+
+    def _go_on(
+        self, source: Source, lines: List[str], checks: List[str]
+    ) -> Tuple[List[str], List[str]]:
+        """Goes on with a new program, which these lines bring where it is to be. Answers what it
+        replied to them, and the watches that it refuses. Raises `Failure` where it refuses one of
+        them, or answers these looks otherwise. (Where the history of the one before is full, that
+        shows nothing any more: then the same moves have to do.)"""
+        host = Host.start(source, self.limits, len(self._seats), TRIES)
+        try:
+            answers = host.tell_all(1, lines)
+            refused = next((it for it in answers if it.startswith("no ")), None)
+            if refused is not None:
+                raise Failure(f"the new rdbg answered {refused}")
+            dropped = [it for seat in self._seats for it in watch_again(host, seat)]
+            if self.holder is not None:
+                host.tell_all(self.holder.number, ["wheel take"])
+            before = self._looks(self._seats[0], checks)
+            for was, reply in zip(before, host.tell_all(1, checks)):
+                if reply != was != FULL:
+                    raise Failure(f"the new rdbg shows {reply}, and the old one {was}")
+        except BaseException:
+            host.kill()
+            raise
         old, self.host = self.host, host
         thread = threading.Thread(target=lambda: self.when_ended(old.close()))
         self._ending.append(thread)
         thread.start()
-
-    def reload(self, source: Source, lines: List[str]) -> List[str]:
-        """Goes on with a new program that has another source, where these lines lead, as `renew`
-        does. Answers the watches that it refuses, which are dropped. Raises `Failure`."""
-        assert source.application is not None
-        seats = self._seats
-        host = Host.start(source, self.limits, len(seats), TRIES)
-        try:
-            answers = host.tell_all(seats[0].number, lines)
-            refused = next((it for it in answers if it.startswith("no ")), None)
-            if refused is not None:
-                raise Failure(f"the new rdbg answered {refused}")
-            used = sum(2 * len(it.watches) + len(it.watch_lines()) for it in seats)
-            dropped = [it for seat in seats for it in watch_again(host, seat)]
-            if self.holder is not None:
-                host.tell_all(self.holder.number, ["wheel take"])
-        except BaseException:
-            host.kill()
-            raise
-        self._go_on_with(host)
-        self.source, self.sight = source, Sight(source.application)
-        self.journal, self.memory, self._used = Journal(), Memory(), 2 * len(seats) + used + 1
-        self._rows.clear()
-        self._take(seats[0], lines, answers)
-        return dropped
-
-    def _bring_here(self, host: Host, lines: List[str], was: Dict[str, str]) -> None:
-        """Brings a new program where this one is. Raises `Failure` where it doesn't do what it is
-        told, or shows something else than this one does. (One whose history is full shows nothing
-        any more: then the same moves have to do.)"""
-        answers = host.tell_all(1, lines)
-        for seat in self._seats:
-            answers += host.tell_all(seat.number, seat.watch_lines())
-        if self.holder is not None:
-            answers += host.tell_all(self.holder.number, ["wheel take"])
-        refused = [it for it in answers if it.startswith("no ")]
-        if refused:
-            raise Failure(f"the new rdbg answered {refused[0]}")
-        for line, reply in zip(was, host.tell_all(1, list(was))):
-            if reply != was[line] != FULL:
-                raise Failure(f"the new rdbg shows {reply}, and the old one {was[line]}")
+        return answers, dropped
 
     def wait(self) -> None:
         """Waits until the programs before this one have ended."""
