@@ -49,7 +49,7 @@ class Mirror:
     @property
     def undone(self) -> int:
         """How many moves can be made again."""
-        return self._target.place + self._target.undone - self.place
+        return self._journal.undone
 
     def close(self) -> None:
         """Ends the program."""
