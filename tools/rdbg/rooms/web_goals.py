@@ -85,7 +85,7 @@ def gone(room: Room, member: Member, line: str, it: Typed) -> str:
     """Goes to a goal, and answers where that is; all are told of it as of one line."""
     if not it.goal:
         return f"{SYNTAX}: to what? a goal, as `{line.strip()} asleep`"
-    has_wheel = any(who.has_wheel and who.session == member.session for who in room.people())
+    has_wheel = room.holder is member.seat
     room.begin(member, line.strip())
     reply = "" if has_wheel else member.ask("wheel take")
     if reply.startswith("no "):

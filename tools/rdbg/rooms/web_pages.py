@@ -123,10 +123,10 @@ class Page:
         people = [
             {
                 "name": it.name,
-                "session": it.session,
+                "session": it.number,
                 "isHere": it.is_here,
-                "hasWheel": it.has_wheel,
-                "idle": it.silence // 60 if it.silence >= room.idle else None,
+                "hasWheel": it is room.holder,
+                "idle": room.silence(it) // 60 if room.silence(it) >= room.idle else None,
             }
             for it in room.people()
         ]

@@ -51,9 +51,9 @@ class Prompt(Quiet):
 
     def hint_on(self, line: str, reply: str) -> None:
         """Says of a refusal what would be right, and of the wheel who has it."""
-        holder = next((it.name for it in self._room.people() if it.has_wheel), None)
+        holder = self._room.holder
         if reply.startswith("no Held") and holder is not None:
-            self.hint(f"{holder} has the wheel: `# wheel` asks for it")
+            self.hint(f"{holder.name} has the wheel: `# wheel` asks for it")
         else:
             super().hint_on(line, reply)
 
