@@ -141,12 +141,13 @@ class Follower:
             self._make(told, is_heap)
 
     def _make(self, told: Told, is_heap: bool) -> None:
-        count = told.place - self._mirror.place
+        here = self._mirror.place
+        count = told.place - here
         if count < 1:
             raise Differs(f"{told.text} led to {told.place}")
-        is_known = self.known.cut(self._mirror.place)
-        if not is_known or is_heap or count > max(1, min(self._mirror.count(SECONDS), SHORT)):
-            self._mirror.do(told)
-            return
-        part = self._mirror.do_and_look(told)
-        self._tell("more", {**self.known.add(part), **self._now()})
+        is_short = count <= max(1, min(self._mirror.count(SECONDS), SHORT))
+        is_known = self.known.cut(here)
+        self._mirror.do(told)
+        if is_known and is_short and not is_heap:
+            part = self._mirror.part(here + 1, told.place)
+            self._tell("more", {**self.known.add(part), **self._now()})
