@@ -212,6 +212,13 @@ class Served(Entrance):
         `#` a browser keeps for the page, and sends nobody.)"""
         return f"http://{LOCAL}:{self.port}/#{self.key.text}"
 
+    def say_where(self, ends: contextlib.ExitStack, is_terminal: bool) -> str:
+        """What is said of where the page is, up to the end that is given; from here on its address
+        is said anew once it was used. Raises `Failure` where that can't be."""
+        where, say = ends.enter_context(guard.said(self.address, is_terminal))
+        self.key.say = lambda: say(self.address)
+        return where
+
     def refusal(self, why: str) -> bytes:
         return guard.refusal(why)
 
