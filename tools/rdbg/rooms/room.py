@@ -15,9 +15,10 @@ from rdbg.rooms.host import MOST_SESSIONS, Audit, Ended
 from rdbg.rooms.member import Hear, Member, Notice
 from rdbg.rooms.program import FULL, HISTORY, SCARCE, Program
 from rdbg.rooms.seats import Refusal, Seat, Seats, check
-from rdbg.rooms.sight import is_single
+from rdbg.rooms.sight import effect, is_single, next_of
 from rdbg.rooms.talk import Talk
 from rdbg.rooms.turns import Turns
+from rdbg.driving import trail
 from rdbg.driving.target import Limits, read_line
 from rdbg.shown import shown
 from rdbg.files.source import Source
@@ -241,19 +242,19 @@ class Room:
         reply = self._program.ask(seat, line)
         if reply.startswith("no "):
             return reply
-        effect, rows = "", []
+        came, rows, target = "", [], self._program.target
         if before is not None:
             after = self._program.look(seat)
-            effect = self._program.sight.effect(command, before, after) if after else ""
+            came = effect(command, trail.between(target, before, after)) if after else ""
         elif command.form.word == record.BACK:
             after = self._program.look(seat)
-            effect = f"next: {self._program.sight.next(after)}" if after else ""
+            came = f"next: {next_of(target.application, after)}" if after else ""
         elif command.form.moves:
             rows = self._program.rows(seat, place, FEW)
         said = " ".join(command.words)
         for told in self._followers:
             told(said, reply)
-        done = f"{member.name}: {said} -> {reply}" + (f", {effect}" if effect else "")
+        done = f"{member.name}: {said} -> {reply}" + (f", {came}" if came else "")
         self._tell_done(member, command, [done, *rows])
         return reply
 
@@ -413,7 +414,7 @@ class Room:
 
     def tell_place(self, member: Member) -> str:
         """Tells somebody where the target stands."""
-        text = record.at(self.place, self._program.journal.undone)
+        text = record.at(self.place, self._program.target.undone)
         member.hear(f"# {text}")
         return text
 
