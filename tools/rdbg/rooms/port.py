@@ -116,11 +116,12 @@ class Port(Entrance):
             word = str(refusal)
         except Ended:
             self.stop()
-        if self._is_stopped:
-            self._is_over.wait()  # (what the room says last is said before)
-        elif guest.member is not None:
-            guest.member.leave(f"dropped: {word}" if word else "")
-        guest.end(word)
+        finally:
+            if self._is_stopped:
+                self._is_over.wait()  # (what the room says last is said before)
+            elif guest.member is not None:
+                guest.member.leave(f"dropped: {word}" if word else "")
+            guest.end(word)
 
     def _greet(self, guest: Guest) -> None:
         """Somebody has come, who is a guest, or says the token first."""

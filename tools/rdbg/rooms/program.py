@@ -108,23 +108,11 @@ class Program:
         elif isinstance(value, replies.WatchDone):
             seat.watches.pop(value.number, None)
 
-    def _looks(self, seat: Seat, lines: Sequence[str]) -> List[str]:
-        """The replies to looks, those that aren't known by one exchange."""
-        known: Dict[str, str] = {}
-        for line in lines:
-            command = read_line(line)
-            found = self.memory.known(seat.number, command) if command else None
-            if found is not None:
-                known[line] = found
-        asked = [line for line in lines if line not in known]
-        known.update(zip(asked, self._ask_all(seat, asked)))
-        return [known[line] for line in lines]
-
     def look(self, seat: Seat) -> Optional[Look]:
         """A look at all there is; none where too little of the history is left."""
         lines = self.target.names.lines()
         if self._seen is None and self.can_look(len(lines)):
-            self._seen = Look.of(self.place, [read(it) for it in self._looks(seat, lines)])
+            self._seen = Look.of(self.place, [read(it) for it in self._ask_all(seat, lines)])
         return self._seen
 
     def last_rows(self, seat: Seat, most: int) -> List[str]:
@@ -196,7 +184,7 @@ class Program:
             dropped = [it for seat in self._seats for it in watch_again(host, seat)]
             if self.holder is not None:
                 host.tell_all(self.holder.number, ["wheel take"])
-            before = self._looks(self._seats[0], checks)
+            before = self._ask_all(self._seats[0], checks)
             for was, reply in zip(before, host.tell_all(1, checks)):
                 if reply != was != FULL:
                     raise Failure(f"the new rdbg shows {reply}, and the old one {was}")
