@@ -174,15 +174,16 @@ class Debugger:
         """Takes note that the target isn't as it was looked at."""
         self._seen = None
 
-    def say(self, text: str, move: Optional[Move] = None, category: str = "stdout") -> None:
-        """A line of output, with the instruction that it is of."""
-        spot = None
+    def say(
+        self,
+        text: str,
+        move: Optional[Move] = None,
+        category: str = "stdout",
+        spot: Optional[Spot] = None,
+    ) -> None:
+        """A line of output, with the instruction that it is of, or that a move is of."""
         if move is not None and move.task and move.pc is not None:
             spot = self.text.of(move.task, move.pc)
-        self.say_at(text, spot, category)
-
-    def say_at(self, text: str, spot: Optional[Spot], category: str = "stdout") -> None:
-        """A line of output, with the place that it is of."""
         body: Values = {"category": category, "output": f"{text}\n"}
         if spot is not None:
             place = self.text.place(spot)

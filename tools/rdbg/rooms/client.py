@@ -4,10 +4,11 @@ import select
 import socket
 import threading
 import time
-from typing import Callable, Iterator, Optional
+from typing import Iterator, Optional
 
 from rdbg.commands import MOST_BYTES
 from rdbg.door import drop
+from rdbg.rooms.member import Member
 from rdbg.rooms.seats import Refusal
 
 # So many bytes are read at a time, and so many are sent.
@@ -16,16 +17,24 @@ READ, PIECE = 65_536, 4_096
 SLOW, MOST_UNREAD = 262_144, 1_048_576
 # One whose lines wait, and that reads nothing for so many seconds, is dropped.
 STUCK = 60.0
+# So many seconds a connection may wait before it is told to others as a guest, and before it is
+# closed, where there is no session for one more guest.
+MOMENT, NAMELESS = 1.0, 5.0
 # A connection that ends has so many seconds to read on, and in all so many; of what it still sends
 # so many bytes are read, and none is answered. So often it is looked at meanwhile.
 LAST_SECONDS, MOST_SECONDS, LAST_BYTES, TURN = 1.0, 30.0, 4_194_304, 0.05
 
 
 class Client:
-    """A connection. What it is told is sent by a thread of its own: so nobody waits for it."""
+    """A connection, and who is there. What it is told is sent by a thread of its own: so nobody
+    waits for it."""
 
     def __init__(self, connection: socket.socket) -> None:
         self.connection = connection
+        self.member: Optional[Member] = None
+        # Whether its first line has come.
+        self.has_spoken = False
+        self._came = time.monotonic()
         with contextlib.suppress(OSError):
             connection.setsockopt(socket.IPPROTO_TCP, socket.TCP_NODELAY, 1)
             connection.setsockopt(socket.SOL_SOCKET, socket.SO_SNDBUF, READ)
@@ -35,6 +44,16 @@ class Client:
         self._is_ending = False
         self._writer = threading.Thread(target=self._write, daemon=True)
         self._writer.start()
+
+    @property
+    def is_waiting(self) -> bool:
+        """Whether it has come, and has said nothing yet."""
+        return self.member is None or not self.member.is_told
+
+    def _patience(self) -> Optional[float]:
+        """In how many seconds it has said nothing for too long; none where it has said something."""
+        late = self._came + (NAMELESS if self.member is None else MOMENT)
+        return max(0.0, late - time.monotonic()) if self.is_waiting else None
 
     def hear(self, notice: str) -> None:
         """Sends a notice. While too much is unread notices are left out, which is said then."""
@@ -87,13 +106,13 @@ class Client:
                 if not self._changed.wait_for(lambda: self._sent > sent or self._is_ending, STUCK):
                     raise Refusal("it doesn't read its answers")
 
-    def lines(self, patience: Callable[[], Optional[float]]) -> Iterator[Optional[bytes]]:
+    def lines(self) -> Iterator[Optional[bytes]]:
         """The lines that come, up to the end, of one that is too long the beginning; none where for
-        so many seconds nothing has come."""
+        too long nothing has come."""
         tail = b""
         with contextlib.suppress(OSError):
             while len(tail) <= MOST_BYTES:
-                if not select.select([self.connection], [], [], patience())[0]:
+                if not select.select([self.connection], [], [], self._patience())[0]:
                     yield None
                     continue
                 content = self.connection.recv(READ)

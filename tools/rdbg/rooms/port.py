@@ -9,38 +9,14 @@ from typing import Any, Dict, Iterator, Optional
 
 from rdbg.commands import MOST_BYTES
 from rdbg.door import TOKEN, Door, Entrance, Unheard, drop, turn_away
-from rdbg.rooms.client import Client
+from rdbg.rooms.client import NAMELESS, Client
 from rdbg.rooms.host import Ended
-from rdbg.rooms.room import Member, Refusal, Room
+from rdbg.rooms.room import Refusal, Room
 
 # So many connections there are at the most.
 MOST = 128
-# So many seconds a connection may wait before it is told to others as a guest, and before it is
-# closed, where there is no session for one more guest.
-MOMENT, NAMELESS = 1.0, 5.0
 # So many seconds are waited at the end for those who read what they were told.
 PATIENCE = 2.0
-
-
-class Guest(Client):
-    """A connection, who is there, and since when that wasn't told to the others."""
-
-    def __init__(self, connection: socket.socket) -> None:
-        super().__init__(connection)
-        self.member: Optional[Member] = None
-        self.came = time.monotonic()
-        # Whether its first line has come.
-        self.has_spoken = False
-
-    @property
-    def is_waiting(self) -> bool:
-        """Whether it has come, and has said nothing yet."""
-        return self.member is None or not self.member.is_told
-
-    def patience(self) -> Optional[float]:
-        """In how many seconds it has said nothing for too long; none where it has said something."""
-        late = self.came + (NAMELESS if self.member is None else MOMENT)
-        return max(0.0, late - time.monotonic()) if self.is_waiting else None
 
 
 class Port(Entrance):
@@ -52,7 +28,7 @@ class Port(Entrance):
 
     def __init__(self, port: int, door: Optional[Door] = None) -> None:
         super().__init__(port, door or Door(), Unheard(MOST, NAMELESS))
-        self._guests: Dict[socket.socket, Guest] = {}
+        self._guests: Dict[socket.socket, Client] = {}
         self._waking, self._woken = socket.socketpair()
         self._waking.setblocking(False)
         self._is_stopped, self._is_over = False, threading.Event()
@@ -96,7 +72,7 @@ class Port(Entrance):
         return False
 
     def process_request(self, request: Any, client_address: Any) -> None:
-        self._guests[request] = Guest(request)
+        self._guests[request] = Client(request)
         super().process_request(request, client_address)
 
     def shutdown_request(self, request: Any) -> None:
@@ -108,7 +84,7 @@ class Port(Entrance):
         guest, word = self._guests[request], ""
         try:
             self._greet(guest)
-            for line in guest.lines(guest.patience):
+            for line in guest.lines():
                 if self._is_stopped:
                     break
                 self._line(guest, line)
@@ -123,7 +99,7 @@ class Port(Entrance):
                 guest.member.leave(f"dropped: {word}" if word else "")
             guest.end(word)
 
-    def _greet(self, guest: Guest) -> None:
+    def _greet(self, guest: Client) -> None:
         """Somebody has come, who is a guest, or says the token first."""
         if self.door.token:
             guest.hear(f"# say `{TOKEN} ..` first, as it was said where the room was started")
@@ -131,14 +107,14 @@ class Port(Entrance):
             self.unread.remove(guest.connection)
             self._let_in(guest)
 
-    def _let_in(self, guest: Guest) -> None:
+    def _let_in(self, guest: Client) -> None:
         """Somebody is a guest, where there is a session for one."""
         try:
             guest.member = self.room.join(None, guest.hear, is_told=False)
         except Refusal as refusal:
             guest.hear(f"# you are nobody yet: {refusal}; `# name NAME` comes by a name")
 
-    def _line(self, guest: Guest, line: Optional[bytes]) -> None:
+    def _line(self, guest: Client, line: Optional[bytes]) -> None:
         """Does one line, the first of a connection once that is let in by it, or what is done where
         none has come for too long. Raises `Refusal` where it ends the connection."""
         if line is None:
@@ -160,14 +136,14 @@ class Port(Entrance):
             self._ask(guest, text)
         guest.wait()
 
-    def _is_late(self, guest: Guest) -> None:
+    def _is_late(self, guest: Client) -> None:
         """A connection that has said nothing is a guest; where it could be none, it is ended."""
         if guest.member is None:
             lacks_token = self.door.token and not guest.has_spoken
             raise Refusal(f"it has said no {'token' if lacks_token else 'name'}")
         guest.member.announce()
 
-    def _goes_on_behind(self, guest: Guest, line: bytes) -> bool:
+    def _goes_on_behind(self, guest: Client, line: bytes) -> bool:
         """Looks at a first line; whether it is one for the room, and no token. Nothing is done of a
         connection that a browser has made."""
         guest.has_spoken = True
@@ -179,7 +155,7 @@ class Port(Entrance):
             self._let_in(guest)
         return not line.startswith(TOKEN.encode())
 
-    def _ask(self, guest: Guest, line: str) -> None:
+    def _ask(self, guest: Client, line: str) -> None:
         """Answers a line of rdbg's, or one that is too long to be any."""
         if guest.member is not None:
             guest.member.announce()

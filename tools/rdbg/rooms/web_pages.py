@@ -202,8 +202,7 @@ class Pages:
 
     def tell(self, kind: str, values: Values) -> None:
         """Tells all pages what moves did."""
-        with self._guard:
-            pages = list(self._open.values())
+        pages = self._all()
         if pages:
             text = as_json(values)
             for page in pages:
@@ -211,10 +210,12 @@ class Pages:
 
     def end_all(self) -> None:
         """All pages are to be loaded anew."""
-        with self._guard:
-            pages = list(self._open.values())
-        for page in pages:
+        for page in self._all():
             page.end()
+
+    def _all(self) -> List[Page]:
+        with self._guard:
+            return list(self._open.values())
 
     def open(self, name: Optional[str]) -> Page:
         """A page comes, by a name, or by one that nobody has. Raises `Refusal`."""
@@ -251,12 +252,8 @@ class Pages:
     def wait(self, seconds: float) -> None:
         """Wakes all who write what waits, and waits until they have ended, so long at the most."""
         until = time.monotonic() + seconds
-        while time.monotonic() < until:
-            with self._guard:
-                pages = list(self._open.values())
-            if not pages:
-                return
-            for page in pages:
+        while self._all() and time.monotonic() < until:
+            for page in self._all():
                 page.wake()
             time.sleep(0.01)
 
