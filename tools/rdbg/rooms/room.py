@@ -9,13 +9,12 @@ from rdbg.commands import MOST_BYTES, TARGET, Command
 from rdbg.failure import Failure
 from rdbg.rooms import reloading, remarks
 from rdbg.rooms.counts import Counts
-from rdbg.rooms.doings import Doing
+from rdbg.rooms.doings import Doing, effect, is_single, next_of
 
 from rdbg.rooms.host import MOST_SESSIONS, Audit, Ended
 from rdbg.rooms.member import Hear, Member, Notice
 from rdbg.rooms.program import FULL, HISTORY, SCARCE, Program
 from rdbg.rooms.seats import Refusal, Seat, Seats, check
-from rdbg.rooms.sight import effect, is_single, next_of
 from rdbg.rooms.talk import Talk
 from rdbg.rooms.turns import Turns
 from rdbg.driving import trail
