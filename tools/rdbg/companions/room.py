@@ -8,7 +8,7 @@ from typing import List, Optional, Sequence
 
 from rdbg.files.definitions import take_definitions
 from rdbg.files.source import Source, accepted
-from rdbg.options import APPLICATION, MOST_PORT, Parser, bounded, port
+from rdbg.options import APPLICATION, Parser, bounded, port
 from rdbg.door import TOKEN, Door
 from rdbg.ending import Terminated
 from rdbg.failure import Failure
@@ -34,6 +34,11 @@ EPILOG = (
 ENOUGH = 3
 
 
+def web_port(text: str) -> int:
+    """Reads a port, or 0 for a free one."""
+    return 0 if text == "0" else port(text)
+
+
 def parser() -> Parser:
     """The words of the command line."""
     made = Parser("rdbg room", description=SUMMARY, epilog=EPILOG)
@@ -41,7 +46,7 @@ def parser() -> Parser:
     word("file", "FILE", APPLICATION)
     word("--port", "P", "where it is, on 127.0.0.1", type=port, required=True)
     page = "serves a page for browsers at Q on 127.0.0.1, at a free port where Q is 0"
-    word("--web", "Q", page, type=bounded(0, MOST_PORT))
+    word("--web", "Q", page, type=web_port)
     anyone = "lets in every user of this machine, at both ports, and not yourself alone"
     made.flag("--anyone", anyone)
     word("--talk", "FILE", "keeps who said what, and the replies, there")

@@ -38,6 +38,9 @@ class Program:
         self.source, self.limits, self._seats = source, limits, seats
         self.host = Host.start(source, limits, len(seats))
         self.target = target_of(self.host, source, limits)
+        self.target.hearing.append(self._hear)
+        # The session that asks, or has asked last.
+        self._asks = seats[0]
         self.journal, self.memory = Journal(), Memory()
         # What there is, where that was looked at.
         self._seen: Optional[Look] = None
@@ -72,6 +75,7 @@ class Program:
     @contextlib.contextmanager
     def _asking(self, seat: Seat) -> Iterator[Target]:
         """The target, for as long as it is asked by a session. Raises `Ended`, which is told."""
+        self._asks = seat
         try:
             with self.host.asking(seat.number) as session:
                 self.target.session = session
@@ -82,21 +86,16 @@ class Program:
 
     def _ask_all(self, seat: Seat, lines: List[str]) -> List[str]:
         with self._asking(seat) as target:
-            answers = target.tell_all(lines)
-        self._take(seat, lines, answers)
-        return answers
+            return target.tell_all(lines)
 
-    def _take(self, seat: Seat, lines: Sequence[str], answers: Sequence[str]) -> None:
-        for line, reply in zip(lines, answers):
-            command = read_line(line)
-            if command is not None:
-                self.memory.keep(seat.number, command, reply)
-                self._learn(seat, command, reply)
-
-    def _learn(self, seat: Seat, command: Command, reply: str) -> None:
-        if command.form.is_look or reply.startswith("no "):
+    def _hear(self, line: str, reply: str, before: int) -> None:
+        """Takes note of a line of the session that asks, and of its reply."""
+        command = read_line(line)
+        if command is None:
             return
-        value = read(reply)
+        seat = self._asks
+        self.memory.keep(seat.number, command, reply)
+        value = None if command.form.is_look or reply.startswith("no ") else read(reply)
         if isinstance(value, replies.Moved):
             self._rows.clear()
             self._seen = None
@@ -164,7 +163,8 @@ class Program:
         self.source, self._seen = source, None
         self.journal, self.memory = Journal(), Memory()
         self._rows.clear()
-        self._take(self._seats[0], lines, answers)
+        for line, reply in zip(lines, answers):
+            self._hear(line, reply, 0)
         return dropped
 
     def _go_on(
@@ -192,6 +192,7 @@ class Program:
             host.kill()
             raise
         old, self.host, self.target = self.host, host, target
+        target.hearing.append(self._hear)
         thread = threading.Thread(target=lambda: self.when_ended(old.close()))
         self._ending.append(thread)
         thread.start()
