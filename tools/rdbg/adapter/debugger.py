@@ -11,7 +11,7 @@ from rdbg.adapter.breakpoints import Breakpoint, Breakpoints, wrong_line
 from rdbg.adapter.known import Facts
 from rdbg.adapter.losing import Loses, listen
 from rdbg.adapter.messages import Arguments, Values, Wrong, event
-from rdbg.adapter.running import Outcome, PacedRunner, Pause, Runner
+from rdbg.adapter.running import Outcome, Pause, Runner
 from rdbg.adapter.sources import Spot, Text
 from rdbg.adapter.stops import Becomes, Begins, Stop
 from rdbg.adapter.threads import TIME, Threads
@@ -220,8 +220,7 @@ class Debugger:
 
     def runner(self, stops: Callable[[], List[Stop]]) -> Runner:
         """What runs to some stops."""
-        kind = PacedRunner if self.shell.pace is not None else Runner
-        return kind(self.shell.walk, stops, self.between)
+        return Runner(self.shell.walk, stops, self.between)
 
     def between(self) -> None:
         """Serves what the editor asks, and looks whether it asks for a pause."""
