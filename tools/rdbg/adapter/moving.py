@@ -246,9 +246,9 @@ ENDS = ("quit", "q", "exit")
 
 def evaluate(it: Debugger, given: Arguments) -> Optional[Values]:
     """`evaluate`."""
+    it.standing()
     if given.text("context", "repl") in LOOKS:
         return value_of(it, given)
-    it.standing()
     lines = [line for line in given.text("expression").splitlines() if line.strip()]
     if len(lines) > MOST_LINES:
         raise Wrong(f"{len(lines)} lines at once; {MOST_LINES} are done")

@@ -19,6 +19,8 @@ from rdbg.failure import Failure
 from rdbg.replies import Refused
 
 REQUESTS: Dict[str, Request] = {**SETUP, **LOOKING, **SETTING, **MOVING, **OTHERS}
+# What is done where the target stands.
+STANDING = (*MOVING, *LOOKING)
 # What is answered while the target runs; all else waits for its stop.
 MEANWHILE = (
     *"threads stackTrace scopes variables pause cancel source loadedSources".split(),
@@ -175,7 +177,7 @@ class Server:
                 raise Wrong(CANCELLED)
             if request.command not in REQUESTS:
                 raise Wrong(f"rdbg answers no request '{request.command[:100]}'")
-            if request.command in MOVING:
+            if request.command in STANDING:
                 it.standing()
             return self._sender.send(
                 done(request, REQUESTS[request.command](it, request.arguments))
