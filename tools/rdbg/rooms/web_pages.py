@@ -149,9 +149,6 @@ class Page:
                 if line.lstrip(" ").startswith("#"):
                     self.member.remark(line)
                     return ""
-                way = web_goals.typed(line)
-                if way is not None:
-                    return self._gone(line, way)
                 return self._said(line)
         finally:
             self._lines.release()
@@ -162,13 +159,6 @@ class Page:
         said = self._prompt.said(line)
         self._goal = web_goals.goal_in(line, said) or self._goal
         return said
-
-    def _gone(self, line: str, way: web_goals.Typed) -> str:
-        """Goes to a goal for which rdbg has no line."""
-        reply = web_goals.gone(self._room, self.member, line, way)
-        if reply.startswith("at "):
-            self._goal = reply.split(" met: ", 1)[1].split()
-        return reply
 
     def _answered(self, words: Sequence[str]) -> str:
         """The answer to a question, of the goal before where it says none."""
