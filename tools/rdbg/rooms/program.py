@@ -5,7 +5,6 @@ import time
 from typing import Callable, Dict, Iterator, List, Optional, Sequence, Tuple
 
 from rdbg import replies
-from rdbg.commands import Command
 from rdbg.failure import Failure
 from rdbg.looks import Look
 from rdbg.replies import Refused

@@ -2,7 +2,6 @@
 import contextlib
 import io
 import select
-import socket
 import threading
 from http.server import BaseHTTPRequestHandler
 from typing import Any, Callable, Dict, Optional
