@@ -8,8 +8,11 @@ import secrets
 import socket
 import threading
 import time
-from typing import Dict
+from socketserver import BaseRequestHandler, TCPServer, ThreadingMixIn
+from typing import Any, Dict, Type
 
+from rdbg.client import LOCAL
+from rdbg.failure import trying
 from rdbg.owners import told, way_to_tell
 
 # The first line of a request of HTTP, and how one begins that is encrypted.
@@ -20,6 +23,8 @@ TOKEN = "# token"
 OPENS = "--anyone opens it"
 # So many bytes are read of who is turned away, so that the answer isn't lost with them.
 UNREAD = 65_536
+# So many seconds it rests where a connection can't be had, for want of descriptors mostly.
+BREATH = 0.02
 
 
 def is_of_a_browser(line: bytes) -> bool:
@@ -83,10 +88,16 @@ class Unheard:
         """A connection has come."""
         with self._guard:
             if len(self._since) >= self._most:
-                oldest = next(iter(self._since))
-                drop(oldest)
-                del self._since[oldest]
+                self._drop(next(iter(self._since)))
             self._since[connection] = time.monotonic()
+
+    def drop_oldest(self) -> bool:
+        """Drops the oldest, if there is one."""
+        with self._guard:
+            oldest = next(iter(self._since), None)
+            if oldest is not None:
+                self._drop(oldest)
+        return oldest is not None
 
     def remove(self, connection: socket.socket) -> None:
         """It has said what it wants, or has gone."""
@@ -98,11 +109,69 @@ class Unheard:
         latest = time.monotonic() - self._seconds
         with self._guard:
             for connection in [it for it, since in self._since.items() if since < latest]:
-                drop(connection)
-                del self._since[connection]
+                self._drop(connection)
+
+    def _drop(self, connection: socket.socket) -> None:
+        drop(connection)
+        del self._since[connection]
 
 
 def drop(connection: socket.socket) -> None:
     """Ends a connection, for who waits for it too."""
     with contextlib.suppress(OSError):  # (it may have gone)
         connection.shutdown(socket.SHUT_RDWR)
+
+
+class Entrance(ThreadingMixIn, TCPServer):
+    """A port of this machine: each connection that is let in has a thread of its own. `what` stands
+    there, as who isn't let in is told."""
+
+    what = "this room"
+    daemon_threads, block_on_close = True, False
+    allow_reuse_address = True
+    request_queue_size = 64
+
+    def __init__(
+        self,
+        port: int,
+        door: Door,
+        unread: Unheard,
+        handler: Type[BaseRequestHandler] = BaseRequestHandler,
+    ) -> None:
+        """Listens there, or at a free port for 0. Raises `Failure` where it can't be had."""
+        self.door, self.unread = door, unread
+        with trying(f"listen at port {port}"):
+            super().__init__((LOCAL, port), handler)
+        self.port: int = self.server_address[1]
+
+    def get_request(self) -> Any:
+        try:
+            return super().get_request()
+        except OSError:
+            time.sleep(BREATH)
+            raise
+
+    def verify_request(self, request: Any, client_address: Any) -> bool:
+        """Whether a connection is let in, before anything of it is read. Who isn't is told why."""
+        why = self.door.why_not(request, self.what)
+        if why:
+            turn_away(request, self.refusal(why))
+        return not why
+
+    def refusal(self, why: str) -> bytes:
+        """What is said to who isn't let in."""
+        raise NotImplementedError
+
+    def process_request(self, request: Any, client_address: Any) -> None:
+        """Begins a thread for a connection."""
+        self.unread.add(request)
+        super().process_request(request, client_address)
+
+    def shutdown_request(self, request: Any) -> None:
+        """A connection has been served."""
+        self.unread.remove(request)
+        super().shutdown_request(request)
+
+    def service_actions(self) -> None:
+        """Is called now and then."""
+        self.unread.drop_late()

@@ -77,7 +77,7 @@ class Killed(unittest.TestCase):
                 started = Started("room", LOST, "--port", str(free_port()), *words)
                 assert started.process.stdout is not None
                 self.assertTrue(started.process.stdout.readline().startswith(b"listening"))
-                self.check(started, 4 if words else 2)
+                self.check(started, 3 if words else 2)
 
     def test_a_build(self) -> None:
         builder = pathlib.Path(self.scratch / "builder")

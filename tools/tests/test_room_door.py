@@ -11,7 +11,7 @@ from unittest import mock
 
 from rdbg.client import Session
 from rdbg.failure import Failure
-from rdbg.rooms import port as ports
+from rdbg.rooms import client, port as ports
 from rdbg.rooms.web_guard import HEADERS
 from tests.rooms import LOST, PATIENCE, Caller, room, rows, talk, until
 from tests.strangers import IS_ROOT, UNTOLD, before, connected, told_nobody
@@ -224,7 +224,7 @@ class Untold(unittest.TestCase):
     def test_who_says_no_token_takes_no_place(self) -> None:
         named = mock.patch("rdbg.door.secrets.token_urlsafe", lambda _: "open")
         few = mock.patch.object(ports, "MOST", 4)
-        with named, few, mock.patch.object(ports, "NAMELESS", PATIENCE):
+        with named, few, mock.patch.object(client, "NAMELESS", PATIENCE):
             with served() as (port, _), contextlib.ExitStack() as stack:
                 silent = [stack.enter_context(Caller(port)) for _ in range(10)]
                 with Caller(port) as other:
@@ -233,7 +233,7 @@ class Untold(unittest.TestCase):
                 self.assertEqual(silent[0].rest()[1:], [])
 
     def test_who_says_nothing_is_closed(self) -> None:
-        with mock.patch.object(ports, "NAMELESS", 0.3), served() as (port, _):
+        with mock.patch.object(client, "NAMELESS", 0.3), served() as (port, _):
             with Caller(port) as other:
                 self.assertEqual(other.rest()[1:], ["# no: it has said no token"])
 

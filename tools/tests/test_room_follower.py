@@ -9,7 +9,7 @@ from unittest import mock
 
 from rdbg.looks import Look
 from rdbg.page.recorder import CORES, TASK, cores_of, object_of, task_of
-from rdbg.rooms import web_follower, web_known, web_mirror, web_past
+from rdbg.rooms import web_follower, web_known, web_mirror
 from rdbg.rooms.web_follower import Follower, Values
 from rdbg.driving.opening import begin
 from rdbg.driving.target import Limits
@@ -106,8 +106,8 @@ def small() -> Iterator[None]:
             (web_follower, "SHORT", 6),
             (web_follower, "HEAP", 4),
             (web_follower, "LAST", 3),
-            (web_past, "LEAST", 2),
-            (web_past, "MOST", 9),
+            (web_follower, "LEAST", 2),
+            (web_follower, "MOST", 9),
         ):
             stack.enter_context(mock.patch.object(module, name, value))
         yield
@@ -249,7 +249,7 @@ class Follows(unittest.TestCase):
             here.room.tell("forward 300")
             self.assertEqual(330 - 60, self.check(here).first)
 
-    def test_a_move_doesnt_wait_for_earlier_ones(self) -> None:
+    def test_a_move_waits_no_longer_than_for_a_piece_of_earlier_ones(self) -> None:
         with slow(0.001), followed(str(LOST)) as here:
             here.room.tell("forward 2000")
             here.wait()
@@ -277,7 +277,7 @@ class Follows(unittest.TestCase):
             shown = self.check(here)
             self.assertEqual((0, 5_001), (shown.first, shown.last))
             # (of which a page that comes now has the last ones first)
-            self.assertGreaterEqual(shown.begun, 5_001 - web_known.BLOCK_MOVES - web_past.MOST)
+            self.assertGreaterEqual(shown.begun, 5_001 - web_known.BLOCK_MOVES - web_follower.MOST)
             self.assertEqual(1, here.events.count("run"))
 
     def test_the_oldest_are_forgotten(self) -> None:

@@ -9,7 +9,7 @@ from typing import Iterator, List, Tuple
 from unittest import mock
 
 from rdbg.rooms import client
-from rdbg.rooms.port import MOST, Port, listening
+from rdbg.rooms.port import MOST, Port
 from rdbg.rooms.room import Member, Room
 from rdbg.files.source import load
 from tests.rooms import LOST, Caller, free_port, until
@@ -23,8 +23,8 @@ def served(sessions: int = 6) -> Iterator[Tuple[int, Room]]:
     """A room at a port in this process."""
     number = free_port()
     room = Room(load(LOST), sessions=sessions)
-    port = Port(room, listening(number))
-    thread = threading.Thread(target=port.serve)
+    port = Port(number)
+    thread = threading.Thread(target=port.serve, args=(room,))
     thread.start()
     try:
         yield number, room
@@ -147,8 +147,8 @@ class Hostile(unittest.TestCase):
             return False
 
     def test_nobody_comes_from_elsewhere(self) -> None:
-        with listening(free_port()) as found:
-            self.assertEqual(found.getsockname()[0], "127.0.0.1")
+        with Port(free_port()) as found:
+            self.assertEqual(found.socket.getsockname()[0], "127.0.0.1")
 
     def test_one_that_breaks_off(self) -> None:
         with served() as (port, room), Caller(port, "left") as left:

@@ -8,8 +8,8 @@ import unittest
 from typing import Iterator, List, Tuple
 
 from rdbg.files.source import load
-from rdbg.rooms import web
 from rdbg.rooms.room import Member, Room
+from rdbg.rooms.web import Served
 from rdbg.rooms.web_pages import Page, Pages
 from tests.rooms import LOST, until
 
@@ -168,7 +168,7 @@ class Reloaded(unittest.TestCase):
 
     def test_pages_are_loaded_anew(self) -> None:
         room = Room(load(str(self.path)), sessions=6)
-        served = web.serve(room, 0)
+        served = Served(room, 0)
         try:
             page = served.pages.open("ada")
             page.ask("step 1")

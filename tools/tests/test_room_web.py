@@ -28,7 +28,7 @@ PATIENCE = 30.0
 def served(sessions: int = 20) -> Iterator[Served]:
     """A room whose page is served; its audit is good at the end."""
     room = Room(load(LOST), sessions=sessions)
-    found = web.serve(room, 0)
+    found = Served(room, 0)
     try:
         yield found
     finally:
@@ -396,7 +396,7 @@ class Lines(unittest.TestCase):
 
     def test_the_room_ends(self) -> None:
         room = Room(load(LOST), sessions=4)
-        here = web.serve(room, 0)
+        here = Served(room, 0)
         with page(here) as (raw, key):
             said(here, "line", page=key, line="forward 5")
             room.close()
@@ -409,7 +409,7 @@ class Lines(unittest.TestCase):
 
     def test_a_program_that_has_ended(self) -> None:
         room = Room(load(LOST), sessions=4)
-        here = web.serve(room, 0)
+        here = Served(room, 0)
         with page(here) as (_, key):
             room._program.host._process.kill()
             answer = said(here, "line", page=key, line="step 0")
@@ -419,7 +419,7 @@ class Lines(unittest.TestCase):
 
     def test_a_port_that_is_taken(self) -> None:
         with served(4) as here, self.assertRaises(Failure) as failed:
-            web.serve(here.room, here.port)
+            Served(here.room, here.port)
         self.assertIn(f"cannot listen at port {here.port}: ", str(failed.exception))
 
     def test_a_port_is_free_again_once_the_room_has_ended(self) -> None:
@@ -430,12 +430,12 @@ class Lines(unittest.TestCase):
             self.assertEqual(b"", raw.rest())
         again = Room(load(LOST), sessions=4)
         try:
-            pages = web.serve(again, port)
+            pages = Served(again, port)
             self.assertEqual(200, status(got(pages, "/")))
             self.assertEqual(403, status(got(pages, f"/{here.token}/room")))
             self.assertEqual(403, status(traded(pages, here.key.text)))
             with self.assertRaises(Failure):
-                web.serve(again, port)
+                Served(again, port)
             pages.close()
         finally:
             again.close()

@@ -87,7 +87,7 @@ class Words(unittest.TestCase):
             ada.remark("# who")
             idle = r"# here: ada \(session 1, idle for 0 seconds\), bo \(session 2, idle for 0 seconds\)"
             self.assertRegex(own[-1], idle)
-            self.assertEqual([0, 0], [it.silence for it in room.people()])
+            self.assertEqual([0, 0], [room.silence(it) for it in room.people()])
 
     def test_help_has_each_line(self) -> None:
         with together("ada") as (_, people):

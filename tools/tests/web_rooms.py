@@ -9,8 +9,9 @@ from typing import Any, Iterable, Iterator, List, Optional, Tuple
 from unittest import mock
 
 from rdbg.client import Session
-from rdbg.rooms import web, web_mirror
+from rdbg.rooms import web_mirror
 from rdbg.rooms.room import Room
+from rdbg.rooms.web import Served
 from rdbg.driving.opening import begin
 from rdbg.driving.target import Target
 from rdbg.files.source import load
@@ -80,7 +81,7 @@ def in_process(path: str) -> Iterator[Tuple[Room, str]]:
     """A room with a page in this process, and the address of its page; its audit is good at the
     end."""
     room = Room(load(path), sessions=6)
-    pages = web.serve(room, 0)
+    pages = Served(room, 0)
     try:
         yield room, pages.address
     finally:

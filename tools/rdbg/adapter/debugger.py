@@ -2,16 +2,16 @@
 moved, and what the editor is told of it."""
 import contextlib
 import itertools
+import select
 import time
 from typing import Callable, Dict, Iterator, List, Optional, Sequence, Tuple
 
 from rdbg import record, replies
 from rdbg.adapter.breakpoints import Breakpoint, Breakpoints, wrong_line
-from rdbg.adapter.hearing import MOVED, Hearing
 from rdbg.adapter.known import Facts
 from rdbg.adapter.losing import Loses, listen
 from rdbg.adapter.messages import Arguments, Values, Wrong, event
-from rdbg.adapter.running import Outcome, PacedRunner, Pause, Runner
+from rdbg.adapter.running import Outcome, Pause, Runner
 from rdbg.adapter.sources import Spot, Text
 from rdbg.adapter.stops import Becomes, Begins, Stop
 from rdbg.adapter.threads import TIME, Threads
@@ -22,6 +22,7 @@ from rdbg.goals import conditions
 from rdbg.goals.claims import ASLEEP, Finished, SomeFailed, Stuck
 from rdbg.looks import Look
 from rdbg.replies import Refused
+from rdbg.shell.notices import MOVED
 from rdbg.shell.shell import Shell
 from rdbg.shell.views import phase_text
 from rdbg.wording import counted
@@ -81,7 +82,8 @@ class Debugger:
         self.references, self.breakpoints = References(), Breakpoints()
         self.begins = {goal.text: Begins(goal) for goal in (SomeFailed(), ASLEEP)}
         self._shell: Optional[Shell] = None
-        self.hearing: Optional[Hearing] = None
+        # What waits for what a room says while an editor stands.
+        self._listening = contextlib.ExitStack()
         # Whether a run has the wheel, and what is told once it is given back.
         self.is_held = False
         self.waiting: List[Values] = []
@@ -91,7 +93,7 @@ class Debugger:
         self.later: List[Callable[[], None]] = []
         # Serves what the editor asks meanwhile, while something long goes on.
         self.serve: Callable[[], None] = lambda: None
-        # Is called, from any thread, where something has come from a room.
+        # Is called, from any thread, where something has come from a room that isn't heard yet.
         self.came: Callable[[], None] = lambda: None
         self.is_attached = self.is_configured = self.is_running = self.is_done = False
         self.shows_invalidated = False
@@ -172,15 +174,16 @@ class Debugger:
         """Takes note that the target isn't as it was looked at."""
         self._seen = None
 
-    def say(self, text: str, move: Optional[Move] = None, category: str = "stdout") -> None:
-        """A line of output, with the instruction that it is of."""
-        spot = None
+    def say(
+        self,
+        text: str,
+        move: Optional[Move] = None,
+        category: str = "stdout",
+        spot: Optional[Spot] = None,
+    ) -> None:
+        """A line of output, with the instruction that it is of, or that a move is of."""
         if move is not None and move.task and move.pc is not None:
             spot = self.text.of(move.task, move.pc)
-        self.say_at(text, spot, category)
-
-    def say_at(self, text: str, spot: Optional[Spot], category: str = "stdout") -> None:
-        """A line of output, with the place that it is of."""
         body: Values = {"category": category, "output": f"{text}\n"}
         if spot is not None:
             place = self.text.place(spot)
@@ -217,8 +220,7 @@ class Debugger:
 
     def runner(self, stops: Callable[[], List[Stop]]) -> Runner:
         """What runs to some stops."""
-        kind = PacedRunner if self.shell.pace is not None else Runner
-        return kind(self.shell.walk, stops, self.between)
+        return Runner(self.shell.walk, stops, self.between)
 
     def between(self) -> None:
         """Serves what the editor asks, and looks whether it asks for a pause."""
@@ -317,17 +319,24 @@ class Debugger:
 
     def hear(self, notice: str) -> None:
         """Takes what a room says besides: what others do, the editor is told."""
-        mover = MOVED.match(notice)
-        if mover is None or mover[1] != self.own_name:
-            self.say(notice.lstrip("# "))
-            self.others = self.others or (notice.lstrip("# ") if mover else "")
+        text = notice.lstrip("# ")
+        self.say(text)
+        self.others = self.others or (text if MOVED.match(notice) else "")
+
+    def listen(self) -> None:
+        """From now on `came` is called once a room says something, until that is heard."""
+        self._listening.enter_context(self.shell.notices.listening(self.came))
 
     def heard(self) -> None:
-        """Hears what a room has said since, and goes where others have moved the target to."""
-        if self.hearing is None or self._shell is None:
+        """Hears what a room has said since, and goes where others have moved the target to. Raises
+        `Failure` where it has ended."""
+        if self._shell is None:
             return
-        if not self.hearing.hear():
-            self._shell.target.tell("")  # (which raises `Failure`, and says why)
+        self._listening.close()
+        there = self._shell.target.session.waited_for()
+        while select.select([there], [], [], 0)[0]:
+            self._shell.notices.hear_now()
+        self.listen()
         others, self.others = self.others, ""
         if others and self.is_configured and not self.is_running:
             self._shell.target.places()
@@ -424,8 +433,7 @@ class Debugger:
     def close(self) -> Optional[int]:
         """Ends the session; the status of its program."""
         shell, self._shell = self._shell, None
-        if self.hearing is not None:
-            self.hearing.end()
+        self._listening.close()
         return shell.target.session.close() if shell else None
 
 

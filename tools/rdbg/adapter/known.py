@@ -21,10 +21,6 @@ class Stretches:
         """Adds the moves behind `low` up to `high`."""
         if low >= high:
             return
-        first, last = self._all[-1] if self._all else (high, high)
-        if first <= low <= last:  # (as mostly)
-            self._all[-1] = (first, max(high, last))
-            return
         near = [it for it in self._all if it[0] <= high and it[1] >= low]
         apart = [it for it in self._all if it not in near]
         low = min([low, *(it[0] for it in near)])

@@ -31,7 +31,6 @@ def threads(it: Debugger, given: Arguments) -> Optional[Values]:
 
 def stack(it: Debugger, given: Arguments) -> Optional[Values]:
     """`stackTrace`: the instruction that a task stands at."""
-    it.standing()
     number = given.number("threadId")
     name = it.threads.task(number)
     look = it.look()
@@ -45,7 +44,6 @@ def stack(it: Debugger, given: Arguments) -> Optional[Values]:
 
 def scopes(it: Debugger, given: Arguments) -> Optional[Values]:
     """`scopes` of a frame, which has the number of its thread."""
-    it.standing()
     return {"scopes": it.references.scopes(it.threads.task(given.number("frameId")), it.look())}
 
 
@@ -56,7 +54,6 @@ def is_hex(given: Arguments) -> bool:
 
 def variables(it: Debugger, given: Arguments) -> Optional[Values]:
     """`variables`: what stands in something, or a part of it."""
-    it.standing()
     shown = it.shown(is_hex(given))
     found = within(shown, it.references.path(given.number("variablesReference")))
     only = given.text("filter", "")
@@ -69,7 +66,6 @@ def variables(it: Debugger, given: Arguments) -> Optional[Values]:
 
 def put(it: Debugger, variable: Variable, value: str) -> None:
     """Sets a variable, by an edit. Raises `Wrong` where there is none."""
-    it.standing()
     if variable.put is None:
         raise Wrong(f"{variable.name} can't be set: there is no edit for it")
     it.edit(variable.put(value))
@@ -104,7 +100,6 @@ def expressed(shown: Shown, task: Optional[str], text: str) -> Variable:
 
 def value_of(it: Debugger, given: Arguments) -> Values:
     """What an expression says, that changes nothing."""
-    it.standing()
     text = given.text("expression").strip()
     said = names.view(it.shell, text)
     if said is not None:
@@ -133,7 +128,6 @@ def sources(it: Debugger, given: Arguments) -> Optional[Values]:
 
 def exception(it: Debugger, given: Arguments) -> Optional[Values]:
     """`exceptionInfo`: why a task has failed, or what nothing goes on for."""
-    it.standing()
     name = it.threads.task(given.number("threadId", TIME))
     task = it.look().tasks.get(name) if name else None
     if task and task.phase.word == "failed":
@@ -147,7 +141,6 @@ def exception(it: Debugger, given: Arguments) -> Optional[Values]:
 
 def completions(it: Debugger, given: Arguments) -> Optional[Values]:
     """`completions` of a line that is typed."""
-    it.standing()
     lines = given.text("text").split("\n")
     at = given.number("line", it.text.first_line) - it.text.first_line
     text = lines[at] if 0 <= at < len(lines) else lines[-1]
@@ -158,15 +151,13 @@ def completions(it: Debugger, given: Arguments) -> Optional[Values]:
     return {"targets": found}
 
 
+# What is looked at where the target stands.
 LOOKING: Dict[str, Request] = {
-    "threads": threads,
     "stackTrace": stack,
     "scopes": scopes,
     "variables": variables,
     "setVariable": set_variable,
     "setExpression": set_expression,
-    "source": source,
-    "loadedSources": sources,
     "exceptionInfo": exception,
     "completions": completions,
 }
@@ -218,7 +209,11 @@ def data_info(it: Debugger, given: Arguments) -> Optional[Values]:
     }
 
 
+# What is told and set at any time.
 SETTING: Dict[str, Request] = {
+    "threads": threads,
+    "source": source,
+    "loadedSources": sources,
     "setBreakpoints": lambda it, given: {
         "breakpoints": it.breakpoints.put_lines(it.shell, it.text, given)
     },

@@ -39,7 +39,7 @@ def tell(it: Debugger, met: Sequence[Stop]) -> bool:
     for point in it.breakpoints.logs():
         for stop, spot in zip(point.stops, point.spots):
             if stop in met:
-                it.say_at(told(it, point.log, spot.task), spot)
+                it.say(told(it, point.log, spot.task), spot=spot)
                 told_of.append(stop)
     return bool(told_of) and all(stop in told_of for stop in met)
 
@@ -246,9 +246,9 @@ ENDS = ("quit", "q", "exit")
 
 def evaluate(it: Debugger, given: Arguments) -> Optional[Values]:
     """`evaluate`."""
+    it.standing()
     if given.text("context", "repl") in LOOKS:
         return value_of(it, given)
-    it.standing()
     lines = [line for line in given.text("expression").splitlines() if line.strip()]
     if len(lines) > MOST_LINES:
         raise Wrong(f"{len(lines)} lines at once; {MOST_LINES} are done")

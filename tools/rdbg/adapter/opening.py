@@ -3,7 +3,7 @@ import argparse
 import os
 import signal
 import subprocess
-import threading
+import tempfile
 from typing import Callable, List, Optional
 
 from rdbg import children, client, commands
@@ -78,27 +78,20 @@ def program(is_unproved: bool, tell: Tell) -> str:
     if named:
         return named
     wrapper, words = client.wrapper()
-    pipe = subprocess.PIPE
-    with turned(Wrong, Failure), trying(f"start {wrapper}"):
-        asked = [wrapper, *(["--unproved"] if is_unproved else words), "--build"]
-        made = children.start(asked, subprocess.DEVNULL, pipe, pipe, signal.SIGTERM, is_apart=False)
-    assert made.stdout is not None and made.stderr is not None
     said: List[str] = []
-    errors = made.stderr
-
-    def tell_lines() -> None:
-        with errors:
-            for line in errors:
+    asked = [wrapper, *(["--unproved"] if is_unproved else words), "--build"]
+    none, pipe = subprocess.DEVNULL, subprocess.PIPE
+    with turned(Wrong, Failure), trying(f"start {wrapper}"), tempfile.TemporaryFile() as found:
+        made = children.start(asked, none, found, pipe, signal.SIGTERM, is_apart=False)
+        assert made.stderr is not None
+        with made.stderr:
+            for line in made.stderr:
                 said.append(line.decode("utf-8", "replace").rstrip())
                 tell(said[-1])
-
-    reader = threading.Thread(target=tell_lines, daemon=True)
-    reader.start()
-    with made.stdout:
-        path = os.fsdecode(made.stdout.read().strip())
-    reader.join()
-    made.wait()
-    STARTED.pop(made, None)
+        made.wait()
+        STARTED.pop(made, None)
+        found.seek(0)
+        path = os.fsdecode(found.read().strip())
     if made.returncode or not path:
         raise Wrong(f"there is no program to start: {said[-1] if said else 'nothing was built'}")
     return path

@@ -13,6 +13,7 @@ from rdbg.adapter.stops import Begins, Stop, met_here
 from rdbg.driving.interrupt import Interrupt, Interrupted
 from rdbg.driving.target import Unable, read
 from rdbg.driving.walk import MOST_PIECE, Walk
+from rdbg.goals.paced import PacedWalk
 from rdbg.goals.ways import is_stuck
 
 # Stops are looked for within so many moves, then within so many times more, up to this.
@@ -21,6 +22,8 @@ FIRST_WINDOW, WIDER, MOST_WINDOW = 64, 8, 65_536
 # those that a run would make again, and so many of others.
 FIRST_LOOKED, MOST_LOOKED = 16, 256
 LOOKED_OF_RUNS, LOOKED = 64, 8_192
+# So many moves are made at a pace until something else can be done meanwhile.
+FEW = 16
 
 
 class Pause(Interrupt):
@@ -84,9 +87,12 @@ class Runner:
         """To the first place where a stop is met: through the moves that were taken back, which are
         made again, and then on, with so many new moves at the most."""
         walk = self.walk
-        self._here, walk.wall = walk.place, ""
-        self._end = self._here + walk.target.places().undone
+        self._here = self._end = walk.place
+        walk.wall = ""
         try:
+            if isinstance(walk, PacedWalk):
+                return self._paced(limit)
+            self._end += walk.target.places().undone
             return self._again() or self._on(limit)
         except (Interrupted, Unable, Wrong) as ended:
             self._keep()
@@ -94,6 +100,22 @@ class Runner:
                 raise
             walk.goto(self._here)
             return Outcome("paused")
+
+    def _paced(self, limit: int) -> Outcome:
+        """To the first stop by so many moves at the most at the walk's pace, one after the other."""
+        walk = self.walk
+        for made in range(limit):
+            self._here = walk.place
+            if made % FEW == 0:
+                self._between()
+            if is_stuck(walk.target) and not any("tick" in it.text for it in self._stops()):
+                return Outcome("stuck")
+            if not walk.forward(1):
+                return Outcome("wall", wall=walk.wall)
+            found = self.met()
+            if found.met:
+                return found
+        return Outcome("limit")
 
     def _again(self) -> Optional[Outcome]:
         """To the first stop among moves that were taken back; none where there is no stop, or
@@ -284,34 +306,3 @@ def look_each(walk: Walk, stops: Sequence[Stop], views: Sequence[str], high: int
         moves = enumerate(zip(its, its[1:]), low + 1)
         met = [place for place, (before, after) in moves if stop.is_met_by(before, after)]
         stop.learn(Facts.of(walk), low, high, met)
-
-
-# So many moves are made until something else can be done meanwhile.
-FEW = 16
-
-
-class PacedRunner(Runner):
-    """Runs a target whose walk has a pace."""
-
-    def forwards(self, limit: int) -> Outcome:
-        """To the first place where a stop is met, with so many moves at the most."""
-        walk = self.walk
-        walk.wall = ""
-        for made in range(limit):
-            here = walk.place
-            try:
-                if made % FEW == 0:
-                    self._between()
-                if is_stuck(walk.target) and not any("tick" in it.text for it in self._stops()):
-                    return Outcome("stuck")
-                if not walk.forward(1):
-                    return Outcome("wall", wall=walk.wall)
-                found = self.met()
-            except (Interrupted, Unable, Wrong) as ended:
-                walk.goto(here)
-                if not isinstance(ended, Interrupted):
-                    raise
-                return Outcome("paused")
-            if found.met:
-                return found
-        return Outcome("limit")

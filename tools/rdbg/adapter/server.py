@@ -19,6 +19,8 @@ from rdbg.failure import Failure
 from rdbg.replies import Refused
 
 REQUESTS: Dict[str, Request] = {**SETUP, **LOOKING, **SETTING, **MOVING, **OTHERS}
+# What is done where the target stands.
+STANDING = (*MOVING, *LOOKING)
 # What is answered while the target runs; all else waits for its stop.
 MEANWHILE = (
     *"threads stackTrace scopes variables pause cancel source loadedSources".split(),
@@ -58,9 +60,11 @@ class Server:
         self._frames, self._sender = Frames(lines), Sender(answers)
         self.debugger = Debugger(self._sender.send)
         self.debugger.serve = self._meanwhile
-        self.debugger.came = lambda: self._asked.put(HEARD)
+        self.debugger.came = self._came
         self._asked: "queue.Queue[Optional[Asked]]" = queue.Queue(MOST_WAITING)
         self._waiting: List[Optional[Asked]] = []
+        # Whether something has come from a room that isn't heard yet.
+        self._has_come = False
         # The number of the request that is at work, and those of requests that won't be.
         self._at_work = 0
         self._cancelled: Set[int] = set()
@@ -75,6 +79,7 @@ class Server:
                 if request is None:
                     return
                 if request is HEARD:
+                    self._has_come = False
                     self._guarded(self.debugger.heard)
                 else:
                     self._at_work = request.seq
@@ -105,6 +110,11 @@ class Server:
             self._asked.put(request)
             if request is None:
                 return
+
+    def _came(self) -> None:
+        if not self._has_come:
+            self._has_come = True
+            self._asked.put(HEARD)
 
     def _cancel(self, given: Arguments) -> None:
         """Ends what a request to cancel names, or sees to it that it isn't begun."""
@@ -167,7 +177,7 @@ class Server:
                 raise Wrong(CANCELLED)
             if request.command not in REQUESTS:
                 raise Wrong(f"rdbg answers no request '{request.command[:100]}'")
-            if request.command in MOVING:
+            if request.command in STANDING:
                 it.standing()
             return self._sender.send(
                 done(request, REQUESTS[request.command](it, request.arguments))

@@ -4,7 +4,6 @@ from typing import Dict, Optional
 from rdbg.adapter import opening
 from rdbg.adapter.breakpoints import FAILURES
 from rdbg.adapter.debugger import LIMIT, Debugger, Request
-from rdbg.adapter.hearing import Hearing
 from rdbg.adapter.messages import Arguments, Values, Wrong, event
 from rdbg.adapter.moving import begin_run
 from rdbg.adapter.threads import TIME
@@ -74,7 +73,7 @@ def attach(it: Debugger, given: Arguments) -> None:
     off = {f"supports{name}Request": False for name in ("Restart", "Terminate")}
     it.later.append(lambda: it.send(event("capabilities", {"capabilities": off})))
     started(it, given, shell)
-    it.hearing = Hearing(it.shell.target.session, it.came)
+    it.listen()
 
 
 def configured(it: Debugger, given: Arguments) -> None:

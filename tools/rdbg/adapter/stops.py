@@ -174,10 +174,8 @@ class Becomes(Reaches):
 
     def all_last(self, walk: Walk, low: int) -> List[int]:
         sweep = Backwards(walk, self.condition, max(low, walk.target.base))
-        while not sweep.is_done:
-            walk.interrupt.check()
-            sweep.go()
-            not_too_many(self, sweep.found)
+        sweep.run(lambda hits: hits > MOST_HITS)
+        not_too_many(self, sweep.found)
         return sweep.found + ([0] if low < 0 and self.began(sweep) else [])
 
     def began(self, sweep: Backwards) -> bool:

@@ -4,7 +4,7 @@ import contextlib
 import signal
 import sys
 from types import FrameType
-from typing import Optional, Sequence, Tuple
+from typing import List, Optional, Sequence
 
 from rdbg.files.definitions import take_definitions
 from rdbg.files.source import Source, accepted
@@ -12,10 +12,10 @@ from rdbg.options import APPLICATION, Parser, bounded, port
 from rdbg.door import TOKEN, Door
 from rdbg.ending import Terminated
 from rdbg.failure import Failure
-from rdbg.rooms import keys, remarks, web, web_guard
-from rdbg.rooms.host import MOST_SESSIONS, Hindered
+from rdbg.rooms import keys, remarks
+from rdbg.rooms.host import MOST_SESSIONS, Audit, Hindered
 from rdbg.rooms.program import HISTORY
-from rdbg.rooms.port import Port, listening
+from rdbg.rooms.port import Port
 from rdbg.rooms.room import IDLE, Room
 from rdbg.rooms.talk import Talk
 from rdbg.rooms.web import Served
@@ -34,14 +34,6 @@ EPILOG = (
 ENOUGH = 3
 
 
-def sessions(text: str) -> int:
-    """Reads how many sessions there are."""
-    number = bounded(1)(text)
-    if number > MOST_SESSIONS:
-        raise argparse.ArgumentTypeError(f"1 to {MOST_SESSIONS}, not '{text}'")
-    return number
-
-
 def web_port(text: str) -> int:
     """Reads a port, or 0 for a free one."""
     return 0 if text == "0" else port(text)
@@ -58,7 +50,13 @@ def parser() -> Parser:
     anyone = "lets in every user of this machine, at both ports, and not yourself alone"
     made.flag("--anyone", anyone)
     word("--talk", "FILE", "keeps who said what, and the replies, there")
-    word("--sessions", "N", f"for how many at a time, 1 to {most}", type=sessions, default=most)
+    word(
+        "--sessions",
+        "N",
+        f"for how many at a time, 1 to {most}",
+        type=bounded(1, most),
+        default=most,
+    )
     idle = f"seconds without a line after which the wheel can be freed, else {IDLE}"
     word("--idle", "S", idle, type=bounded(1), default=IDLE)
     word("--moves", "N", "how many moves may be done", type=bounded(1))
@@ -96,34 +94,59 @@ def open_room(source: Source, limits: Limits, sessions: int, talk: Optional[Talk
             print(f"rdbg room: {hindered}; it is tried again", file=sys.stderr, flush=True)
 
 
-def with_pages(
-    room: Room, number: int, door: Door, ends: contextlib.ExitStack
-) -> Tuple[Served, str]:
-    """The room's pages, and what is said of where they are. Without them the room ends."""
-    try:
-        pages = web.serve(room, number, door)
-        is_terminal = sys.stdout.isatty()
-        where, say = ends.enter_context(web_guard.said(pages.address, is_terminal))
-        pages.key.say = lambda: say(pages.address)
-        return pages, where
-    except Failure:
-        room.kill()
-        raise
+def serve(room: Room, port: Port, door: Door, given: argparse.Namespace) -> List[Audit]:
+    """Serves until a signal comes or the program ends, and answers the audits. Where it can't be
+    served the room ends."""
+    with contextlib.ExitStack() as ends:
+        pages: Optional[Served] = None
+        where = ""
+        try:
+            if given.web is not None:
+                pages = Served(room, given.web, door)
+                where = pages.say_where(ends, sys.stdout.isatty())
+            tell(given, door, where)
+            room.when_over, room.idle = port.stop, given.idle
+            keys.listen(room)
+            with port.heard():
+                port.serve(room)
+            audits = room.close()
+        except BaseException:
+            room.kill()
+            raise
+        port.close()
+        if pages is not None:
+            pages.close()
+    return audits
 
 
-def serve(room: Room, port: Port, talk: Optional[Talk], pages: Optional[Served]) -> int:
-    """Serves until a signal comes or the program ends, and answers the status."""
-    room.when_over = port.stop
-    try:
-        with port.heard():
-            port.serve()
-        audits = room.close()
-    except BaseException:
-        room.kill()
-        raise
-    port.close()
-    if pages is not None:
-        pages.close()
+def tell(given: argparse.Namespace, door: Door, where: str) -> None:
+    """Says where the room is, and how one comes in."""
+    print(f"listening {given.port}{door.said}", flush=True)
+    if door.token:
+        why = "whose a connection is can't be told here"
+        print(f"rdbg room: {why}: who comes says first {TOKEN} {door.token}", file=sys.stderr)
+    if where:
+        print(f"web {where}", flush=True)
+    if sys.stdout.isatty():
+        print(f"# rdbg sh --port {given.port} --name NAME {given.file}: a prompt in it", flush=True)
+
+
+def main(words: Sequence[str]) -> int:
+    """Opens a room, and serves it."""
+    given = parser().parse_args(words)
+    source = accepted(given.file, dict(given.consts))
+    assert source is not None
+    limits = Limits(given.moves or Limits.moves, given.history or HISTORY)
+    if limits.history < 4 * given.sessions:
+        least = 4 * given.sessions
+        raise Failure(f"--history is {least} at the least for {given.sessions} sessions", 2)
+    door = Door(given.anyone)
+    port = Port(given.port, door)
+    talk = None if given.talk is None else Talk(given.talk)
+    signals = Signals()
+    room = open_room(source, limits, given.sessions, talk)
+    signals.port = port
+    audits = serve(room, port, door, given)
     for row in room.counts.rows():
         print(f"# {row}")
     for audit in audits:
@@ -132,38 +155,3 @@ def serve(room: Room, port: Port, talk: Optional[Talk], pages: Optional[Served])
         print(f"rdbg room: {talk.path} isn't complete: {talk.fault}", file=sys.stderr)
         return 1
     return 0 if all(audit.is_good for audit in audits) else 1
-
-
-def main(words: Sequence[str]) -> int:
-    """Opens a room, and serves it."""
-    given = parser().parse_args(words)
-    with contextlib.ExitStack() as ends:
-        status = open_and_serve(given, ends)
-    return status
-
-
-def open_and_serve(given: argparse.Namespace, ends: contextlib.ExitStack) -> int:
-    """Opens a room, and serves it; what is to be done behind it is told to `ends`."""
-    source = accepted(given.file, dict(given.consts))
-    assert source is not None
-    limits = Limits(given.moves or Limits.moves, given.history or HISTORY)
-    if limits.history < 4 * given.sessions:
-        least = 4 * given.sessions
-        raise Failure(f"--history is {least} at the least for {given.sessions} sessions", 2)
-    listener, door = listening(given.port), Door(given.anyone)
-    talk = None if given.talk is None else Talk(given.talk)
-    signals = Signals()
-    room = open_room(source, limits, given.sessions, talk)
-    signals.port = port = Port(room, listener, door)
-    pages, where = (None, "") if given.web is None else with_pages(room, given.web, door, ends)
-    print(f"listening {given.port}{door.said}", flush=True)
-    if door.token:
-        why = "whose a connection is can't be told here"
-        print(f"rdbg room: {why}: who comes says first {TOKEN} {door.token}", file=sys.stderr)
-    if pages is not None:
-        print(f"web {where}", flush=True)
-    if sys.stdout.isatty():
-        print(f"# rdbg sh --port {given.port} --name NAME {given.file}: a prompt in it", flush=True)
-    room.idle = given.idle
-    keys.listen(room)
-    return serve(room, port, talk, pages)

@@ -51,7 +51,7 @@ class Host:
     def __init__(self, process: "subprocess.Popen[bytes]", errors: IO[bytes]) -> None:
         assert process.stdout is not None
         self._process, self._said, self._errors = process, process.stdout, errors
-        self._sessions: List[Session] = []
+        self.sessions: List[Session] = []
         # (the sockets of its own network, where it has one; and the room's own ports)
         self._apart: List[socket.socket] = []
         self._is_apart = False
@@ -127,16 +127,22 @@ class Host:
             connection = connected(port, PATIENCE, self._apart.pop() if self._apart else None)
             self._ours.add(int(connection.getsockname()[1]))
             session = Session.over(connection, port)
-            self._sessions.append(session)
+            self.sessions.append(session)
             greet(session)
             session.wait_at_most(None)
 
-    def tell_all(self, number: int, lines: List[str]) -> List[str]:
-        """The replies to lines of one session. Raises `Ended` where the program has ended."""
+    @contextlib.contextmanager
+    def asking(self, number: int) -> Iterator[Session]:
+        """A session, for as long as it is asked. Raises `Ended` where the program has ended."""
         try:
-            return list(self._sessions[number - 1].tell_all(lines))
+            yield self.sessions[number - 1]
         except Failure:
             raise Ended(f"rdbg has ended{self._why()}") from None
+
+    def tell_all(self, number: int, lines: List[str]) -> List[str]:
+        """The replies to lines of one session. Raises `Ended`."""
+        with self.asking(number) as session:
+            return list(session.tell_all(lines))
 
     def _why(self) -> str:
         """Why it ended, where it says so."""
@@ -178,7 +184,7 @@ class Host:
     def close(self) -> "Audit":
         """Ends all sessions, and answers what the program found at its end."""
         with self._closing():
-            for session in self._sessions:
+            for session in self.sessions:
                 session.close()
             said = self._said.read().decode("utf-8", "replace")
             status = self._process.wait()
@@ -190,7 +196,7 @@ class Host:
         try:
             yield
         finally:
-            for session in self._sessions:
+            for session in self.sessions:
                 session.close()
             for unused in self._apart:
                 unused.close()

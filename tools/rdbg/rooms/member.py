@@ -51,9 +51,10 @@ class Member:
         """The number of the session."""
         return self.seat.number
 
-    def ask(self, line: str) -> str:
-        """The reply to a line of rdbg. Raises `Refusal` for who has left, `Ended` at the end."""
-        return self._room.ask(self, line)
+    def ask(self, line: str, answer: Hear = lambda _: None) -> str:
+        """The reply to a line of rdbg, which is told in its turn. Raises `Refusal` for who has
+        left, `Ended` at the end."""
+        return self._room.ask(self, line, answer)
 
     def remark(self, line: str) -> None:
         """Does a line that begins with `#`, which is answered by notices."""

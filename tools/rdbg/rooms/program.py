@@ -1,18 +1,20 @@
 """The program of a room: what it was asked and answered, its target's place, who has the wheel."""
+import contextlib
 import threading
 import time
-from typing import Callable, Dict, List, Optional, Sequence
+from typing import Callable, Dict, Iterator, List, Optional, Sequence, Tuple
 
-from rdbg import record, replies
-from rdbg.commands import Command
+from rdbg import replies
 from rdbg.failure import Failure
 from rdbg.looks import Look
+from rdbg.replies import Refused
 from rdbg.rooms.host import Audit, Ended, Host
 from rdbg.driving.journal import Journal
 from rdbg.rooms.memory import Memory
 from rdbg.rooms.seats import Seat
-from rdbg.rooms.sight import Sight
-from rdbg.driving.target import UNCOUNTED, Limits, read, read_line
+from rdbg.driving import trail
+from rdbg.driving.parts import look_through
+from rdbg.driving.target import Limits, Target, read, read_line
 from rdbg.files.source import Source
 from rdbg.wording import counted
 
@@ -34,16 +36,19 @@ class Program:
         assert source.application is not None
         self.source, self.limits, self._seats = source, limits, seats
         self.host = Host.start(source, limits, len(seats))
+        self.target = target_of(self.host, source, limits)
+        self.target.hearing.append(self._hear)
+        # The session that asks, or has asked last.
+        self._asks = seats[0]
         self.journal, self.memory = Journal(), Memory()
-        self.sight = Sight(source.application)
+        # What there is, where that was looked at.
+        self._seen: Optional[Look] = None
         # Who has the wheel.
         self.holder: Optional[Seat] = None
         self.when_over: Callable[[str], None] = lambda why: None
         # Is told the audit of each program before this one, from another thread.
         self.when_ended: Callable[[Audit], None] = lambda audit: None
         self._rows: Dict[int, List[str]] = {}
-        # (an entry of the history is for the coming of each session, and one for its leaving)
-        self._used = 2 * len(seats)
         # (programs before this one, whose history was full: each ends in a thread)
         self._ending: List[threading.Thread] = []
         # (when a new one is tried to be had again, where that failed)
@@ -52,11 +57,11 @@ class Program:
     @property
     def place(self) -> int:
         """How many moves are done."""
-        return self.journal.place
+        return self.target.place
 
     def left(self) -> int:
         """For how many entries the history has room."""
-        return max(0, self.limits.history - self._used)
+        return max(0, self.limits.history - self.target.used)
 
     def can_look(self, lines: int) -> bool:
         """Whether the room may ask so many lines by itself."""
@@ -66,30 +71,33 @@ class Program:
         """The program's own reply to a line of a session. Raises `Ended`."""
         return self._ask_all(seat, [line])[0]
 
-    def _ask_all(self, seat: Seat, lines: List[str]) -> List[str]:
+    @contextlib.contextmanager
+    def _asking(self, seat: Seat) -> Iterator[Target]:
+        """The target, for as long as it is asked by a session. Raises `Ended`, which is told."""
+        self._asks = seat
         try:
-            answers = self.host.tell_all(seat.number, lines) if lines else []
+            with self.host.asking(seat.number) as session:
+                self.target.session = session
+                yield self.target
         except Ended as ended:
             self.when_over(str(ended))
             raise
-        self._take(seat, lines, answers)
-        return answers
 
-    def _take(self, seat: Seat, lines: Sequence[str], answers: Sequence[str]) -> None:
-        for line, reply in zip(lines, answers):
-            self._used += reply[len("no ") :] not in UNCOUNTED
-            command = read_line(line)
-            if command is not None:
-                self.memory.keep(seat.number, command, reply)
-                self._learn(seat, command, reply)
+    def _ask_all(self, seat: Seat, lines: List[str]) -> List[str]:
+        with self._asking(seat) as target:
+            return target.tell_all(lines)
 
-    def _learn(self, seat: Seat, command: Command, reply: str) -> None:
-        if command.form.is_look or reply.startswith("no "):
+    def _hear(self, line: str, reply: str, before: int) -> None:
+        """Takes note of a line of the session that asks, and of its reply."""
+        command = read_line(line)
+        if command is None:
             return
-        value = read(reply)
+        seat = self._asks
+        self.memory.keep(seat.number, command, reply)
+        value = None if command.form.is_look or reply.startswith("no ") else read(reply)
         if isinstance(value, replies.Moved):
             self._rows.clear()
-            self.sight.moved(command, value, self.place)
+            self._seen = None
             self.journal.moved(command, value)
         elif isinstance(value, replies.WheelDone):
             self.holder = seat if command.words[1] == "take" else None
@@ -98,50 +106,34 @@ class Program:
         elif isinstance(value, replies.WatchDone):
             seat.watches.pop(value.number, None)
 
-    def _looks(self, seat: Seat, lines: Sequence[str]) -> List[str]:
-        """The replies to looks, those that aren't known by one exchange."""
-        known: Dict[str, str] = {}
-        for line in lines:
-            command = read_line(line)
-            found = self.memory.known(seat.number, command) if command else None
-            if found is not None:
-                known[line] = found
-        asked = [line for line in lines if line not in known]
-        known.update(zip(asked, self._ask_all(seat, asked)))
-        return [known[line] for line in lines]
-
     def look(self, seat: Seat) -> Optional[Look]:
         """A look at all there is; none where too little of the history is left."""
-        if self.sight.last is None and self.can_look(len(self.sight.lines)):
-            self.sight.taken(self.place, self._looks(seat, self.sight.lines))
-        return self.sight.last
+        lines = self.target.names.lines()
+        if self._seen is None and self.can_look(len(lines)):
+            self._seen = Look.of(self.place, [read(it) for it in self._ask_all(seat, lines)])
+        return self._seen
 
     def last_rows(self, seat: Seat, most: int) -> List[str]:
         """What the last moves did, so many at the most; they aren't looked at twice."""
         if most not in self._rows:
-            found = self.rows(seat, 0, most)
-            self._rows[most] = found  # (which forgets what was known before)
+            self._rows[most] = self.rows(seat, 0, most)
         return self._rows[most]
 
     def rows(self, seat: Seat, place: int, most: int) -> List[str]:
         """What the last moves from a place on did, so many at the most, a row each: they are taken
         back, and made again with looks between them."""
-        lines = self.sight.lines
-        made = self.place - place
-        count = min(made, most, self.place - self.journal.base)
-        if count < 1 or not self.can_look((count + 1) * (len(lines) + 1)):
+        made, here = self.place - place, self.place
+        count = min(made, most, here - self.target.base)
+        if count < 1 or not self.can_look(trail.lines_for(count, self.target.names)):
             return []
-        asked = [record.back(count), *lines] + [record.again(), *lines] * count
-        answers, width = self._ask_all(seat, asked), len(lines) + 1
-        looks: List[Look] = []
-        for at in range(0, len(answers), width):
-            moved, *seen = answers[at : at + width]
-            value = None if moved.startswith("no ") else read(moved)
-            if not isinstance(value, replies.Moved):
-                return [f"the target is at {self.place}: what tells moves was answered {moved}"]
-            looks.append(self.sight.taken(value.at, seen))
+        try:
+            with self._asking(seat) as target:
+                part = look_through(target, here - count + 1, here)
+        except Refused as refused:
+            return [f"the target is at {self.place}: what tells moves was answered no {refused}"]
+        self._seen = part.looks[-1]
         more = [f".. {counted(made - count, 'move')} before these"] if made > count else []
-        return more + self.sight.rows(looks)
+        return more + trail.rows(part.moves)
 
     def renew(self) -> bool:
         """Goes on with a new program that is where this one is, and whose history has only what
@@ -149,78 +141,77 @@ class Program:
         ends meanwhile. Raises `Failure`."""
         if time.monotonic() < self._again:
             return False
-        seats, watches = self._seats, sum(len(it.watch_lines()) for it in self._seats)
-        checks = [*self.sight.lines, "show moves", "show wheel"]
+        checks = [*self.target.names.lines(), "show moves", "show wheel"]
         lines = self.journal.lines()
-        used = 2 * len(seats) + watches + len(lines) + len(checks) + 1
-        host = None
+        watches = sum(2 * len(it.watches) + len(it.watch_lines()) for it in self._seats)
+        used = 2 * len(self._seats) + watches + 1 + len(lines) + len(checks)
+        is_new = False
         try:
             if 2 * used <= self.limits.history:
-                host = Host.start(self.source, self.limits, len(seats), TRIES)
-                self._bring_here(host, lines, dict(zip(checks, self._looks(seats[0], checks))))
-        except Failure:
-            if host is not None:
-                host.kill()
-            self._again = time.monotonic() + AGAIN
-            raise
-        if host is None:
-            self._again = time.monotonic() + AGAIN
-            return False
-        self._go_on_with(host)
-        self._used = used
-        return True
-
-    def _go_on_with(self, host: Host) -> None:
-        old, self.host = self.host, host
-        thread = threading.Thread(target=lambda: self.when_ended(old.close()))
-        self._ending.append(thread)
-        thread.start()
+                self._go_on(self.source, lines, checks)
+                is_new = True
+        finally:
+            self._again = 0.0 if is_new else time.monotonic() + AGAIN
+        return is_new
 
     def reload(self, source: Source, lines: List[str]) -> List[str]:
-        """Goes on with a new program that has another source, where these lines lead, as `renew`
-        does. Answers the watches that it refuses, which are dropped. Raises `Failure`."""
+        """Goes on with a new program that has another source, where these lines lead. Answers the
+        watches that it refuses, which are dropped. Raises `Failure`."""
         assert source.application is not None
-        seats = self._seats
-        host = Host.start(source, self.limits, len(seats), TRIES)
+        answers, dropped = self._go_on(source, lines, [])
+        self.source, self._seen = source, None
+        self.journal, self.memory = Journal(), Memory()
+        self._rows.clear()
+        for line, reply in zip(lines, answers):
+            self._hear(line, reply, 0)
+        return dropped
+
+    def _go_on(
+        self, source: Source, lines: List[str], checks: List[str]
+    ) -> Tuple[List[str], List[str]]:
+        """Goes on with a new program, which these lines bring where it is to be. Answers what it
+        replied to them, and the watches that it refuses. Raises `Failure` where it refuses one of
+        them, or answers these looks otherwise. (Where the history of the one before is full, that
+        shows nothing any more: then the same moves have to do.)"""
+        host = Host.start(source, self.limits, len(self._seats), TRIES)
+        target = target_of(host, source, self.limits)
         try:
-            answers = host.tell_all(seats[0].number, lines)
+            answers = host.tell_all(1, lines)
             refused = next((it for it in answers if it.startswith("no ")), None)
             if refused is not None:
                 raise Failure(f"the new rdbg answered {refused}")
-            used = sum(2 * len(it.watches) + len(it.watch_lines()) for it in seats)
-            dropped = [it for seat in seats for it in watch_again(host, seat)]
+            dropped = [it for seat in self._seats for it in watch_again(host, seat)]
             if self.holder is not None:
                 host.tell_all(self.holder.number, ["wheel take"])
+            before = self._ask_all(self._seats[0], checks)
+            for was, reply in zip(before, host.tell_all(1, checks)):
+                if reply != was != FULL:
+                    raise Failure(f"the new rdbg shows {reply}, and the old one {was}")
         except BaseException:
             host.kill()
             raise
-        self._go_on_with(host)
-        self.source, self.sight = source, Sight(source.application)
-        self.journal, self.memory, self._used = Journal(), Memory(), 2 * len(seats) + used + 1
-        self._rows.clear()
-        self._take(seats[0], lines, answers)
-        return dropped
-
-    def _bring_here(self, host: Host, lines: List[str], was: Dict[str, str]) -> None:
-        """Brings a new program where this one is. Raises `Failure` where it doesn't do what it is
-        told, or shows something else than this one does. (One whose history is full shows nothing
-        any more: then the same moves have to do.)"""
-        answers = host.tell_all(1, lines)
-        for seat in self._seats:
-            answers += host.tell_all(seat.number, seat.watch_lines())
-        if self.holder is not None:
-            answers += host.tell_all(self.holder.number, ["wheel take"])
-        refused = [it for it in answers if it.startswith("no ")]
-        if refused:
-            raise Failure(f"the new rdbg answered {refused[0]}")
-        for line, reply in zip(was, host.tell_all(1, list(was))):
-            if reply != was[line] != FULL:
-                raise Failure(f"the new rdbg shows {reply}, and the old one {was[line]}")
+        old, self.host, self.target = self.host, host, target
+        target.hearing.append(self._hear)
+        thread = threading.Thread(target=lambda: self.when_ended(old.close()))
+        self._ending.append(thread)
+        thread.start()
+        return answers, dropped
 
     def wait(self) -> None:
         """Waits until the programs before this one have ended."""
         for thread in self._ending:
             thread.join()
+
+
+def target_of(host: Host, source: Source, limits: Limits) -> Target:
+    """What the sessions of a program that has begun have told, whichever of them it was."""
+    first, *others = host.sessions
+    target = Target(first, source.application, limits)
+    for other in others:
+        other.on_line = first.on_line
+    # (an entry of the history is for the coming of each session, and one for its leaving)
+    target.used = 2 * len(host.sessions)
+    return target
 
 
 def watch_again(host: Host, seat: Seat) -> List[str]:

@@ -2,22 +2,22 @@
 import collections
 import threading
 import time
-from typing import Callable, Deque, Dict, List, NamedTuple, Optional, Set
+from typing import Callable, Deque, Dict, List, Optional, Set
 
 from rdbg import record
 from rdbg.commands import MOST_BYTES, TARGET, Command
 from rdbg.failure import Failure
 from rdbg.rooms import reloading, remarks
 from rdbg.rooms.counts import Counts
-from rdbg.rooms.doings import Doing
+from rdbg.rooms.doings import Doing, effect, is_single, next_of
 
 from rdbg.rooms.host import MOST_SESSIONS, Audit, Ended
 from rdbg.rooms.member import Hear, Member, Notice
 from rdbg.rooms.program import FULL, HISTORY, SCARCE, Program
 from rdbg.rooms.seats import Refusal, Seat, Seats, check
-from rdbg.rooms.sight import is_single
 from rdbg.rooms.talk import Talk
 from rdbg.rooms.turns import Turns
+from rdbg.driving import trail
 from rdbg.driving.target import Limits, read_line
 from rdbg.shown import shown
 from rdbg.files.source import Source
@@ -33,17 +33,6 @@ FEW, MOST_HEARD = 5, 500
 IDLE = 60
 # It is said when so little of the history is left, one part of so many.
 NEARLY = (SCARCE, 100)
-
-
-class Person(NamedTuple):
-    """Somebody who has a session of a room."""
-
-    name: str
-    session: int
-    is_here: bool
-    has_wheel: bool
-    # For how many seconds it has said nothing; 0 of who is away.
-    silence: int
 
 
 class Room:
@@ -123,7 +112,7 @@ class Room:
 
     def _hand_over(self, seat: Seat) -> None:
         """Takes a session from who is away, for another one, with what was kept there."""
-        has = self._program.holder is seat
+        has = self.holder is seat
         lines = [f"unwatch {number}" for number in sorted(seat.watches)]
         for line in lines + (["wheel give"] if has else []):
             self._program.ask(seat, line)
@@ -162,7 +151,7 @@ class Room:
     def leave(self, member: Member, why: str = "") -> None:
         """Somebody is away."""
         with self._turns:
-            if not member.is_here:
+            if not member.is_here or self.is_over:
                 return
             self.end(member, f"broken off, at {self.place}")
             member.is_here = False
@@ -172,13 +161,13 @@ class Room:
             if not member.is_told:  # (nobody knows of it, and it has said nothing)
                 self._seats.clear(member.seat)
                 return
-            has = ", with the wheel" if self._program.holder is member.seat else ""
+            has = ", with the wheel" if self.holder is member.seat else ""
             text = f"is away{has}" + (f" ({why})" if why else "")
             self._keep(member.name, "#", text)
             self.tell(f"{member.name} {text}")
 
-    def ask(self, member: Member, line: str) -> str:
-        """The reply to a line of somebody's."""
+    def ask(self, member: Member, line: str, answer: Hear) -> str:
+        """The reply to a line of somebody's, which is told before anybody else has a turn."""
         with self._turns:
             if not member.is_here:
                 raise Refusal(f"{member.name} has left")
@@ -197,6 +186,7 @@ class Room:
                 self._keep(member.name, line, reply)
                 self.counts.line(member.name, command, reply, self.place - place)
             self._warn(member, reply)
+            answer(reply)
             return reply
 
     def begin(self, member: Member, text: str) -> None:
@@ -237,7 +227,7 @@ class Room:
             return self._program.ask(member.seat, sent)
         if reply is None:
             reply = self._change(member, command, sent)
-        holder = self._program.holder
+        holder = self.holder
         if reply.startswith(HELD) and holder is not None:
             away = "" if holder.is_here else " and is away"
             member.hear(f"# {holder.name} has the wheel{away}: '# wheel' asks for it")
@@ -246,24 +236,24 @@ class Room:
     def _change(self, member: Member, command: Command, line: str) -> str:
         """The reply to a line that changes something, or is refused; all are told what it did."""
         seat, place = member.seat, self.place
-        single = is_single(command) and self._program.holder in (None, seat)
+        single = is_single(command) and self.holder in (None, seat)
         before = self._program.look(seat) if single else None
         reply = self._program.ask(seat, line)
         if reply.startswith("no "):
             return reply
-        effect, rows = "", []
+        came, rows, target = "", [], self._program.target
         if before is not None:
             after = self._program.look(seat)
-            effect = self._program.sight.effect(command, before, after) if after else ""
+            came = effect(command, trail.between(target, before, after)) if after else ""
         elif command.form.word == record.BACK:
             after = self._program.look(seat)
-            effect = f"next: {self._program.sight.next(after)}" if after else ""
+            came = f"next: {next_of(target.application, after)}" if after else ""
         elif command.form.moves:
             rows = self._program.rows(seat, place, FEW)
         said = " ".join(command.words)
         for told in self._followers:
             told(said, reply)
-        done = f"{member.name}: {said} -> {reply}" + (f", {effect}" if effect else "")
+        done = f"{member.name}: {said} -> {reply}" + (f", {came}" if came else "")
         self._tell_done(member, command, [done, *rows])
         return reply
 
@@ -358,7 +348,7 @@ class Room:
 
     def begin_reload(self, member: Member) -> str:
         """Begins to read the file anew, for who has the wheel. Raises `Refusal`."""
-        if self._program.holder is not member.seat:
+        if self.holder is not member.seat:
             raise Refusal("who has the wheel reads the file anew: `wheel take`")
         if self.is_reloading:
             raise Refusal("the file is read anew already")
@@ -372,7 +362,7 @@ class Room:
             was = self.lines()
             source, lines, said = reloading.made_again(self.app_source, was)
             with self._turns:
-                if self.is_over or not member.is_here or self._program.holder is not member.seat:
+                if self.is_over or not member.is_here or self.holder is not member.seat:
                     why = "the wheel was given back, or the room has ended, before it was read"
                     raise Refusal(why)
                 if self._program.journal.lines() != was:
@@ -390,17 +380,17 @@ class Room:
         finally:
             self.is_reloading = False
 
-    def people(self) -> List[Person]:
-        """Who has a session, here or away."""
-        seats = self._seats.by_name().items()
-        holder = self._program.holder
-        return [
-            Person(name, it.number, it.is_here, it is holder, self._silence(it))
-            for name, it in seats
-        ]
+    @property
+    def holder(self) -> Optional[Seat]:
+        """Who has the wheel, here or away."""
+        return self._program.holder
 
-    def _silence(self, seat: Seat) -> int:
-        """For how many seconds who has a session has said nothing."""
+    def people(self) -> List[Seat]:
+        """Who has a session, here or away."""
+        return list(self._seats.by_name().values())
+
+    def silence(self, seat: Seat) -> int:
+        """For how many seconds who has a session has said nothing; 0 of who is away."""
         member = self._members.get(seat.number)
         return member.silence() if member is not None else 0
 
@@ -408,22 +398,22 @@ class Room:
         """Who is here and who of them is idle, who is away, and who has the wheel."""
         texts: Dict[bool, List[str]] = {True: [], False: []}
         for it in self.people():
-            has = ", has the wheel" if it.has_wheel else ""
-            idle = f", idle for {counted(it.silence, 'second')}" if it.silence >= self.idle else ""
-            texts[it.is_here].append(f"{it.name} (session {it.session}{has}{idle})")
+            has = ", has the wheel" if it is self.holder else ""
+            silence = self.silence(it)
+            idle = f", idle for {counted(silence, 'second')}" if silence >= self.idle else ""
+            texts[it.is_here].append(f"{it.name} (session {it.number}{has}{idle})")
         away = f"; away: {', '.join(texts[False])}" if texts[False] else ""
         return f"here: {', '.join(texts[True])}{away}"
 
     def tell_moves(self, member: Member, count: int) -> str:
         """Tells somebody the last moves. They are looked at with the session that may move."""
-        program = self._program
-        for row in program.last_rows(program.holder or member.seat, count):
+        for row in self._program.last_rows(self.holder or member.seat, count):
             member.hear(f"# {row}")
         return self.tell_place(member)
 
     def tell_place(self, member: Member) -> str:
         """Tells somebody where the target stands."""
-        text = record.at(self.place, self._program.journal.undone)
+        text = record.at(self.place, self._program.target.undone)
         member.hear(f"# {text}")
         return text
 
@@ -446,7 +436,7 @@ class Room:
     def wheel_wanted(self, member: Member) -> str:
         """Somebody asks for the wheel. Who has it is told; where that one is away, it is given up
         by who asks once more. Answers what all are told. Raises `Refusal`."""
-        seat = self._program.holder
+        seat = self.holder
         if seat is None:
             raise Refusal("the wheel is free: `wheel take`")
         if seat is member.seat:
@@ -471,12 +461,12 @@ class Room:
             return text if text.startswith("no: ") else self.tell(text)
 
     def _freed(self) -> str:
-        seat = self._program.holder
+        seat = self.holder
         if self.is_over:
             raise Refusal("the room has ended")
         if seat is None:
             raise Refusal("nobody has the wheel")
-        member, silence = self._members.get(seat.number), self._silence(seat)
+        member, silence = self._members.get(seat.number), self.silence(seat)
         if member is not None and silence < self.idle:
             waited, enough = (counted(it, "second") for it in (silence, self.idle))
             why = f"{waited} without a line, {enough} would do"

@@ -2,16 +2,14 @@
 import contextlib
 import io
 import select
-import socket
 import threading
-from http.server import BaseHTTPRequestHandler, HTTPServer
-from socketserver import ThreadingMixIn
+from http.server import BaseHTTPRequestHandler
 from typing import Any, Callable, Dict, Optional
 
 from rdbg.client import LOCAL
 from rdbg.commands import is_number
-from rdbg.door import Door, Unheard, turn_away
-from rdbg.failure import Failure, trying
+from rdbg.door import Door, Entrance, Unheard
+from rdbg.failure import Failure
 from rdbg.rooms import web_document
 from rdbg.rooms import web_guard as guard
 from rdbg.rooms.room import Refusal, Room
@@ -172,23 +170,19 @@ class Handler(BaseHTTPRequestHandler):
         """Says nothing."""
 
 
-class Served(ThreadingMixIn, HTTPServer):
+class Served(Entrance):
     """The pages of a room, until they are closed."""
 
-    daemon_threads, block_on_close = True, False
-    request_queue_size = 64
-
-    def __init__(self, room: Room, port: int, door: Door) -> None:
-        self.room, self._door = room, door
+    def __init__(self, room: Room, port: int, door: Optional[Door] = None) -> None:
+        """Serves them at a port, or at a free one where it is 0. Raises `Failure` for none."""
+        self.room = room
         # (the one lets a browser in, once; the other one it has for it, and says with each request)
         self.key, self.token = guard.Key(), guard.new()
-        self.unread, self.pages = Unheard(guard.MOST_UNREAD, guard.SECONDS), Pages(room)
-        self.page = web_document.page()
+        self.pages, self.page = Pages(room), web_document.page()
         self.of_room = as_json(web_document.of_room(room.app_source))
         room.when_reloaded = self._reload
         self.has_ended = False
-        super().__init__((LOCAL, port), Handler)
-        self.port: int = self.server_address[1]
+        super().__init__(port, door or Door(), Unheard(guard.MOST_UNREAD, guard.SECONDS), Handler)
         try:
             self.follower = Follower(room, self.pages.tell)
         except BaseException:
@@ -217,34 +211,15 @@ class Served(ThreadingMixIn, HTTPServer):
         `#` a browser keeps for the page, and sends nobody.)"""
         return f"http://{LOCAL}:{self.port}/#{self.key.text}"
 
-    def server_bind(self) -> None:
-        """Takes the port, also where pages of a room that has ended were there a moment ago. (The
-        name of the machine, which others look for here, isn't asked.)"""
-        self.socket.setsockopt(socket.SOL_SOCKET, socket.SO_REUSEADDR, 1)
-        self.socket.bind(self.server_address)
-        self.server_address = self.socket.getsockname()
-        self.server_name, self.server_port = LOCAL, self.server_address[1]
+    def say_where(self, ends: contextlib.ExitStack, is_terminal: bool) -> str:
+        """What is said of where the page is, up to the end that is given; from here on its address
+        is said anew once it was used. Raises `Failure` where that can't be."""
+        where, say = ends.enter_context(guard.said(self.address, is_terminal))
+        self.key.say = lambda: say(self.address)
+        return where
 
-    def verify_request(self, request: Any, client_address: Any) -> bool:
-        """Whether a connection is let in, before anything of it is read. Who isn't is told why."""
-        why = self._door.why_not(request, "this room")
-        if why:
-            turn_away(request, guard.refusal(why))
-        return not why
-
-    def process_request(self, request: Any, client_address: Any) -> None:
-        """Begins a thread for a connection."""
-        self.unread.add(request)
-        super().process_request(request, client_address)
-
-    def shutdown_request(self, request: Any) -> None:
-        """A connection has been served."""
-        self.unread.remove(request)
-        super().shutdown_request(request)
-
-    def service_actions(self) -> None:
-        """Is called now and then."""
-        self.unread.drop_late()
+    def refusal(self, why: str) -> bytes:
+        return guard.refusal(why)
 
     def handle_error(self, request: Any, client_address: Any) -> None:
         """Says nothing: the connection has gone, or it said what is no request."""
@@ -257,10 +232,3 @@ class Served(ThreadingMixIn, HTTPServer):
         self._thread.join()
         self.pages.wait(LAST_SECONDS)
         self.follower.close()
-
-
-def serve(room: Room, port: int, door: Optional[Door] = None) -> Served:
-    """Serves the pages of a room at a port of this machine, or at a free one where it is 0. Raises
-    `Failure` where it can't be had."""
-    with trying(f"listen at port {port}"):
-        return Served(room, port, door or Door())

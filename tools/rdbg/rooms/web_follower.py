@@ -4,29 +4,34 @@ import threading
 from typing import Callable, Dict, List, Optional
 
 from rdbg import record, replies
+from rdbg.failure import Failure
+from rdbg.replies import Refused
 from rdbg.rooms.room import Room
-from rdbg.rooms.web_known import Known, Piece
+from rdbg.rooms.web_known import Known
 from rdbg.rooms.web_mirror import Differs, Mirror
-from rdbg.rooms.web_past import WRONG, Past
-from rdbg.driving.target import read
-from rdbg.driving.parts import Part, Told
+from rdbg.driving.target import Unable, read
+from rdbg.driving.parts import Told
 
 # A line that made at most so many moves is looked at as a whole, where that takes so few seconds.
 # Of more, and where so many lines have come in a heap, the last moves are looked at, so many, and
-# those before behind them.
+# those before behind them: in pieces that take as long, within bounds.
 SHORT, SECONDS, HEAP, LAST = 64, 0.1, 32, 24
+LEAST, MOST = 8, 1_024
 # So many lines are done before pages are told where the target is.
 MOST_HEAP = 1_000
 # Of moves that were taken back so many are looked at.
 MOST_AHEAD = 1_000
+# What doing the moves of a room anew can end with.
+WRONG = (Failure, Refused, Unable)
 Values = Dict[str, object]
 # Is told what pages have to show, by a word on what it is; `run` means all anew.
 Tell = Callable[[str, Values], None]
 
 
 class Follower:
-    """A thread that does each move of a room in a program of its own, and says what it did. `guard`
-    is held while something is said, so that who holds it sees all that was said before."""
+    """A thread that does each move of a room in a program of its own, and says what it did; while
+    none comes it looks at earlier ones, and at those that were taken back. `guard` is held while
+    something is said, so that who holds it sees all that was said before."""
 
     def __init__(self, room: Room, tell: Tell) -> None:
         source = room.app_source
@@ -40,7 +45,6 @@ class Follower:
         lines = room.follow(self.told)
         self._mirror = Mirror(source, lines)
         self.known = Known(source.application, self._mirror.newest(LAST))
-        self._past = Past(self, source, lines)
         self._thread = threading.Thread(target=self._follow, daemon=True)
         self._thread.start()
 
@@ -55,7 +59,6 @@ class Follower:
         """Ends it."""
         self._heap.put(None)
         self._thread.join()
-        self._past.close()
 
     @property
     def _end(self) -> int:
@@ -77,15 +80,6 @@ class Follower:
             "lost": self.lost,
         }
 
-    def wanted(self, count: int) -> Optional[Piece]:
-        """The moves that are to be looked at next, so many at the most, for who holds the guard."""
-        return None if self.lost else self.known.wanted(count, self._end)
-
-    def found(self, piece: Piece, part: Part) -> None:
-        """What earlier moves did, or moves that were taken back, for who holds the guard."""
-        behind = self.known.put(piece, part)
-        self._tell("more" if behind else "now", {**(behind or {}), **self._now()})
-
     def lose(self, why: Exception) -> None:
         """It can't go on, for who holds the guard."""
         self.lost = self.lost or f"the lanes don't follow any more: {why}"
@@ -93,13 +87,28 @@ class Follower:
 
     def _follow(self) -> None:
         try:
-            while self._take(self._heap.get()):
+            while self._look() or self._take(self._heap.get()):
                 pass
         except WRONG as wrong:
             with self.guard:
                 self.lose(wrong)
         finally:
             self._mirror.close()
+
+    def _look(self) -> bool:
+        """Looks at a piece of the moves that aren't known yet; false where a line has come, or there
+        is nothing to look at."""
+        if self.lost or not self._heap.empty():
+            return False
+        count = max(LEAST, min(self._mirror.count(SECONDS), MOST))
+        piece = self.known.wanted(count, self._end)
+        if piece is None:
+            return False
+        part = self._mirror.part(*piece)
+        with self.guard:
+            behind = self.known.put(part)
+            self._tell("more" if behind else "now", {**behind, **self._now()})
+        return True
 
     def _take(self, told: Optional[Told]) -> bool:
         """Does a line, and those that have come since; false where the last has come."""
@@ -119,11 +128,9 @@ class Follower:
             else:
                 self._tell("now", self._now())
             self.count_done += len(lines)
-        self._past.wake()
         return len(lines) == len(heap)
 
     def _do(self, told: Told, is_heap: bool) -> None:
-        self._past.told(told)
         word = told.text.split(" ")[0]
         if word == record.TRIM:
             self.known.trims = [*self.known.trims, [told.place, told.text]]
@@ -134,12 +141,13 @@ class Follower:
             self._make(told, is_heap)
 
     def _make(self, told: Told, is_heap: bool) -> None:
-        count = told.place - self._mirror.place
+        here = self._mirror.place
+        count = told.place - here
         if count < 1:
             raise Differs(f"{told.text} led to {told.place}")
-        is_known = self.known.cut(self._mirror.place)
-        if not is_known or is_heap or count > max(1, min(self._mirror.count(SECONDS), SHORT)):
-            self._mirror.do(told)
-            return
-        part = self._mirror.do_and_look(told)
-        self._tell("more", {**self.known.add(part), **self._now()})
+        is_short = count <= max(1, min(self._mirror.count(SECONDS), SHORT))
+        is_known = self.known.cut(here)
+        self._mirror.do(told)
+        if is_known and is_short and not is_heap:
+            part = self._mirror.part(here + 1, told.place)
+            self._tell("more", {**self.known.add(part), **self._now()})

@@ -33,7 +33,9 @@ SYNTAX = "no Syntax"
 
 def goal_in(line: str, reply: str) -> Sequence[str]:
     """The goal of a run or a way back that was made, which has no COUNT behind it then."""
-    words = line.split()
+    way, words = typed(line), line.split()
+    if way is not None:
+        return reply.partition(" met: ")[2].split() if reply.startswith("at ") else ()
     behind = words[2:] if words[:2] == [record.BACK, "until"] else words[1:-1]
     is_run = words[:1] == ["until"] or words[:2] == [record.BACK, "until"]
     return behind if is_run and reply.startswith("ok ") else ()
@@ -81,28 +83,8 @@ def typed(line: str) -> Optional[Typed]:
     return Typed(head[0].startswith("until"), head[0].endswith("!"), behind)
 
 
-def gone(room: Room, member: Member, line: str, it: Typed) -> str:
-    """Goes to a goal, and answers where that is; all are told of it as of one line."""
-    if not it.goal:
-        return f"{SYNTAX}: to what? a goal, as `{line.strip()} asleep`"
-    has_wheel = any(who.has_wheel and who.session == member.session for who in room.people())
-    room.begin(member, line.strip())
-    reply = "" if has_wheel else member.ask("wheel take")
-    if reply.startswith("no "):
-        room.end(member, "")
-        return reply
-    said = ""
-    try:
-        said = to_place(room, member, it)
-        return said
-    finally:
-        if not has_wheel:
-            member.ask("wheel give")
-        room.end(member, said)
-
-
 def to_place(room: Room, member: Member, it: Typed) -> str:
-    """Finds the place, and goes there."""
+    """Goes to a goal, and answers where that is: the place is found, and gone to by one line."""
     target = begin(room.app_source, Limits(Limits.moves, commands.MOST_COUNT))
     with target.session:
         target.tell_all(room.lines())

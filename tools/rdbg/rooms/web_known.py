@@ -1,5 +1,5 @@
 """What is known of a room's moves: blocks, one behind the other, of which a page shows a chain."""
-from typing import Any, Dict, List, NamedTuple, Optional
+from typing import Any, Dict, List, Optional, Tuple
 
 from rdbg.application import Application
 from rdbg.page.recorder import Recorder
@@ -12,14 +12,6 @@ BLOCK_MOVES, BLOCK_VALUES = 1_024, 20_000
 # A page begins with so many moves before a place, where they are known.
 NEAR = 24
 Values = Dict[str, object]
-
-
-class Piece(NamedTuple):
-    """Moves that should be looked at: the first and the last place, and since when that is so."""
-
-    first: int
-    last: int
-    version: int
 
 
 def block(application: Application, part: Part) -> Recorder:
@@ -42,9 +34,6 @@ class Known:
         self.trims: List[List[Any]] = []
         # Whether other moves than those of the chain have been made since.
         self._is_void = False
-        # Counts how often moves were dropped, or others are shown. (What was looked at meanwhile
-        # may be of moves that are gone.)
-        self.version = 0
 
     @property
     def first(self) -> int:
@@ -64,7 +53,6 @@ class Known:
         """Shows a place of what was known before, and keeps in its stead what was shown; if any."""
         older, self._older = self._older, [] if self._is_void else self._chain
         self._is_void = False
-        self.version += 1
         if not older or not older[0].first <= place <= older[-1].last:
             return False
         self._chain, self._older = older, []
@@ -92,8 +80,6 @@ class Known:
     def cut(self, place: int) -> bool:
         """Forgets the moves behind a place, where others are made; whether the chain ends there."""
         self.trims = [it for it in self.trims if it[0] <= place]
-        if place != self.last:
-            self.version += 1
         if place < self.first and self._older:
             self._chain, self._older = self._older, []
         self._is_void = self._is_void or place < self.first
@@ -116,17 +102,15 @@ class Known:
             end.add(part)
         return {"cut": place, "last": self.last, **end.behind(place)}
 
-    def wanted(self, count: int, end: int) -> Optional[Piece]:
-        """At most so many moves that should be looked at next: those behind the last one, which
-        were taken back, up to an end; then those before the first one."""
+    def wanted(self, count: int, end: int) -> Optional[Tuple[int, int]]:
+        """The first and the last place of at most so many moves that should be looked at next: those
+        behind the last one, which were taken back, up to an end; then those before the first."""
         if self._is_void:
             return None
         if self.last < end and self.last - self.first < MOST_MOVES:
-            return Piece(self.last + 1, min(self.last + count, end), self.version)
+            return self.last + 1, min(self.last + count, end)
         least = self._least()
-        if least < self.first:
-            return Piece(max(least, self.first - count) + 1, self.first, self.version)
-        return None
+        return (max(least, self.first - count) + 1, self.first) if least < self.first else None
 
     def missing(self, end: int) -> int:
         """How many moves there are that should be looked at."""
@@ -138,17 +122,13 @@ class Known:
         least = max(0, self.last - MOST_MOVES)
         return max(least, self._older[-1].last) if self._older else least
 
-    def put(self, piece: Piece, part: Part) -> Optional[Values]:
-        """Takes note of a piece that was looked at, unless it isn't wanted any more, and answers
-        what a page has to add behind, if that is so."""
-        if piece.version != self.version:
-            return None
-        if piece.first == self.last + 1:
+    def put(self, part: Part) -> Values:
+        """Takes note of moves that were wanted, and answers what a page has to add behind."""
+        if part.before.place == self.last:
             return self.add(part)
-        if piece.last == self.first:
-            self._chain.insert(0, block(self._application, part))
-            self._join()
-        return None
+        self._chain.insert(0, block(self._application, part))
+        self._join()
+        return {}
 
     def forget(self) -> bool:
         """Forgets the oldest moves where there are too many, and answers whether it did."""
@@ -157,7 +137,6 @@ class Known:
         while len(self._chain) > 1 and self.last - self._chain[0].last >= MOST_MOVES:
             self._chain.pop(0)
         self.trims = [it for it in self.trims if it[0] >= self.first]
-        self.version += 1
         return True
 
     def around(self, place: int) -> Values:

@@ -2,12 +2,11 @@
 place of the history that all share, and nobody waits for them."""
 import contextlib
 import time
-from typing import Optional, Sequence
+from typing import Sequence
 
 from rdbg import record
 from rdbg.commands import MOST_COUNT
 from rdbg.failure import Failure
-from rdbg.looks import Look
 from rdbg.replies import Moved
 from rdbg.driving.journal import Journal
 from rdbg.driving import trail
@@ -35,8 +34,6 @@ class Mirror:
         self._source, self._limits = source, Limits(MOST_COUNT, HISTORY)
         self._journal = Journal()
         self._target = begin(self._source, self._limits)
-        # What there is at the place, where that is known.
-        self._look: Optional[Look] = None
         self._seconds = GUESS
         for line in lines:
             self.tell(line)
@@ -49,7 +46,7 @@ class Mirror:
     @property
     def undone(self) -> int:
         """How many moves can be made again."""
-        return self._target.place + self._target.undone - self.place
+        return self._journal.undone
 
     def close(self) -> None:
         """Ends the program."""
@@ -59,8 +56,8 @@ class Mirror:
         """Does what a line does that changes the target. One that trims does nothing here."""
         if line.split(" ")[0] == record.TRIM:
             return
-        self._return(1)
-        self._look = None
+        self._room(1 + abs(self._target.place - self.place) // LEAST_PIECE)
+        Walk(self._target, Interrupt()).goto(self.place)
         reply = self._target.tell(line)
         command = read_line(line)
         value = None if reply.startswith("no ") else read(reply)
@@ -78,24 +75,6 @@ class Mirror:
             self.tell(told.text if word in SINGLE else f"forward {count}")
         if self.place != told.place:
             raise Differs(f"{told.text} led to {told.place}, and here to {self.place}")
-
-    def look(self) -> Look:
-        """What there is at the place."""
-        if self._look is None:
-            self._return(len(self._target.names.lines()))
-            self._look = self._target.look()
-        return self._look
-
-    def do_and_look(self, told: Told) -> Part:
-        """Does what a line did that made new moves, and looks at each of them."""
-        here = self.place
-        if told.place != here + 1:
-            self.do(told)
-            return self.part(here + 1, told.place)
-        before = self.look()
-        self.do(told)
-        after = self.look()
-        return Part(before, (trail.between(self._target, before, after),), (after,))
 
     def part(self, first: int, last: int) -> Part:
         """The moves to these places, done or undone, with looks. The program comes back only before
@@ -116,11 +95,6 @@ class Mirror:
     def count(self, seconds: float) -> int:
         """How many moves can be looked at in so many seconds, as it was seen last."""
         return int(seconds / self._seconds)
-
-    def _return(self, lines: int) -> None:
-        """Comes back from where it has looked, with room for so many lines."""
-        self._room(lines + abs(self._target.place - self.place) // LEAST_PIECE)
-        Walk(self._target, Interrupt()).goto(self.place)
 
     def _room(self, lines: int) -> None:
         """Has a new program do what this one did where there is no room for so many lines."""

@@ -123,10 +123,10 @@ class Page:
         people = [
             {
                 "name": it.name,
-                "session": it.session,
+                "session": it.number,
                 "isHere": it.is_here,
-                "hasWheel": it.has_wheel,
-                "idle": it.silence // 60 if it.silence >= room.idle else None,
+                "hasWheel": it is room.holder,
+                "idle": room.silence(it) // 60 if room.silence(it) >= room.idle else None,
             }
             for it in room.people()
         ]
@@ -149,9 +149,6 @@ class Page:
                 if line.lstrip(" ").startswith("#"):
                     self.member.remark(line)
                     return ""
-                way = web_goals.typed(line)
-                if way is not None:
-                    return self._gone(line, way)
                 return self._said(line)
         finally:
             self._lines.release()
@@ -162,13 +159,6 @@ class Page:
         said = self._prompt.said(line)
         self._goal = web_goals.goal_in(line, said) or self._goal
         return said
-
-    def _gone(self, line: str, way: web_goals.Typed) -> str:
-        """Goes to a goal for which rdbg has no line."""
-        reply = web_goals.gone(self._room, self.member, line, way)
-        if reply.startswith("at "):
-            self._goal = reply.split(" met: ", 1)[1].split()
-        return reply
 
     def _answered(self, words: Sequence[str]) -> str:
         """The answer to a question, of the goal before where it says none."""
@@ -202,8 +192,7 @@ class Pages:
 
     def tell(self, kind: str, values: Values) -> None:
         """Tells all pages what moves did."""
-        with self._guard:
-            pages = list(self._open.values())
+        pages = self._all()
         if pages:
             text = as_json(values)
             for page in pages:
@@ -211,10 +200,12 @@ class Pages:
 
     def end_all(self) -> None:
         """All pages are to be loaded anew."""
-        with self._guard:
-            pages = list(self._open.values())
-        for page in pages:
+        for page in self._all():
             page.end()
+
+    def _all(self) -> List[Page]:
+        with self._guard:
+            return list(self._open.values())
 
     def open(self, name: Optional[str]) -> Page:
         """A page comes, by a name, or by one that nobody has. Raises `Refusal`."""
@@ -251,12 +242,8 @@ class Pages:
     def wait(self, seconds: float) -> None:
         """Wakes all who write what waits, and waits until they have ended, so long at the most."""
         until = time.monotonic() + seconds
-        while time.monotonic() < until:
-            with self._guard:
-                pages = list(self._open.values())
-            if not pages:
-                return
-            for page in pages:
+        while self._all() and time.monotonic() < until:
+            for page in self._all():
                 page.wake()
             time.sleep(0.01)
 

@@ -5,6 +5,8 @@ from typing import Dict, Iterable, Iterator
 from rdbg.client import Session
 from rdbg.commands import MOST_BYTES
 from rdbg.driving.target import Target
+from rdbg.replies import Refused
+from rdbg.rooms import web_goals
 from rdbg.rooms.quiet import Quiet
 from rdbg.rooms.room import Member, Room
 from rdbg.shell.words import BY_NAME
@@ -51,9 +53,9 @@ class Prompt(Quiet):
 
     def hint_on(self, line: str, reply: str) -> None:
         """Says of a refusal what would be right, and of the wheel who has it."""
-        holder = next((it.name for it in self._room.people() if it.has_wheel), None)
+        holder = self._room.holder
         if reply.startswith("no Held") and holder is not None:
-            self.hint(f"{holder} has the wheel: `# wheel` asks for it")
+            self.hint(f"{holder.name} has the wheel: `# wheel` asks for it")
         else:
             super().hint_on(line, reply)
 
@@ -69,4 +71,19 @@ class Prompt(Quiet):
             most = f"a line has at most {MOST_BYTES} bytes, and no other behind it"
             return f"{self._member.ask(line)}: {most}"
         self.target.moved_by_others(self._room.place)
+        self.target.has_wheel = self._room.holder is self._member.seat
         return super().said(line)
+
+    def do(self, text: str) -> None:
+        """Does a line. To a goal for which rdbg has no line one goes as others are told of one."""
+        way = web_goals.typed(text)
+        if way is None:
+            super().do(text)
+        elif not way.goal:
+            self.say(f"{web_goals.SYNTAX}: to what? a goal, as `{text.strip()} asleep`")
+        else:
+            try:
+                with self.wheel():
+                    self.say(web_goals.to_place(self._room, self._member, way))
+            except Refused as refused:
+                self.say(f"no {refused}")
