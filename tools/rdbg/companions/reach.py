@@ -36,13 +36,12 @@ def program() -> str:
 
 def question_of(asked: Words) -> Question:
     """Which question is asked of the goal."""
-    words = asked.program
-    return LOST_AT if LOST in words else DOOMED if f"--{DOOMED.word}" in words else REACH
+    return LOST_AT if asked.has(LOST) else DOOMED if asked.has(f"--{DOOMED.word}") else REACH
 
 
 def check_output(asked: Words) -> None:
     """Raises `Failure` where the order, its page or the report couldn't be written."""
-    if asked.report is not None and LOST in asked.program:
+    if asked.report is not None and asked.has(LOST):
         raise Failure(f"{REPORT} is of what an order leads to; {LOST} asks of a run", 2)
     for option, path in ((OUTPUT, asked.output), (PAGE, asked.page), (REPORT, asked.report)):
         if path is None:
@@ -112,7 +111,7 @@ def write_report(asked: Words, answer: Answer) -> None:
         return
     from rdbg.hunting import reports, sarif  # (which take their time)
 
-    file, *words = (asked.program[at] for at in asked.plain())
+    file, *words = asked.plain()
     goal = " ".join(words)
     found = sarif.of_answer(source_of(asked, file), goal, answer)
     text = reports.text_of(asked.report, file, goal, [found])
@@ -132,29 +131,29 @@ def is_in_lines(file: str) -> bool:
 
 
 @contextlib.contextmanager
-def in_its_words(asked: Words) -> Iterator[Tuple[List[str], Optional[Source], str]]:
+def in_its_words(asked: Words) -> Iterator[Tuple[Words, Optional[Source], str]]:
     """The program's words, the file, and the goal as the program has it: a text in lines as JSON,
     and the interrupts that it names. Raises `Failure` where there is no goal in them. A file that
     can't be read is the program's to refuse."""
-    file, *goal = (asked.program[at] for at in asked.plain())
+    file, *goal = asked.plain()
     try:
         source = source_of(asked, file)
     except Failure as failure:
         if asked.consts:
             raise Failure(str(failure), UNTOLD) from None
-        yield asked.program, None, ""
+        yield asked, None, ""
         return
     if source.application is None:
         if is_in_lines(file):
             raise Failure(f"{file}:{source.faults[0]}; {file} {source.refused()}", UNTOLD)
-        yield asked.program, None, ""
+        yield asked, None, ""
         return
     with turned(of_words, NoGoal, of="goal"):
         told = for_search(goal, Scope.of(source))[1] if goal else ""
     application = source.application
     named = asked.with_interrupts(lambda texts: handlers(texts, application))
     with source.as_json() as path:
-        yield (named.put(path, told) if goal else named.put_file(path)), source, told
+        yield named.put(path, told), source, told
 
 
 def become_engine(asked: Words, words: Sequence[str]) -> NoReturn:
@@ -177,11 +176,9 @@ def unlinked(asked: Words) -> List[str]:
         if coming:
             print(f"rdbg reach: {coming}", file=sys.stderr)
         made = os.memfd_create("application.json", 0)
-        at = asked._replace(program=told).plain()[0]
-        with open(told[at], "rb") as file:
+        with open(told.plain()[0], "rb") as file:
             os.write(made, file.read())
-        told[at] = f"/proc/self/fd/{made}"
-    return [it for it in told if it != PROGRESS]
+    return told.put(f"/proc/self/fd/{made}", "").program
 
 
 def write_page(asked: Words, answer: Answer, path: str) -> None:
@@ -190,7 +187,7 @@ def write_page(asked: Words, answer: Answer, path: str) -> None:
     from rdbg.tracing.command import lines_in, page_of, text_of  # (which take their time)
     from rdbg.tracing.page.asked import asked as asked_of
 
-    file, *rest = (asked.program[at] for at in asked.plain())
+    file, *rest = asked.plain()
     source, goal = source_of(asked, file), " ".join(rest)
     if source.application is None:
         return
@@ -218,13 +215,14 @@ def main(words: Sequence[str]) -> int:
         return 0
     asked = read(words)
     if not asked.has_goal():
-        files = [asked.program[at] for at in asked.plain()]
+        files = asked.plain()
         is_made = any(map(is_in_lines, files)) or bool(files and asked.consts)
         become_engine(asked, unlinked(asked) if is_made else words)
     check_output(asked)
     try:
         with in_its_words(asked) as (told, source, goal):
-            status = say(asked, running.run([program(), *told], asked.seconds), source, goal)
+            words = [program(), PROGRESS, *told.program]
+            status = say(asked, running.run(words, asked.seconds), source, goal)
         sys.stdout.flush()
         return status
     except OSError as error:
