@@ -21,7 +21,7 @@ from rdbg.hunting.stage import Find, Stage
 from rdbg.options import APPLICATION, Parser, bounded
 from rdbg.reaching import beside
 from rdbg.reaching.asking import CTRL_C, LOST, QUESTIONS, REACH, Asker, NoQuestion
-from rdbg.reaching.handlers import OPTION
+from rdbg.reaching.handlers import OPTION, TIMES
 from rdbg.reaching.said import Answer, Bound, Kind
 from rdbg.replies import Refused
 
@@ -259,7 +259,7 @@ def hunt(given: argparse.Namespace, source: Source, path: str) -> int:
     goal = goals.read(words[words[:1] == [question.word] :], source, question)
     check_words(given, goal)
     may_come = handlers(given.isr, source.application)
-    if goal.compares and any(it.when for it in may_come):
+    if goal.compares and any({*dict(it.when)} - {TIMES} for it in may_come):
         why = "differs begins where interrupts have come, and counts anew: give their calls"
         left_out = f"; {OPTION} {NO_INTERRUPT} leaves them out"
         raise Failure(f"{OPTION} NAME after or apart: {why}{left_out}", CANT)

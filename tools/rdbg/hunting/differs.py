@@ -51,7 +51,7 @@ def ways(stage: Stage) -> Iterator[Tuple[Tuple[str, ...], ...]]:
     """The ways in which interrupts may come at the end, each as often as it may: their calls."""
     counts = [range(it.times + 1) for it in stage.handlers]
     for chosen in itertools.islice(itertools.product(*counts), MOST_WAYS):
-        yield tuple(it.calls for count, it in zip(chosen, stage.handlers) for _ in range(count))
+        yield tuple(it.lines for count, it in zip(chosen, stage.handlers) for _ in range(count))
 
 
 def rests(stage: Stage, task: str) -> bool:
@@ -133,10 +133,10 @@ class Differs:
         found: List[Difference] = []
         if self.search.bound.surprises == 0:
             return found
-        for leaving, come in self._leavings():
+        for leaving in self._leavings():
             if self.search.is_stopped():
                 break
-            it = self._behind(leaving, come)
+            it = self._behind(leaving)
             if it is not None and self._is_new(it.find):
                 found.append(it)
             if len(found) == wanted == 1:
@@ -146,9 +146,9 @@ class Differs:
             self.search.none.append(Answer(Kind.UNTOLD, why=why))
         return sorted(found, key=lambda it: it.find.size)
 
-    def _leavings(self) -> Iterator[Tuple[List[str], List[Tuple[str, ...]]]]:
+    def _leavings(self) -> Iterator[List[str]]:
         """The orders that leave `forward`'s once, by their moves, at each place from boot up to
-        where a state comes again; and which interrupts have come."""
+        where a state comes again."""
         seen: Set[Tuple[object, ...]] = set()
         before: List[str] = []
         while len(before) < self.own.find.order.place:
@@ -164,10 +164,10 @@ class Differs:
             for core, task in enumerate(look.running):
                 if task is not None and core != next_core:
                     for count in range(1, AHEAD + 1):
-                        yield [*before, *[f"step {core}"] * count], []
+                        yield [*before, *[f"step {core}"] * count]
             if next_core is not None:
-                yield [*before, TICK], []
-            yield from (([*before, *it.calls], [it.calls]) for it in self.stage.handlers)
+                yield [*before, TICK]
+            yield from ([*before, *it.lines] for it in self.stage.handlers)
             before.append(TICK if next_core is None else f"step {next_core}")
 
     def _stand(self, lines: Sequence[str]) -> bool:
@@ -183,9 +183,7 @@ class Differs:
         tick, left = cores.tick % len(cores.running), (TIMES.sub(relative, it) for it in views)
         return (cores.running, cores.ready, tick, choice(cores), *left)
 
-    def _behind(
-        self, leaving: Sequence[str], come: Sequence[Tuple[str, ...]]
-    ) -> Optional[Difference]:
+    def _behind(self, leaving: Sequence[str]) -> Optional[Difference]:
         """What differs behind an order that has left `forward`'s."""
         if not self._stand(leaving):
             return None
@@ -193,19 +191,19 @@ class Differs:
         left = None if moves is None else max(0, moves - len(leaving))
         bound = Bound(left, None if most is None else most - 1)
         if not self.own.resting:
-            found = self.search.ask(self.search.goal.asked, bound, leaving, come, keeps=False)
+            found = self.search.ask(self.search.goal.asked, bound, leaving, keeps=False)
             return None if found is None else Difference(found)
         for name in self.own.resting:
             ends = {claims(it.look, self.stage.application)[name] for it in self.own.ends}
             goal = " or ".join(f"( {it} )" for it in sorted(ends))
             # (of whatever length)
-            more = self.search.interrupts(come)
+            more = self.search.interrupts(leaving)
             answer = self.search.asker.ask(goal, Bound(), leaving, more, self.search.question)
             if answer.why in STOPS:
                 self.search.none.append(answer)
                 return None
             if answer.kind is Kind.NONE:
-                found = self.search.ask(self._at_rest(name), bound, leaving, come, keeps=False)
+                found = self.search.ask(self._at_rest(name), bound, leaving, keeps=False)
                 return Difference(found or self.stage.find(leaving), (name,))
         return None
 

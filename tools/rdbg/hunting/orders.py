@@ -7,8 +7,7 @@ from typing import List, NamedTuple, Optional, Sequence, Tuple
 
 from rdbg.driving.target import Target, read
 from rdbg.failure import Failure
-from rdbg.hunting.interrupts import Handler
-from rdbg.reaching.handlers import WORD
+from rdbg.reaching.handlers import WORD, Handler, coming
 from rdbg.replies import Cores
 from rdbg.wording import counted
 
@@ -35,14 +34,14 @@ class Run:
     line: str
     count: int
     place: int
-    calls: Tuple[str, ...] = ()
+    handler: Optional[Handler] = None
 
     def told(self) -> str:
         """The surprise that it is; empty where it is none."""
         if self.line == FORWARD:
             return ""
-        if self.calls:
-            return f"at {self.place}: an interrupt comes: {Handler(self.calls).text}"
+        if self.handler:
+            return f"at {self.place}: an interrupt comes: {self.handler.calls}"
         if self.line == TICK:
             return f"at {self.place}: a tick comes early"
         moves = counted(self.count, "move")
@@ -50,8 +49,8 @@ class Run:
 
     def lines(self) -> List[str]:
         """The lines that make it."""
-        if self.calls:
-            return [*self.calls]
+        if self.handler:
+            return [*self.handler.lines]
         return [f"{FORWARD} {self.count}"] if self.line == FORWARD else [self.line] * self.count
 
 
@@ -71,15 +70,14 @@ def runs_of(lines: Sequence[str], looks: Sequence[Cores], handlers: Sequence[Han
     while at < len(lines):
         line = lines[at]
         if line.split()[0] == WORD:
-            # (the calls of one handler, the first of them among its own)
-            count = max((len(it.calls) for it in handlers if it.begins(lines[at:])), default=1)
-            run = Run(line, count, at, tuple(lines[at : at + count]))
+            it = coming(handlers, lines, at) or Handler(line[len(WORD) + 1 :])
+            run = Run(line, len(it.lines), at, it)
         else:
             core = choice(looks[at])
             expected = TICK if core is None else f"step {core}"
             run = Run(FORWARD if line == expected else line, 1, at)
         at += run.count
-        if found and found[-1].line == run.line and run.line != TICK and not run.calls:
+        if found and found[-1].line == run.line and run.line != TICK and not run.handler:
             found[-1].count += 1
         else:
             found.append(run)
@@ -95,5 +93,5 @@ def make(target: Target, moves: Sequence[str], handlers: Sequence[Handler]) -> O
     runs = runs_of(moves, looks, handlers)
     lines = tuple(line for it in runs for line in it.lines())
     told = tuple(it.told() for it in runs if it.told())
-    length = sum(1 if it.calls else it.count for it in runs)
+    length = sum(1 if it.handler else it.count for it in runs)
     return Order(lines, tuple(moves), told, length, len(moves))

@@ -17,6 +17,7 @@ from rdbg.instructions import form_of
 from rdbg.looks import Look
 from rdbg.reaching import said
 from rdbg.reaching.asking import CTRL_C, REACH, TIME, Asker, NoQuestion, Question
+from rdbg.reaching.handlers import left
 from rdbg.reaching.said import Answer, Bound, Kind
 
 # Why a goal isn't asked for any more, and why nothing is.
@@ -82,22 +83,20 @@ class Search:
         """Whether the time is up, or Ctrl-C came."""
         return any(it.why in STOPS for it in self.none)
 
-    def interrupts(self, come: Sequence[Tuple[str, ...]] = ()) -> List[str]:
-        """The lines that let those interrupts come that are left where these have come."""
-        left = ((it, it.times - [*come].count(it.calls)) for it in self.stage.handlers)
-        return [it._replace(times=times).line() for it, times in left if times > 0]
+    def interrupts(self, begin: Sequence[str] = ()) -> List[str]:
+        """The lines that let those interrupts come that are left behind these lines."""
+        return [it.line() for it in left(self.stage.handlers, begin)]
 
     def ask(
         self,
         goal: str,
         bound: Optional[Bound] = None,
         begin: Sequence[str] = (),
-        come: Sequence[Tuple[str, ...]] = (),
         keeps: bool = True,
     ) -> Optional[Find]:
         """The order that is found for a goal, made again. Where there is none its answer is kept,
         without `keeps` only one that leaves it open."""
-        more, asked = self.interrupts(come), self.bound if bound is None else bound
+        more, asked = self.interrupts(begin), self.bound if bound is None else bound
         answer = self.asker.ask(goal, asked, begin, more, self.question)
         if answer.kind is Kind.REACHED:
             self.counts = self.counts if any(self.counts) else answer.counts

@@ -8,9 +8,9 @@ from rdbg.driving.parts import look_through
 from rdbg.driving.target import Limits, Target, read
 from rdbg.driving.walk import Walk
 from rdbg.files.source import Source
-from rdbg.hunting.interrupts import Handler
 from rdbg.hunting.orders import Order, make
 from rdbg.looks import Look, Names
+from rdbg.reaching.handlers import Handler
 from rdbg.tracing.table import Table, rows
 
 # So many rows of a table are shown at the most.
