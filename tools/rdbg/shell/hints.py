@@ -8,7 +8,7 @@ from rdbg.goals import words as goal_words
 from rdbg.goals.meant import as_number, with_operator, with_subject
 from rdbg.goals.reading import NoGoal
 from rdbg.replies import Refused
-from rdbg.shell.glossary import GOALS, HINTS
+from rdbg.shell.glossary import GOALS, HINTS, REFUSALS
 from rdbg.wording import nearest
 
 if TYPE_CHECKING:
@@ -313,7 +313,8 @@ def describe(symbol: str) -> str:
 
 
 Hint = Callable[["Shell", str], str]
-REFUSALS: Dict[str, Hint] = {
+# Refusals of which the line says what is to be told.
+OF_LINES: Dict[str, Hint] = {
     "Syntax": syntax,
     "NoSuch": no_such,
     "NoTask": no_task,
@@ -321,25 +322,12 @@ REFUSALS: Dict[str, Hint] = {
     "NothingUndone": nothing_undone,
     "BadEdit": lambda shell, line: BAD_EDITS.get("".join(commands.words_of(line)[1:2]), ""),
 }
-SENTENCES: Dict[str, str] = {
-    "TickLimit": "the tick can't grow any more; `back` takes ticks back",
-    "NoIsr": 'the application has profile 1: with `"profile": 2` in its file it has interrupts',
-    "Held": "session {number} has the wheel: views go on, moves once it gives it",
-    "WatchesFull": "there are 16 watches: `info watches`, `unwatch N`",
-    "NoWatch": "there is no such watch: `info watches`",
-    "NotHolder": "you don't have the wheel: `show wheel` says who does",
-    "HistoryFull": "every line and every look takes a place: see `help history`",
-    "NoMemory": "the machine has no more memory for it",
-    "LineTooLong": "rdbg ends a session at a line of over 1024 bytes",
-    "Full": "the server lets nobody else in",
-    "Broken": "this is a fault of rdbg",
-}
 
 
 def refusal(shell: "Shell", line: str, refused: Refused) -> str:
     """A hint on a refusal of a line."""
     if refused.name == "TooFar":
         return too_far(shell, refused.number or 0)
-    if refused.name in REFUSALS:
-        return REFUSALS[refused.name](shell, line)
-    return SENTENCES.get(refused.name, "").format(number=refused.number)
+    if refused.name in OF_LINES:
+        return OF_LINES[refused.name](shell, line)
+    return REFUSALS.get(refused.name, "").format(number=refused.number)
