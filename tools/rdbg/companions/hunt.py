@@ -6,14 +6,14 @@ import sys
 import time
 from typing import IO, Iterator, List, Optional, Sequence, Tuple
 
-from rdbg import digits, links, options, whole_file
+from rdbg import digits, links, whole_file
 from rdbg.application import NO_INTERRUPT
 from rdbg.driving.target import Unable
 from rdbg.failure import Failure, trying
 from rdbg.files.definitions import take_definitions
 from rdbg.files.source import Source, accepted
 from rdbg.hunting import goals, report
-from rdbg.hunting.differs import Difference, Differs
+from rdbg.hunting.differs import Differs
 from rdbg.hunting.goals import Goal
 from rdbg.hunting.interrupts import handlers
 from rdbg.hunting.search import Search
@@ -52,12 +52,6 @@ PASSED = {
 OF_ONE_GOAL = ("--pace", "--part")
 
 
-def part(text: str) -> str:
-    """Reads K/N, the part K of N, and passes it on."""
-    options.part(text)
-    return text
-
-
 def seconds(text: str) -> float:
     """Reads a number of seconds, above 0."""
     value = digits.seconds(text)
@@ -94,7 +88,7 @@ def parser() -> Parser:
     made.add_argument("--expect", choices=["none", "found"], help="what the status is 0 for")
     word("--within", "SECONDS", "a limit of time", type=seconds)
     for name, (value, what) in PASSED.items():
-        word(name, value, what, type=part if name == "--part" else str)
+        word(name, value, what)
     take_definitions(made)
     return made
 
@@ -154,15 +148,13 @@ class Hunt:
         self.stage = search.stage
         self.finds: List[Find] = []
         self.differs: Optional[Differs] = None
-        self.differences: List[Difference] = []
 
     def run(self) -> None:
         """Searches."""
         given, search = self.given, self.search
         if self.goal.compares:
             self.differs = Differs(search)
-            self.differences = self.differs.find(given.all or 1)
-            self.finds = [it.find for it in self.differences]
+            self.finds = self.differs.find(given.all or 1)
         elif given.all is not None:
             self.finds = search.all(given.all)
         elif given.smallest:
@@ -190,7 +182,7 @@ class Hunt:
             is_mixed = path in (None, STANDARD)
             print(*said, sep="\n", file=sys.stderr if is_mixed else sys.stdout, flush=True)
             return
-        own = [] if self.differs is None else [self.differs.own.find]
+        own = [] if self.differs is None else [self.differs.own]
         lines = report.lines_of(self.goal, self.stage, [*own, *self.finds])
         with outputs(path) as (file, out):
             print(*lines, sep="\n", file=file, flush=True)
@@ -205,7 +197,7 @@ class Hunt:
             return [*said, *self._remarks(left)]
         goal, stage = self.goal, self.stage
         if self.differs is not None:
-            said = [*report.differing(goal, stage, self.differs.own, self.differences)]
+            said = [*report.differing(goal, stage, self.differs.own, self.finds)]
         else:
             said = [*report.found(goal, stage, self.finds, self.given.exhaustive)]
         said.append(report.gone_through(self.search.counts))
@@ -228,12 +220,12 @@ class Hunt:
         from rdbg.tracing.command import page_of  # (which takes its time)
         from rdbg.tracing.page.asked import Asked
 
-        order = self.finds[0].order
-        how = "" if self.given.exhaustive else f", {report.with_surprises(len(order.told))}"
-        said = f"Found: the order of this page leads there, at {order.place}{how}."
-        told = () if self.given.exhaustive else order.told
-        asked = Asked(f"hunt {self.goal.text}", (said, *told), order.place)
-        page_of(self.source, order.lines, self.given.page, lambda _: asked)
+        find, is_exhaustive = self.finds[0], self.given.exhaustive
+        where = report.place_of(find, is_exhaustive)
+        said = f"Found: the order of this page leads there, {where}."
+        told = () if is_exhaustive else find.told
+        asked = Asked(f"hunt {self.goal.text}", (said, *told), find.place)
+        page_of(self.source, find.lines, self.given.page, lambda _: asked)
 
     def status(self) -> int:
         """The exit status."""

@@ -3,7 +3,7 @@
 A surprise is a move that `forward` wouldn't make next, where the moves of one core in a row, all
 ahead of it, count as one; an interrupt is one, whatever it calls."""
 import dataclasses
-from typing import List, NamedTuple, Optional, Sequence, Tuple
+from typing import List, Optional, Sequence
 
 from rdbg.driving.target import Target, read
 from rdbg.failure import Failure
@@ -14,22 +14,11 @@ from rdbg.wording import counted
 TICK = "tick"
 
 
-class Order(NamedTuple):
-    """An order, by the lines that make it from boot, and by those of its moves; what is told of it,
-    the surprises; how many moves it has, an interrupt as one; and how many the program has made
-    then, each call of an interrupt as one."""
-
-    lines: Tuple[str, ...] = ()
-    moves: Tuple[str, ...] = ()
-    told: Tuple[str, ...] = ()
-    length: int = 0
-    place: int = 0
-
-
 @dataclasses.dataclass
 class Run:
     """Moves in a row that are one to whoever reads of them: their line, or the word for those of
-    `forward`, how many they are, and behind how many they come."""
+    `forward`, how many they are, and behind how many they come; the calls of an interrupt are one,
+    each a move of the program."""
 
     line: str
     count: int
@@ -84,14 +73,10 @@ def runs_of(lines: Sequence[str], looks: Sequence[Cores], handlers: Sequence[Han
     return found
 
 
-def make(target: Target, moves: Sequence[str], handlers: Sequence[Handler]) -> Order:
-    """The order of these moves, made from boot. Raises `Failure` where one is refused."""
+def made(target: Target, moves: Sequence[str], handlers: Sequence[Handler]) -> List[Run]:
+    """The runs of these moves, which are made from boot. Raises `Failure` where one is refused."""
     answers = target.tell_all([it for move in moves for it in ("show cores", move)])
     if any(it.startswith("no ") for it in answers):
         raise Failure("what was found can't be made again")
     looks = [it for it in map(read, answers[::2]) if isinstance(it, Cores)]
-    runs = runs_of(moves, looks, handlers)
-    lines = tuple(line for it in runs for line in it.lines())
-    told = tuple(it.told() for it in runs if it.told())
-    length = sum(1 if it.handler else it.count for it in runs)
-    return Order(lines, tuple(moves), told, length, len(moves))
+    return runs_of(moves, looks, handlers)

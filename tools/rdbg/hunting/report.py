@@ -3,7 +3,7 @@ from typing import Iterator, List, Sequence, Tuple
 
 from rdbg.application import Application
 from rdbg.failure import Failure
-from rdbg.hunting.differs import Difference, Own, compared
+from rdbg.hunting.differs import compared
 from rdbg.hunting.goals import Goal
 from rdbg.hunting.stage import Find, Stage
 from rdbg.reaching.said import Answer, Kind
@@ -19,18 +19,20 @@ def counted(count: int, noun: str) -> str:
     return f"{count:,} {noun}{'' if count == 1 else 's'}"
 
 
-def with_surprises(count: int) -> str:
-    """With so many surprises."""
-    return f"with {counted(count, 'surprise')}" if count else "without a surprise"
+def place_of(find: Find, is_exhaustive: bool) -> str:
+    """Where an order ends, and with how many surprises, where these are counted."""
+    count = len(find.told)
+    how = f"with {counted(count, 'surprise')}" if count else "without a surprise"
+    return f"at {find.place}" if is_exhaustive else f"at {find.place}, {how}"
 
 
 def lines_of(goal: Goal, stage: Stage, finds: Sequence[Find]) -> List[str]:
     """The lines that make each order and show its end, going back to boot between two."""
     lines = goal.first_lines()
     for at, find in enumerate(finds):
-        lines += [*find.order.lines, *goal.last_lines(stage.names)]
-        if at + 1 < len(finds) and find.order.place:
-            lines.append(f"back {find.order.place}")
+        lines += [*find.lines, *goal.last_lines(stage.names)]
+        if at + 1 < len(finds) and find.place:
+            lines.append(f"back {find.place}")
     return lines
 
 
@@ -44,24 +46,23 @@ def one_found(
     goal: Goal, stage: Stage, find: Find, which: str, is_exhaustive: bool = False
 ) -> Iterator[str]:
     """What is said of one."""
-    how = "" if is_exhaustive else f", {with_surprises(len(find.order.told))}"
-    yield f"found{which}: {goal.text}, at {find.order.place}{how}"
+    yield f"found{which}: {goal.text}, {place_of(find, is_exhaustive)}"
     if not is_exhaustive:
-        yield from (f"  {told}" for told in find.order.told)
+        yield from (f"  {told}" for told in find.told)
     table, is_so = stage.table(find, goal.is_so)
     if not is_so:
         raise Failure("what was found doesn't come to its goal when it is made again")
     yield from table
 
 
-def differing(goal: Goal, stage: Stage, own: Own, them: Sequence[Difference]) -> Iterator[str]:
+def differing(goal: Goal, stage: Stage, own: Find, finds: Sequence[Find]) -> Iterator[str]:
     """What is said of orders that end otherwise than `forward`'s own."""
-    yield f"the order without a surprise, which ends at {own.find.order.place}:"
-    yield from stage.table(own.find, lambda look: True)[0]
-    for at, it in enumerate(them, 1):
-        yield from one_found(goal, stage, it.find, f" {at}" if len(them) > 1 else "")
+    yield f"the order without a surprise, which ends at {own.place}:"
+    yield from stage.table(own, lambda look: True)[0]
+    for at, it in enumerate(finds, 1):
+        yield from one_found(goal, stage, it, f" {at}" if len(finds) > 1 else "")
         yield "how the first order ends (<), and this one (>):"
-        for one, other in compared(own, it).values():
+        for one, other in compared(own, it):
             yield from (f"< {one}", f"> {other}")
         for task in it.tasks:
             yield f"from here on {task} can't end as in the first order, whatever comes"

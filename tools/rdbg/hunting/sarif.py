@@ -92,7 +92,7 @@ def results(
 ) -> Iterator[Values]:
     """What a search has come to: each find, or that there is none."""
     for find in finds:
-        yield found(source, goal, stage, find.order.lines, find.order.told)
+        yield found(source, goal, stage, find.lines, find.told)
     if not finds:
         yield none(source, goal, answer)
 

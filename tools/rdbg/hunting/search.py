@@ -132,8 +132,8 @@ class Search:
         """The find with the fewest moves, however many surprises."""
         found = self.ask(goal)
         low, untold = 0, self.untold()
-        while found is not None and low < found.order.length and self.untold() == untold:
-            middle = (low + found.order.length - 1) // 2
+        while found is not None and low < found.length and self.untold() == untold:
+            middle = (low + found.length - 1) // 2
             fewer = self.ask(goal, Bound(middle), keeps=False)
             found, low = (found, middle + 1) if fewer is None else (fewer, low)
         return found

@@ -8,7 +8,7 @@ from rdbg.driving.parts import look_through
 from rdbg.driving.target import Limits, Target, read
 from rdbg.driving.walk import Walk
 from rdbg.files.source import Source
-from rdbg.hunting.orders import Order, make
+from rdbg.hunting.orders import made
 from rdbg.looks import Look, Names
 from rdbg.reaching.handlers import Handler
 from rdbg.tracing.table import Table, rows
@@ -20,16 +20,27 @@ LEFT = 100_000
 
 
 class Find(NamedTuple):
-    """An order, and what there is at its end, as a look and as the program's views."""
+    """An order that is made: its lines from boot on, its surprises as they are told, and how many
+    moves it has, an interrupt as one; what there is at its end, as a look and as the program's
+    views; and the tasks that end otherwise than in another order, where not all is held against
+    that."""
 
-    order: Order
+    lines: Tuple[str, ...]
+    told: Tuple[str, ...]
+    length: int
     look: Look
     views: Tuple[str, ...]
+    tasks: Tuple[str, ...] = ()
 
     @property
     def size(self) -> Tuple[int, int]:
         """How many surprises it has, and how many moves."""
-        return len(self.order.told), self.order.length
+        return len(self.told), self.length
+
+    @property
+    def place(self) -> int:
+        """How many moves the program has made at its end, each call of an interrupt as one."""
+        return self.look.place
 
 
 class Stage:
@@ -69,18 +80,21 @@ class Stage:
 
     def find(self, moves: Sequence[str]) -> Find:
         """The order of these moves. Raises `Failure` where it can't be made."""
-        return self.here(make(self.at_boot(), moves, self.handlers))
+        runs = made(self.at_boot(), moves, self.handlers)
+        told = [it.told() for it in runs if it.told()]
+        length = sum(1 if it.handler else it.count for it in runs)
+        return self.here([line for it in runs for line in it.lines()], told, length)
 
-    def here(self, order: Order) -> Find:
-        """An order whose moves are done, with what there is."""
+    def here(self, lines: Sequence[str], told: Sequence[str], length: int) -> Find:
+        """An order of these lines, which are done, with what there is."""
         views = self.target.tell_all(self.names.lines())
         look = Look.of(self.walk.place, [read(view) for view in views])
-        return Find(order, look, tuple(views[1:]))
+        return Find((*lines,), (*told,), length, look, (*views[1:],))
 
     def table(self, find: Find, is_so: Callable[[Look], bool]) -> Tuple[List[str], bool]:
         """Who did what in an order, as `rdbg trace` says it, and whether its end is as is said."""
-        self.at_boot().tell_all(find.order.lines)
-        return [*self._rows()], self.walk.place == find.order.place and is_so(self.target.look())
+        self.at_boot().tell_all(find.lines)
+        return [*self._rows()], self.walk.place == find.place and is_so(self.target.look())
 
     def _rows(self) -> Iterator[str]:
         """The head and the rows of a table of the moves that are done, if there are any."""
