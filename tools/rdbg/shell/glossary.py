@@ -2,15 +2,13 @@
 what those of gdb are here. And `help`."""
 import re
 import textwrap
-from typing import TYPE_CHECKING, Dict, List, Sequence, Tuple
+from typing import Dict, List, Sequence, Tuple
 
 from rdbg import commands, instructions
 from rdbg.checking import freertos
 from rdbg.driving.target import Unable
+from rdbg.shell.shell import Shell
 from rdbg.shell.views import REGISTERS
-
-if TYPE_CHECKING:
-    from rdbg.shell.shell import Shell
 
 WIDTH = 96
 PHASES: Dict[str, str] = {
@@ -210,7 +208,7 @@ HISTORY = (
 )
 
 
-def help_on(shell: "Shell", words: Sequence[str]) -> None:
+def help_on(shell: Shell, words: Sequence[str]) -> None:
     """`help [WORD]`."""
     if not words:
         shell.say(overview())
