@@ -12,10 +12,10 @@ from rdbg.goals.claims import Goal, Holds, SomeFailed, Stuck
 from rdbg.goals.reading import NoGoal
 from rdbg.goals.scope import Scope
 from rdbg.goals.ways import AnyOf, To, Wakes, Way, is_so, is_stuck
-from rdbg.instructions import form_of
+from rdbg.reaching.beside import never_rests
 from rdbg.replies import Refused
 from rdbg.shell.shell import Shell
-from rdbg.shell.views import check_instruction, phase_text, script_of
+from rdbg.shell.views import check_instruction, phase_text
 from rdbg.wording import counted
 
 DEFAULT_COUNT = 10_000
@@ -196,25 +196,22 @@ def tell_who_goes_on(shell: Shell, goal: str) -> None:
     """Says of a target that isn't `asleep`, or `stuck`, who keeps it so."""
     found = []
     for name, it in shell.look().tasks.items():
-        why = ", and no instruction of its script ever waits" if never_waits(shell, name) else ""
+        why = ", and never waits without a deadline" if goes_on(shell, name) else ""
         if it.core is not None:
             found.append(f"{name} is busy on core {it.core}{why}")
         elif it.phase.deadline is not None:
             found.append(f"{name} {phase_text(it)}")
     shell.say("\n".join(textwrap.wrap(f"not {goal}: {'; '.join(found)}", WIDTH)))
-    if any(never_waits(shell, name) for name in shell.target.names.tasks):
+    if any(goes_on(shell, name) for name in shell.target.names.tasks):
         onwards = "`until sleeps TASK` runs to where one task waits for ever"
         shell.say(f"so `{goal}` can't come; {onwards}")
 
 
-def never_waits(shell: Shell, name: str) -> bool:
-    """Whether no instruction of a task's script can wait, or end it: so it is busy for ever."""
-    script = [it.words() for it in script_of(shell, name)]
-    forms = [(form_of(words[0]), words) for words in script]
-    return bool(script) and not any(
-        form is None or words[0] == "end" or (form.symbols[-1:] == ("T",) and words[-1] != "0")
-        for form, words in forms
-    )
+def goes_on(shell: Shell, name: str) -> bool:
+    """Whether a task goes on for ever, as far as its script is known."""
+    application = shell.target.application
+    task = application.task(name) if application else None
+    return task is not None and never_rests(task)
 
 
 @contextlib.contextmanager

@@ -380,7 +380,6 @@ def info(shell: Shell, words: Sequence[str]) -> None:
         TABLES[word](shell)
     elif word == "registers":
         shell.say("\n".join(values(shell, [*REGISTERS, *words[1:]])))
-
     elif kind and len(words) == 2:
         shell.say("\n".join(about(shell, words[1], kind)))
     elif kind:
