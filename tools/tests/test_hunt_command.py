@@ -199,7 +199,7 @@ class Statuses(unittest.TestCase):
         self.assertLess(time.monotonic() - began, 60)
 
     def test_a_limit_of_states(self) -> None:
-        why = "that isn't all: there are more states than --states allows"
+        why = "that isn't all: as many states as may be kept (--states)"
         asked: List[List[str]] = [[], ["--exhaustive"], ["--expect", "none"]]
         for words in asked:
             status, _, errors = said(LOST, "reg poller 7 = 1", "--states", "20", *words)

@@ -147,22 +147,19 @@ class Hunt:
         self.given, self.source, self.goal, self.search = given, source, goal, search
         self.stage = search.stage
         self.finds: List[Find] = []
-        self.differs: Optional[Differs] = None
+        # (the order of `forward`, where others are held against it)
+        self.own: Optional[Find] = None
 
     def run(self) -> None:
         """Searches."""
         given, search = self.given, self.search
         if self.goal.compares:
-            self.differs = Differs(search)
-            self.finds = self.differs.find(given.all or 1)
-        elif given.all is not None:
-            self.finds = search.all(given.all)
+            differs = Differs(search)
+            self.own, self.finds = differs.own, differs.find(given.all or 1)
         elif given.smallest:
             self.finds = search.smallest()
-        elif given.exhaustive:
-            self.finds = [*filter(None, [search.shortest(self.goal.asked)])]
         else:
-            self.finds = search.first()
+            self.finds = search.all(given.all or 1)
 
     def report(self) -> None:
         """Writes what came of it, where that was asked."""
@@ -172,8 +169,7 @@ class Hunt:
 
         goal, path, left = self.goal.text, self.given.report, self.search.left()
         found = [*sarif.results(self.source, goal, self.stage, self.finds, left)]
-        with whole_file.written(path) as file:
-            file.write(reports.text_of(path, self.source.path, goal, found, self.given.expect))
+        reports.write(path, self.source.path, goal, found, self.given.expect)
 
     def say(self) -> None:
         """Prints what is said, and the lines of what was found."""
@@ -182,8 +178,8 @@ class Hunt:
             is_mixed = path in (None, STANDARD)
             print(*said, sep="\n", file=sys.stderr if is_mixed else sys.stdout, flush=True)
             return
-        own = [] if self.differs is None else [self.differs.own]
-        lines = report.lines_of(self.goal, self.stage, [*own, *self.finds])
+        orders = [*filter(None, [self.own]), *self.finds]
+        lines = report.lines_of(self.goal, self.stage, orders)
         with outputs(path) as (file, out):
             print(*lines, sep="\n", file=file, flush=True)
             print(*said, sep="\n", file=out, flush=True)
@@ -195,11 +191,8 @@ class Hunt:
             left = self.search.left()
             said = [*report.none(self.goal, left, self.stage.application)]
             return [*said, *self._remarks(left)]
-        goal, stage = self.goal, self.stage
-        if self.differs is not None:
-            said = [*report.differing(goal, stage, self.differs.own, self.finds)]
-        else:
-            said = [*report.found(goal, stage, self.finds, self.given.exhaustive)]
+        is_exhaustive = self.given.exhaustive and self.own is None
+        said = [*report.found(self.goal, self.stage, self.finds, is_exhaustive, self.own)]
         said.append(report.gone_through(self.search.counts))
         if self.given.smallest:
             said += report.smaller(self.search.none)

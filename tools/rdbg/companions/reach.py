@@ -81,42 +81,37 @@ def say(asked: Words, outcome: running.Outcome, source: Optional[Source], goal: 
     """Says what came of a search for a goal, and answers the exit status."""
     last, surprises = outcome.last, asked.surprises()
     is_reach = question_of(asked) is REACH
+    output, status = outcome.output, outcome.status
     if outcome.is_stopped and last is None:
         raise Failure("it was stopped before it could say how far it was", UNTOLD)
     if outcome.is_stopped:
         answer = said.stopped(last, surprises, STOPPED, is_reach)
-        told = "".join(f"{line}\n" for line in said.lines(answer))
-        sys.stdout.write(with_remarks(asked, told, source, goal))
-        write_report(asked, answer)
-        return UNTOLD
-    said.check(outcome.output, outcome.status, said.known(last, surprises, is_reach))
+        output, status = "".join(f"{line}\n" for line in said.lines(answer)), UNTOLD
+    else:
+        said.check(output, status, said.known(last, surprises, is_reach))
     try:
-        if asked.output is not None and outcome.status != UNTOLD:
-            save(asked.output, outcome.output)
+        if asked.output is not None and status != UNTOLD:
+            save(asked.output, output)
     finally:
         # (what was found isn't lost where it can't be written)
-        sys.stdout.write(with_remarks(asked, outcome.output, source, goal))
-    if outcome.output:
+        sys.stdout.write(with_remarks(asked, output, source, goal))
+    if output and source is not None:
         sys.stdout.flush()
-        answer = said.read(outcome.output.splitlines())
-        if asked.page is not None:
-            write_page(asked, answer, asked.page)
-        write_report(asked, answer)
-    return outcome.status
+        answer = said.read(output.splitlines())
+        if not outcome.is_stopped:
+            write_page(asked, answer, source)
+        write_report(asked, answer, source)
+    return status
 
 
-def write_report(asked: Words, answer: Answer) -> None:
+def write_report(asked: Words, answer: Answer, source: Source) -> None:
     """Writes the report of an answer, where that was asked."""
     if asked.report is None:
         return
     from rdbg.hunting import reports, sarif  # (which take their time)
 
-    file, *words = asked.plain()
-    goal = " ".join(words)
-    found = sarif.of_answer(source_of(asked, file), goal, answer)
-    text = reports.text_of(asked.report, file, goal, [found])
-    with whole_file.written(asked.report) as written:
-        written.write(text)
+    found = sarif.of_answer(source, asked.goal(), answer)
+    reports.write(asked.report, source.path, asked.goal(), [found])
 
 
 @turned(of_words, argparse.ArgumentTypeError, of=DEFINE)
@@ -181,17 +176,16 @@ def unlinked(asked: Words) -> List[str]:
     return told.put(f"/proc/self/fd/{made}", "").program
 
 
-def write_page(asked: Words, answer: Answer, path: str) -> None:
-    """Writes the page of the order in an answer, or of the run that was asked about; where there is
-    none to show, it is said that none is written. Raises `Failure` where it can't be."""
+def write_page(asked: Words, answer: Answer, source: Source) -> None:
+    """Writes the page of the order in an answer, or of the run that was asked about, where that was
+    asked; where there is none to show, it is said that none is written. Raises `Failure` where it
+    can't be."""
+    if asked.page is None:
+        return
     from rdbg.tracing.command import lines_in, page_of, text_of  # (which take their time)
     from rdbg.tracing.page.asked import asked as asked_of
 
-    file, *rest = asked.plain()
-    source, goal = source_of(asked, file), " ".join(rest)
-    if source.application is None:
-        return
-    question = question_of(asked)
+    path, goal, question = asked.page, asked.goal(), question_of(asked)
     from_path = asked.value("--from")
     begin = [it.text for it in lines_in(text_of(from_path).text)] if from_path is not None else []
     lines = begin if question is LOST_AT else [*answer.order] or begin
@@ -214,8 +208,8 @@ def main(words: Sequence[str]) -> int:
         print(program_help.OF["reach"])
         return 0
     asked = read(words)
-    if not asked.has_goal():
-        files = asked.plain()
+    files, goal_words = asked.plain()[:1], asked.plain()[1:]
+    if not goal_words:
         is_made = any(map(is_in_lines, files)) or bool(files and asked.consts)
         become_engine(asked, unlinked(asked) if is_made else words)
     check_output(asked)

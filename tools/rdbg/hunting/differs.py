@@ -192,10 +192,3 @@ class Differs:
         endless = (at for at, it in enumerate(task.code) if it.words()[-1] == "max")
         waiting = (f"waits {name} and at {name} {at}" for at in endless)
         return " or ".join([f"ended {name}", f"failed {name}", *waiting])
-
-
-def compared(own: Find, find: Find) -> Iterator[Tuple[str, str]]:
-    """What ends otherwise in two orders, thing by thing, as the program shows it in each."""
-    for one, other in zip(own.views, find.views):
-        if one != other and (not find.tasks or one.split()[1] in find.tasks):
-            yield one, other

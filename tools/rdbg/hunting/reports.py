@@ -3,7 +3,7 @@ case, or else SARIF."""
 from typing import Iterator, Optional, Sequence
 from xml.etree import ElementTree
 
-from rdbg import junit
+from rdbg import junit, whole_file
 from rdbg.hunting import sarif
 from rdbg.hunting.sarif import FAIL, OPEN, Values
 from rdbg.shown import shown
@@ -39,10 +39,12 @@ def case(file: str, goal: str, results: Sequence[Values], expect: str) -> Elemen
     return made
 
 
-def text_of(
+def write(
     path: str, file: str, goal: str, results: Sequence[Values], expect: Optional[str] = None
-) -> str:
-    """The report for a path, of what a search for a goal in a file has come to."""
-    if not path.endswith(XML):
-        return sarif.text_of(results)
-    return junit.document(file, [case(file, goal, results, expect or NONE)])
+) -> None:
+    """Writes the report to a path, of what a search for a goal in a file has come to."""
+    with whole_file.written(path) as report:
+        if path.endswith(XML):
+            report.write(junit.document(file, [case(file, goal, results, expect or NONE)]))
+        else:
+            report.write(sarif.text_of(results))

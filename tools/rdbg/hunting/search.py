@@ -109,24 +109,19 @@ class Search:
         """What is said of the orders that weren't found."""
         return said.together(self.none) if self.none else Answer(Kind.UNTOLD)
 
-    def first(self) -> List[Find]:
-        """What is found first."""
-        found = self.ask(self.goal.asked)
-        return [found] if found else []
-
     def smallest(self) -> List[Find]:
         """The find with the fewest surprises, and of those the fewest moves: none has fewer."""
-        found = self.first()
-        while found and not self.is_stopped():
-            surprises, moves = found[0].size
+        found = self.ask(self.goal.asked)
+        while found is not None and not self.is_stopped():
+            surprises, moves = found.size
             tighter = [Bound(moves - 1, surprises)] if moves else []
             tighter += [Bound(self.bound.moves, surprises - 1)] if surprises else []
             fewer = [it for it in (self.ask(self.goal.asked, bound) for bound in tighter) if it]
             if not fewer:
                 break
             self.none = []
-            found = [min(fewer, key=lambda it: it.size)]
-        return found
+            found = min(fewer, key=lambda it: it.size)
+        return [found] if found else []
 
     def shortest(self, goal: str) -> Optional[Find]:
         """The find with the fewest moves, however many surprises."""

@@ -93,9 +93,9 @@ class Words(NamedTuple):
         """The words that are no options: the file, and behind it those of a goal."""
         return [word for it in self.parts if not it.option for word in it.words]
 
-    def has_goal(self) -> bool:
-        """Whether a goal stands behind the file. Without one the program is an engine."""
-        return len(self.plain()) > 1
+    def goal(self) -> str:
+        """The goal behind the file, as it is typed. Without words for it the program is an engine."""
+        return " ".join(self.plain()[1:])
 
     def put(self, file: str, goal: str) -> "Words":
         """The same with another file and, where it has one, goal."""
