@@ -165,10 +165,10 @@ class Hunt:
         """Writes what came of it, where that was asked."""
         if self.given.report is None:
             return
-        from rdbg.hunting import reports, sarif  # (which take their time)
+        from rdbg.hunting import reports  # (which takes its time)
 
         goal, path, left = self.goal.text, self.given.report, self.search.left()
-        found = [*sarif.results(self.source, goal, self.stage, self.finds, left)]
+        found = [*reports.results(self.source, goal, self.stage, self.finds, left)]
         reports.write(path, self.source.path, goal, found, self.given.expect)
 
     def say(self) -> None:

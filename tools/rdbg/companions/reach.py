@@ -16,7 +16,7 @@ from rdbg.goals.reading import NoGoal
 from rdbg.goals.scope import Scope
 from rdbg.goals.words import for_search
 from rdbg.reaching import beside, running, said
-from rdbg.reaching.asking import DOOMED, LOST as LOST_AT, PROGRAM, REACH, STOPPED, Question
+from rdbg.reaching.asking import DOOMED, LOST as LOST_AT, REACH, STOPPED, Question, program
 from rdbg.reaching.handlers import handlers, told as told_of
 from rdbg.reaching.said import UNTOLD, Answer
 from rdbg.reaching.words import DEFINE, LOST, OUTPUT, PACE, PAGE, PROGRESS, REPORT, WITHIN
@@ -24,14 +24,6 @@ from rdbg.reaching.words import Words, read
 from rdbg.replies import Refused
 
 SUMMARY = "answers whether some order of moves comes to a goal; that none does is a theorem"
-
-
-def program() -> str:
-    """The program that searches. Raises `Failure` where nothing says which it is."""
-    named = os.environ.get(PROGRAM)
-    if not named:
-        raise Failure(f"{PROGRAM} doesn't say where the program is; ./rdbg reach does", 2)
-    return named
 
 
 def question_of(asked: Words) -> Question:
@@ -54,23 +46,12 @@ def check_output(asked: Words) -> None:
                 raise Failure(f"{option} {path} is {file} itself, which would be lost", 2)
 
 
-def save(path: str, answered: str) -> None:
-    """Writes the order of an answer, if it has one. Raises `Failure` where it can't be written."""
-    answer = said.read(answered.splitlines())
-    if answer.has_order:
-        with whole_file.written(path) as file:
-            file.writelines(f"{line}\n" for line in answer.order)
-
-
-def with_remarks(asked: Words, output: str, source: Optional[Source], goal: str) -> str:
-    """An answer of the program's as it is told: of a text in lines the instructions that no order
+def with_remarks(asked: Words, output: str, answer: Answer, source: Source, goal: str) -> str:
+    """What the program answers as it is told: of a text in lines the instructions that no order
     came to stand there with their lines, and behind it what there is to say of it."""
-    lines = output.splitlines()
-    is_answer = any(map(said.COUNTS.fullmatch, lines))
-    if source is None or not is_in_lines(source.path) or not is_answer:
+    if not is_in_lines(source.path):
         return output
-    answer = said.read(lines)
-    kept = [it for it in lines if not said.MISSED.fullmatch(it)]
+    kept = [it for it in output.splitlines() if not said.MISSED.fullmatch(it)]
     texts, has_pace = asked.interrupts(), asked.value(PACE) is not None
     more = beside.remarks(answer, source, texts, goal, has_pace, PACE)
     told = (*kept, *beside.missed(answer, source), *more)
@@ -89,18 +70,21 @@ def say(asked: Words, outcome: running.Outcome, source: Optional[Source], goal: 
         output, status = "".join(f"{line}\n" for line in said.lines(answer)), UNTOLD
     else:
         said.check(output, status, said.known(last, surprises, is_reach))
+    if not output or source is None:
+        sys.stdout.write(output)
+        return status
+    answer = said.read(output.splitlines())
     try:
-        if asked.output is not None and status != UNTOLD:
-            save(asked.output, output)
+        if asked.output is not None and answer.has_order:
+            with whole_file.written(asked.output) as file:
+                file.writelines(f"{line}\n" for line in answer.order)
     finally:
         # (what was found isn't lost where it can't be written)
-        sys.stdout.write(with_remarks(asked, output, source, goal))
-    if output and source is not None:
-        sys.stdout.flush()
-        answer = said.read(output.splitlines())
-        if not outcome.is_stopped:
-            write_page(asked, answer, source)
-        write_report(asked, answer, source)
+        sys.stdout.write(with_remarks(asked, output, answer, source, goal))
+    sys.stdout.flush()
+    if not outcome.is_stopped:
+        write_page(asked, answer, source)
+    write_report(asked, answer, source)
     return status
 
 
@@ -108,9 +92,9 @@ def write_report(asked: Words, answer: Answer, source: Source) -> None:
     """Writes the report of an answer, where that was asked."""
     if asked.report is None:
         return
-    from rdbg.hunting import reports, sarif  # (which take their time)
+    from rdbg.hunting import reports  # (which takes its time)
 
-    found = sarif.of_answer(source, asked.goal(), answer)
+    found = reports.of_answer(source, asked.goal(), answer)
     reports.write(asked.report, source.path, asked.goal(), [found])
 
 
