@@ -189,15 +189,12 @@ class Shell:
 
     def hint_on(self, line: str, reply: str) -> None:
         """Prints a hint where a reply refuses a line."""
+        from rdbg.shell.hints import refusal
+
         try:
             read(reply)
         except Refused as refused:
-            self._hint_on(line, refused)
-
-    def _hint_on(self, line: str, refused: Refused) -> None:
-        from rdbg.shell.hints import refusal
-
-        self.hint(refusal(self, line, refused))
+            self.hint(refusal(self, line, refused))
 
     def _echo(self, line: str) -> None:
         if self.shows_lines:
@@ -242,7 +239,7 @@ class Shell:
         except Refused as refused:
             self.is_refused = True
             self.refuse(f"rdbg says: no {refused}")
-            self._hint_on(self.asked, refused)
+            self.hint_on(self.asked, f"no {refused}")
         self.notice()
         here = self.target, self.target.place
         if self.displays and here not in (there, self._displayed):
