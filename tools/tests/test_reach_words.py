@@ -12,7 +12,7 @@ class Own(unittest.TestCase):
         words = ["a.json", "count", "q", "=", "2", "--moves", "5", "--exact", "--pace=2..4"]
         for given in (words, [*words, PROGRESS], [PROGRESS, *words]):
             asked = read(given)
-            self.assertEqual((words, None, None, (), None, None), (asked.program, *asked[1:]))
+            self.assertEqual((words, {}, None, ()), (asked.program, *asked[1:]))
 
     def test_each_way_to_write_them(self) -> None:
         for line in (
@@ -24,17 +24,17 @@ class Own(unittest.TestCase):
             with self.subTest(line):
                 asked = read(line.split())
                 self.assertEqual("a.json asleep --moves 5".split(), asked.program)
-                self.assertEqual(("out", 2.5), (asked.output, asked.seconds))
+                self.assertEqual(("out", 2.5), (asked.own["-o"], asked.seconds))
 
     def test_behind_two_dashes_there_are_none(self) -> None:
         words = "a.json --moves 5 -- asleep -o --within".split()
         asked = read(words)
-        self.assertEqual((words, None, None, (), None, None), (asked.program, *asked[1:]))
+        self.assertEqual((words, {}, None, ()), (asked.program, *asked[1:]))
 
     def test_a_report(self) -> None:
         for line in ("a.json asleep --report r", "--report=r a.json asleep"):
             asked = read(line.split())
-            self.assertEqual(("a.json asleep".split(), "r"), (asked.program, asked.report))
+            self.assertEqual(("a.json asleep".split(), "r"), (asked.program, asked.own["--report"]))
 
     def test_what_is_wrong(self) -> None:
         for line, why in (

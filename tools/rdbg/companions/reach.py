@@ -33,10 +33,10 @@ def question_of(asked: Words) -> Question:
 
 def check_output(asked: Words) -> None:
     """Raises `Failure` where the order, its page or the report couldn't be written."""
-    if asked.report is not None and asked.has(LOST):
+    if REPORT in asked.own and asked.has(LOST):
         raise Failure(f"{REPORT} is of what an order leads to; {LOST} asks of a run", 2)
-    for option, path in ((OUTPUT, asked.output), (PAGE, asked.page), (REPORT, asked.report)):
-        if path is None:
+    for option, path in asked.own.items():
+        if option == WITHIN:
             continue
         if path == whole_file.STANDARD_OUTPUT:
             raise Failure(f"{option} takes a file; the order is on standard output without it", 2)
@@ -75,8 +75,8 @@ def say(asked: Words, outcome: running.Outcome, source: Optional[Source], goal: 
         return status
     answer = said.read(output.splitlines())
     try:
-        if asked.output is not None and answer.has_order:
-            with whole_file.written(asked.output) as file:
+        if OUTPUT in asked.own and answer.has_order:
+            with whole_file.written(asked.own[OUTPUT]) as file:
                 file.writelines(f"{line}\n" for line in answer.order)
     finally:
         # (what was found isn't lost where it can't be written)
@@ -90,12 +90,12 @@ def say(asked: Words, outcome: running.Outcome, source: Optional[Source], goal: 
 
 def write_report(asked: Words, answer: Answer, source: Source) -> None:
     """Writes the report of an answer, where that was asked."""
-    if asked.report is None:
+    if REPORT not in asked.own:
         return
     from rdbg.hunting import reports  # (which takes its time)
 
     found = reports.of_answer(source, asked.goal(), answer)
-    reports.write(asked.report, source.path, asked.goal(), [found])
+    reports.write(asked.own[REPORT], source.path, asked.goal(), [found])
 
 
 @turned(of_words, argparse.ArgumentTypeError, of=DEFINE)
@@ -139,7 +139,7 @@ def become_engine(asked: Words, words: Sequence[str]) -> NoReturn:
     """Becomes the program, which answers lines where it is asked for no goal: nothing stands
     between. Raises `Failure` where it can't be started, and where something is asked that goes with
     a goal."""
-    if (asked.output, asked.seconds, asked.page, asked.report) != (None, None, None, None):
+    if asked.own:
         raise Failure(f"{OUTPUT}, {WITHIN}, {PAGE} and {REPORT} go with a goal", 2)
     found = program()
     sys.stdout.flush()
@@ -164,12 +164,12 @@ def write_page(asked: Words, answer: Answer, source: Source) -> None:
     """Writes the page of the order in an answer, or of the run that was asked about, where that was
     asked; where there is none to show, it is said that none is written. Raises `Failure` where it
     can't be."""
-    if asked.page is None:
+    if PAGE not in asked.own:
         return
     from rdbg.tracing.command import lines_in, page_of, text_of  # (which take their time)
     from rdbg.tracing.page.asked import asked as asked_of
 
-    path, goal, question = asked.page, asked.goal(), question_of(asked)
+    path, goal, question = asked.own[PAGE], asked.goal(), question_of(asked)
     from_path = asked.value("--from")
     begin = [it.text for it in lines_in(text_of(from_path).text)] if from_path is not None else []
     lines = begin if question is LOST_AT else [*answer.order] or begin

@@ -61,15 +61,13 @@ def parts(words: Sequence[str]) -> Iterator[Part]:
 
 
 class Words(NamedTuple):
-    """What was asked for: the words of the program, but `PROGRESS`, what its starter does, and consts
-    of a text."""
+    """What was asked for: the words of the program, but `PROGRESS`; what its starter does, by its
+    options; for how many seconds; and consts of a text."""
 
     parts: Tuple[Part, ...]
-    output: Optional[str]
+    own: Dict[str, str]
     seconds: Optional[float]
-    consts: Tuple[str, ...] = ()
-    page: Optional[str] = None
-    report: Optional[str] = None
+    consts: Tuple[str, ...]
 
     @property
     def program(self) -> List[str]:
@@ -155,5 +153,4 @@ def read(words: Sequence[str]) -> Words:
     limit = None if text is None else seconds(text)
     if text is not None and limit is None:
         raise Failure(f"{WITHIN} takes a number of seconds above 0, and not '{shown(text)}'", 2)
-    outputs = found.get(OUTPUT), limit, tuple(consts), found.get(PAGE), found.get(REPORT)
-    return Words(tuple(program), *outputs)
+    return Words(tuple(program), found, limit, tuple(consts))
