@@ -112,30 +112,27 @@ def check_words(given: argparse.Namespace, goal: Goal) -> None:
         raise Failure(f"{names[0]} is of goals that are met, and none of differs", CANT)
 
 
-def empty(path: Optional[str], source: str) -> None:
-    """Empties the file where lines go, before anything is looked for, so that none of an earlier
-    hunt stand there where nothing is found. Raises `Failure` where it can't be written."""
-    if path is None or path == STANDARD:
-        return
-    with trying(f"write {path}"):
-        file = links.behind(path)
-        was_there = os.path.lexists(file)
-        if was_there and os.path.samefile(file, source):
-            raise Failure(f"-o {path} is the application itself, which would be lost", CANT)
-        with open(file, "w", encoding="utf-8", opener=links.no_link):
-            pass
-    if not was_there:
-        os.unlink(file)
-
-
 @contextlib.contextmanager
-def outputs(path: Optional[str]) -> Iterator[Tuple[IO[str], IO[str]]]:
-    """Where the lines go, and where what is said of them."""
+def outputs(path: Optional[str], source: str) -> Iterator[Tuple[IO[str], IO[str]]]:
+    """Where the lines go, and where what is said of them. A file is emptied before anything is
+    looked for, so that none of an earlier hunt stand there where nothing is found. Raises `Failure`
+    where it can't be written."""
     if path is None or path == STANDARD:
         yield sys.stdout, sys.stderr
         return
-    with open(links.behind(path), "w", encoding="utf-8", opener=links.no_link) as file:
-        yield file, sys.stdout
+    with trying(f"write {path}"):
+        behind = links.behind(path)
+        was_there = os.path.lexists(behind)
+        if was_there and os.path.samefile(behind, source):
+            raise Failure(f"-o {path} is the application itself, which would be lost", CANT)
+        file = open(behind, "w", encoding="utf-8", opener=links.no_link)
+    try:
+        with file:
+            yield file, sys.stdout
+    finally:
+        with contextlib.suppress(FileNotFoundError):
+            if not was_there and not os.path.getsize(behind):
+                os.unlink(behind)
 
 
 class Hunt:
@@ -171,18 +168,13 @@ class Hunt:
         found = [*reports.results(self.source, goal, self.stage, self.finds, left)]
         reports.write(path, self.source.path, goal, found, self.given.expect)
 
-    def say(self) -> None:
-        """Prints what is said, and the lines of what was found."""
-        path, said = self.given.output, self._said()
-        if not self.finds:
-            is_mixed = path in (None, STANDARD)
-            print(*said, sep="\n", file=sys.stderr if is_mixed else sys.stdout, flush=True)
-            return
-        orders = [*filter(None, [self.own]), *self.finds]
-        lines = report.lines_of(self.goal, self.stage, orders)
-        with outputs(path) as (file, out):
-            print(*lines, sep="\n", file=file, flush=True)
-            print(*said, sep="\n", file=out, flush=True)
+    def say(self, file: IO[str], out: IO[str]) -> None:
+        """Prints the lines of what was found, and what is said."""
+        said = self._said()
+        if self.finds:
+            orders = [*filter(None, [self.own]), *self.finds]
+            print(*report.lines_of(self.goal, self.stage, orders), sep="\n", file=file, flush=True)
+        print(*said, sep="\n", file=out, flush=True)
         self._write_page()
 
     def _said(self) -> List[str]:
@@ -208,7 +200,7 @@ class Hunt:
 
     def _write_page(self) -> None:
         """Writes the first find as a page, where that was asked."""
-        if self.given.page is None:
+        if self.given.page is None or not self.finds:
             return
         from rdbg.tracing.command import page_of  # (which takes its time)
         from rdbg.tracing.page.asked import Asked
@@ -248,7 +240,6 @@ def hunt(given: argparse.Namespace, source: Source, path: str) -> int:
         why = "differs begins where interrupts have come, and counts anew: give their calls"
         left_out = f"; {OPTION} {NO_INTERRUPT} leaves them out"
         raise Failure(f"{OPTION} NAME after or apart: {why}{left_out}", CANT)
-    empty(given.output, given.file)
     for output in (given.page, given.report):
         if output not in (None, STANDARD):
             whole_file.check(output)
@@ -258,12 +249,12 @@ def hunt(given: argparse.Namespace, source: Source, path: str) -> int:
     bound = Bound(given.moves, given.surprises)
     search = Search(Asker(path, words_passed, end), stage, goal, bound, question, given.exhaustive)
     it = Hunt(given, source, goal, search)
-    with contextlib.closing(stage):
+    with outputs(given.output, given.file) as (file, out), contextlib.closing(stage):
         try:
             it.run()
         except KeyboardInterrupt:
             search.none.append(Answer(Kind.UNTOLD, why=CTRL_C))
-        it.say()
+        it.say(file, out)
         it.report()
         return it.status()
 
