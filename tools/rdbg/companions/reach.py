@@ -60,16 +60,14 @@ def with_remarks(asked: Words, output: str, answer: Answer, source: Source, goal
 
 def say(asked: Words, outcome: running.Outcome, source: Optional[Source], goal: str) -> int:
     """Says what came of a search for a goal, and answers the exit status."""
-    last, surprises = outcome.last, asked.surprises()
-    is_reach = question_of(asked) is REACH
-    output, status = outcome.output, outcome.status
-    if outcome.is_stopped and last is None:
+    output, status, is_reach = outcome.output, outcome.status, question_of(asked) is REACH
+    known = said.stopped(outcome.last, asked.surprises(), STOPPED, is_reach)
+    if not outcome.is_stopped:
+        said.check(output, status, known)
+    elif outcome.last is None:
         raise Failure("it was stopped before it could say how far it was", UNTOLD)
-    if outcome.is_stopped:
-        answer = said.stopped(last, surprises, STOPPED, is_reach)
-        output, status = "".join(f"{line}\n" for line in said.lines(answer)), UNTOLD
     else:
-        said.check(output, status, said.known(last, surprises, is_reach))
+        output, status = "".join(f"{line}\n" for line in said.lines(known)), UNTOLD
     if not output or source is None:
         sys.stdout.write(output)
         return status
