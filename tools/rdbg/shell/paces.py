@@ -88,12 +88,11 @@ def go(shell: Shell, words: Sequence[str]) -> None:
         before = shell.look() if shell.shows_moves else None
         walk.wall = ""
         try:
-            made = walk.ticks(count) if is_ticks else walk.forward(count)
+            walk.ticks(count) if is_ticks else walk.forward(count)
         except Interrupted:
             shell.stopped(f"at {shell.target.place}")
-            made = 0
         if walk.wall:
             shell.answer(f"no {walk.wall}")
         shell.answer(f"ok at {shell.target.place}")
-        if made or shell.target.place != start:
+        if shell.target.place != start:
             shell.after(start, before)
