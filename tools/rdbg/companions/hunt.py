@@ -164,9 +164,10 @@ class Hunt:
             return
         from rdbg.hunting import reports  # (which takes its time)
 
-        goal, path, left = self.goal.text, self.given.report, self.search.left()
-        found = [*reports.results(self.source, goal, self.stage, self.finds, left)]
-        reports.write(path, self.source.path, goal, found, self.given.expect)
+        source, goal, stage = self.source, self.goal.text, self.stage
+        found = [reports.found(source, goal, stage, it.lines, it.told) for it in self.finds]
+        results = found or [reports.none(source, goal, self.search.left())]
+        reports.write(self.given.report, source.path, goal, results, self.given.expect)
 
     def say(self, file: IO[str], out: IO[str]) -> None:
         """Prints the lines of what was found, and what is said."""

@@ -14,7 +14,7 @@ from rdbg.driving.parts import look_through
 from rdbg.driving.trail import instruction_of
 from rdbg.effects import Move
 from rdbg.files.source import Source
-from rdbg.hunting.stage import Find, Stage
+from rdbg.hunting.stage import Stage
 from rdbg.reaching.said import Answer, Kind
 from rdbg.shown import shown
 from rdbg.tree import Place
@@ -87,16 +87,6 @@ def none(source: Source, goal: str, answer: Answer) -> Values:
     kind = PASS if answer.kind is Kind.NONE else OPEN
     said = f"{goal}: {answer.head()}" + (f"; {answer.why}" if answer.why else "")
     return result(kind, "none", said, physical(source.path, None))
-
-
-def results(
-    source: Source, goal: str, stage: Stage, finds: Sequence[Find], answer: Answer
-) -> Iterator[Values]:
-    """What a search has come to: each find, or that there is none."""
-    for find in finds:
-        yield found(source, goal, stage, find.lines, find.told)
-    if not finds:
-        yield none(source, goal, answer)
 
 
 def as_sarif(said: Sequence[Values]) -> str:
