@@ -19,8 +19,8 @@ from rdbg.shell.notices import MOST_MOVES
 from rdbg.shell.shell import Shell
 from rdbg.wording import counted
 
-# How the name of a file ends that is written over.
-ENDING = ".commands"
+# How the name of a file ends that is written over; and how one is opened that isn't there.
+ENDING, NEW = ".commands", os.O_WRONLY | os.O_CREAT | os.O_EXCL
 
 
 DEFAULT_MOVES = 20
@@ -44,7 +44,10 @@ def write(shell: Shell, path: str, text: str, is_anew: bool) -> None:
     """Writes a file. Raises `Unable` where it can't, or may not, be written."""
     try:
         with turned(Unable, Failure), trying(f"write {path}"):
-            is_made, number = opened(path)
+            try:
+                is_made, number = True, own_file.opened(path, NEW)
+            except FileExistsError:
+                is_made, number = False, own_file.opened(path, os.O_WRONLY)
             with os.fdopen(number, "w", encoding="ascii") as file:
                 there = os.fstat(number)
                 if not is_made:
@@ -55,13 +58,6 @@ def write(shell: Shell, path: str, text: str, is_anew: bool) -> None:
                 file.write(text)
     except ValueError:
         raise Unable(f"cannot write {path!r}: no file has such a name") from None
-
-
-def opened(path: str) -> Tuple[bool, int]:
-    """Whether a file is made, and its number, by which it is written."""
-    with contextlib.suppress(FileExistsError):
-        return True, own_file.opened(path, os.O_WRONLY | os.O_CREAT | os.O_EXCL)
-    return False, own_file.opened(path, os.O_WRONLY)
 
 
 def moves(shell: Shell, words: Sequence[str]) -> None:
