@@ -136,13 +136,11 @@ def outputs(path: Optional[str], source: str) -> Iterator[Tuple[IO[str], IO[str]
 
 
 class Hunt:
-    """A hunt by its words, for a goal that an application can have."""
+    """A hunt by its words."""
 
-    def __init__(
-        self, given: argparse.Namespace, source: Source, goal: Goal, search: Search
-    ) -> None:
-        self.given, self.source, self.goal, self.search = given, source, goal, search
-        self.stage = search.stage
+    def __init__(self, given: argparse.Namespace, search: Search) -> None:
+        self.given, self.search, self.goal = given, search, search.goal
+        self.stage, self.source = search.stage, search.stage.source
         self.finds: List[Find] = []
         # (the order of `forward`, where others are held against it)
         self.own: Optional[Find] = None
@@ -180,24 +178,21 @@ class Hunt:
 
     def _said(self) -> List[str]:
         """What is said."""
+        search, left = self.search, self.search.left()
         if not self.finds:
-            left = self.search.left()
-            said = [*report.none(self.goal, left, self.stage.application)]
-            return [*said, *self._remarks(left)]
-        is_exhaustive = self.given.exhaustive and self.own is None
-        said = [*report.found(self.goal, self.stage, self.finds, is_exhaustive, self.own)]
-        said.append(report.gone_through(self.search.counts))
-        if self.given.smallest:
-            said += report.smaller(self.search.none)
-        elif self.search.is_all or self.search.untold():
-            said += report.others(self.search.left())
-        return [*said, *self._remarks(Answer(Kind.REACHED))]
-
-    def _remarks(self, answer: Answer) -> Iterator[str]:
-        """What there is to say beside it."""
+            answer, said = left, [*report.none(self.goal, left, self.stage.application)]
+        else:
+            is_exhaustive = self.given.exhaustive and self.own is None
+            told = report.found(self.goal, self.stage, self.finds, is_exhaustive, self.own)
+            answer, said = Answer(Kind.REACHED), [*told, report.gone_through(search.counts)]
+            if self.given.smallest:
+                said += report.smaller(search.none)
+            elif search.is_all or search.untold():
+                said += report.others(left)
         asked = "" if self.goal.compares else self.goal.asked
         has_pace = self.given.pace is not None
-        return beside.remarks(answer, self.source, self.given.isr, asked, has_pace, "--pace")
+        more = beside.remarks(answer, self.source, self.given.isr, asked, has_pace, "--pace")
+        return [*said, *more]
 
     def _write_page(self) -> None:
         """Writes the first find as a page, where that was asked."""
@@ -249,7 +244,7 @@ def hunt(given: argparse.Namespace, source: Source, path: str) -> int:
     stage = Stage(source, may_come)
     bound = Bound(given.moves, given.surprises)
     search = Search(Asker(path, words_passed, end), stage, goal, bound, question, given.exhaustive)
-    it = Hunt(given, source, goal, search)
+    it = Hunt(given, search)
     with outputs(given.output, given.file) as (file, out), contextlib.closing(stage):
         try:
             it.run()

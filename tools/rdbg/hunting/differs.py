@@ -94,17 +94,11 @@ class Differs:
             why = f"nothing is at rest in forward's order of {self._moves} moves: name a goal"
             self.search.none.append(Answer(Kind.UNTOLD, why=why))
             return []
-        found = self.search.different(wanted, self.search.ask, self._is_new)
+        found = self.search.different(wanted, lambda it: it.views, self._views)
         if len(found) < wanted:
             # (which bytes there are no goal can say)
             found += self._by_leaving(wanted - len(found))
         return sorted(found, key=lambda it: it.size)[:wanted]
-
-    def _is_new(self, find: Find) -> bool:
-        if find.views in self._views:
-            return False
-        self._views.add(find.views)
-        return True
 
     def _by_leaving(self, wanted: int) -> List[Find]:
         """Those that leave `forward`'s order at one place, those with fewer surprises first; the
@@ -116,7 +110,8 @@ class Differs:
             if self.search.is_stopped():
                 break
             it = self._behind(leaving)
-            if it is not None and self._is_new(it):
+            if it is not None and it.views not in self._views:
+                self._views.add(it.views)
                 found.append(it)
             if len(found) == wanted == 1:
                 return found
@@ -175,8 +170,7 @@ class Differs:
             ends = {claims(it.look, self.stage.application)[name] for it in self._ends}
             goal = " or ".join(f"( {it} )" for it in sorted(ends))
             # (of whatever length)
-            more = self.search.interrupts(leaving)
-            answer = self.search.asker.ask(goal, Bound(), leaving, more, self.search.question)
+            answer = self.search.answer(goal, Bound(), leaving)
             if answer.why in STOPS:
                 self.search.none.append(answer)
                 return None

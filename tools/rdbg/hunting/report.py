@@ -2,7 +2,6 @@
 from typing import Iterator, List, Optional, Sequence, Tuple
 
 from rdbg.application import Application
-from rdbg.failure import Failure
 from rdbg.hunting.goals import Goal
 from rdbg.hunting.stage import Find, Stage
 from rdbg.reaching.said import Answer, Kind
@@ -40,16 +39,13 @@ def found(
     where it is held against that."""
     if own is not None:
         yield f"the order without a surprise, which ends at {own.place}:"
-        yield from stage.table(own, lambda look: True)[0]
+        yield from stage.table(own, goal)
     for at, find in enumerate(finds, 1):
         which = f" {at}" if len(finds) > 1 else ""
         yield f"found{which}: {goal.text}, {place_of(find, is_exhaustive)}"
         if not is_exhaustive:
             yield from (f"  {told}" for told in find.told)
-        table, is_so = stage.table(find, goal.is_so)
-        if not is_so:
-            raise Failure("what was found doesn't come to its goal when it is made again")
-        yield from table
+        yield from stage.table(find, goal)
         yield from () if own is None else differing(own, find)
 
 

@@ -24,7 +24,7 @@ from rdbg.reaching.said import Answer, Bound, Kind
 TOO_LONG = "the goal is too long"
 STOPS = (TIME, CTRL_C)
 Cell = FrozenSet[str]
-Ask = Callable[[str], Optional[Find]]
+End = Tuple[str, ...]
 # A find that waits to be told, behind those that have fewer surprises, fewer moves, or came first;
 # and the claims that its end denies.
 Waiting = Tuple[Tuple[int, int], int, Find, Cell]
@@ -83,9 +83,10 @@ class Search:
         """Whether the time is up, or Ctrl-C came."""
         return any(it.why in STOPS for it in self.none)
 
-    def interrupts(self, begin: Sequence[str] = ()) -> List[str]:
-        """The lines that let those interrupts come that are left behind these lines."""
-        return [it.line() for it in left(self.stage.handlers, begin)]
+    def answer(self, goal: str, bound: Bound, begin: Sequence[str]) -> Answer:
+        """What is answered of a goal behind these lines, with the interrupts that are left there."""
+        more = [it.line() for it in left(self.stage.handlers, begin)]
+        return self.asker.ask(goal, bound, begin, more, self.question)
 
     def ask(
         self,
@@ -96,8 +97,7 @@ class Search:
     ) -> Optional[Find]:
         """The order that is found for a goal, made again. Where there is none its answer is kept,
         without `keeps` only one that leaves it open."""
-        more, asked = self.interrupts(begin), self.bound if bound is None else bound
-        answer = self.asker.ask(goal, asked, begin, more, self.question)
+        answer = self.answer(goal, self.bound if bound is None else bound, begin)
         if answer.kind is Kind.REACHED:
             self.counts = self.counts if any(self.counts) else answer.counts
             return self.stage.find(answer.order)
@@ -137,10 +137,10 @@ class Search:
         """How many questions couldn't be answered."""
         return sum(it.kind is Kind.UNTOLD for it in self.none)
 
-    def different(self, wanted: int, find: Ask, is_new: Callable[[Find], bool]) -> List[Find]:
-        """Finds that end otherwise, so many at the most, the smaller ones first. The ends are gone
-        through in cells, those in which some claims are denied: where one is found, all others lie
-        where one of its own claims is denied, too."""
+    def different(self, wanted: int, end: Callable[[Find], End], ends: Set[End]) -> List[Find]:
+        """Finds with other ends than these, so many at the most, the smaller ones first. The ends
+        are gone through in cells, those in which some claims are denied: where one is found, all
+        others lie where one of its own claims is denied, too."""
         finds: List[Find] = []
         waiting: List[Waiting] = []
         asked: Set[Cell] = set()
@@ -149,7 +149,7 @@ class Search:
             if cell in asked or self.is_stopped():
                 return
             asked.add(cell)
-            found = self._in_cell(cell, find)
+            found = self._in_cell(cell)
             if found is not None:
                 surprises, moves = found.size
                 size = (0 if self.is_exhaustive else surprises), moves
@@ -158,7 +158,8 @@ class Search:
         look(frozenset())
         while waiting and len(finds) < wanted:
             _, _, found, cell = heapq.heappop(waiting)
-            if is_new(found):
+            if end(found) not in ends:
+                ends.add(end(found))
                 finds.append(found)
             if len(finds) < wanted:
                 for claim in claims(found.look, self.stage.application).values():
@@ -166,12 +167,12 @@ class Search:
         self.is_all = len(finds) < wanted
         return finds
 
-    def _in_cell(self, cell: Cell, find: Ask) -> Optional[Find]:
+    def _in_cell(self, cell: Cell) -> Optional[Find]:
         """What is found in a cell."""
         denied = (f"not ( {it} )" for it in sorted(cell))
         goal = " and ".join([f"( {self.goal.asked} )", *denied]) if cell else self.goal.asked
         try:
-            return find(goal)
+            return self.shortest(goal) if self.is_exhaustive else self.ask(goal)
         except NoQuestion as refused:
             if TOO_LONG not in str(refused) or not cell:
                 raise
@@ -180,13 +181,8 @@ class Search:
 
     def all(self, wanted: int) -> List[Find]:
         """So many finds that end otherwise, as far as goals can tell it."""
-        ends: Set[Tuple[str, ...]] = set()
 
-        def is_new(found: Find) -> bool:
-            before = len(ends)
-            ends.add(tuple(claims(found.look, self.stage.application).values()))
-            return len(ends) > before
+        def end(found: Find) -> End:
+            return tuple(claims(found.look, self.stage.application).values())
 
-        if self.is_exhaustive:
-            return self.different(wanted, self.shortest, is_new)
-        return self.different(wanted, self.ask, is_new)
+        return self.different(wanted, end, set())

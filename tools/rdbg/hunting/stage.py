@@ -1,5 +1,5 @@
 """A program of a hunt's own, in which what is found is made again, and looked at."""
-from typing import Callable, Iterator, List, NamedTuple, Optional, Sequence, Tuple
+from typing import Iterator, NamedTuple, Optional, Sequence, Tuple
 
 from rdbg import commands
 from rdbg.driving.interrupt import Interrupt
@@ -7,7 +7,9 @@ from rdbg.driving.opening import begin
 from rdbg.driving.parts import look_through
 from rdbg.driving.target import Limits, Target, read
 from rdbg.driving.walk import Walk
+from rdbg.failure import Failure
 from rdbg.files.source import Source
+from rdbg.hunting.goals import Goal
 from rdbg.hunting.orders import made
 from rdbg.looks import Look, Names
 from rdbg.reaching.handlers import Handler
@@ -91,17 +93,16 @@ class Stage:
         look = Look.of(self.walk.place, [read(view) for view in views])
         return Find((*lines,), (*told,), length, look, (*views[1:],))
 
-    def table(self, find: Find, is_so: Callable[[Look], bool]) -> Tuple[List[str], bool]:
-        """Who did what in an order, as `rdbg trace` says it, and whether its end is as is said."""
+    def table(self, find: Find, goal: Goal) -> Iterator[str]:
+        """Who did what in an order, as `rdbg trace` says it: the head and the rows of a table, if it
+        has moves. Raises `Failure` where it doesn't come to its goal."""
         self.at_boot().tell_all(find.lines)
-        return [*self._rows()], self.walk.place == find.place and is_so(self.target.look())
-
-    def _rows(self) -> Iterator[str]:
-        """The head and the rows of a table of the moves that are done, if there are any."""
-        done, tick = self.walk.place, self.target.look().cores.tick
+        done, look = self.walk.place, self.target.look()
+        if done != find.place or not goal.is_so(look):
+            raise Failure("what was found doesn't come to its goal when it is made again")
         if not done:
             return
-        table = Table.of(self.application, done, tick)
+        table = Table.of(self.application, done, look.cores.tick)
         yield table.head()
         part = look_through(self.target, 1, min(done, MOST_ROWS))
         yield from (table.row(row.cells) for row in rows(part.moves))
