@@ -171,8 +171,8 @@ class Hunt:
         """Prints the lines of what was found, and what is said."""
         said = self._said()
         if self.finds:
-            orders = [*filter(None, [self.own]), *self.finds]
-            print(*report.lines_of(self.goal, self.stage, orders), sep="\n", file=file, flush=True)
+            lines = report.lines_of(self.goal, [*filter(None, [self.own]), *self.finds])
+            print(*lines, sep="\n", file=file, flush=True)
         print(*said, sep="\n", file=out, flush=True)
         self._write_page()
 

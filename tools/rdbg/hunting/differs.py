@@ -10,14 +10,12 @@ import itertools
 import re
 from typing import Iterator, List, Optional, Sequence, Set, Tuple
 
-
 from rdbg.driving.target import read
 from rdbg.goals.conditions import Condition
 from rdbg.goals.ways import To, latest
 from rdbg.hunting.goals import STUCK
-from rdbg.hunting.orders import FORWARD, TICK, choice
 from rdbg.hunting.search import STOPS, Search, claims
-from rdbg.hunting.stage import Find, Stage
+from rdbg.hunting.stage import FORWARD, TICK, Find, Stage, choice
 from rdbg.reaching.said import Answer, Bound, Kind
 from rdbg.replies import Cores
 

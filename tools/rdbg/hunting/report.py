@@ -22,11 +22,11 @@ def place_of(find: Find, is_exhaustive: bool) -> str:
     return f"at {find.place}" if is_exhaustive else f"at {find.place}, {how}"
 
 
-def lines_of(goal: Goal, stage: Stage, finds: Sequence[Find]) -> List[str]:
+def lines_of(goal: Goal, finds: Sequence[Find]) -> List[str]:
     """The lines that make each order and show its end, going back to boot between two."""
-    lines = goal.first_lines()
+    lines = [*goal.first]
     for at, find in enumerate(finds):
-        lines += [*find.lines, *goal.last_lines(stage.names)]
+        lines += [*find.lines, *goal.last]
         if at + 1 < len(finds) and find.place:
             lines.append(f"back {find.place}")
     return lines

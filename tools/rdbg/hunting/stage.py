@@ -1,5 +1,9 @@
-"""A program of a hunt's own, in which what is found is made again, and looked at."""
-from typing import Iterator, NamedTuple, Optional, Sequence, Tuple
+"""Orders of a hunt, made again in a program of its own and looked at, and what in one is a surprise.
+
+A surprise is a move that `forward` wouldn't make next, where the moves of one core in a row, all
+ahead of it, count as one; an interrupt is one, whatever it calls."""
+import dataclasses
+from typing import Iterator, List, NamedTuple, Optional, Sequence, Tuple
 
 from rdbg import commands
 from rdbg.driving.interrupt import Interrupt
@@ -10,15 +14,73 @@ from rdbg.driving.walk import Walk
 from rdbg.failure import Failure
 from rdbg.files.source import Source
 from rdbg.hunting.goals import Goal
-from rdbg.hunting.orders import made
 from rdbg.looks import Look, Names
-from rdbg.reaching.handlers import Handler
+from rdbg.reaching.handlers import WORD, Handler, coming
+from rdbg.replies import Cores
 from rdbg.tracing.table import Table, rows
+from rdbg.wording import counted
 
+TICK, FORWARD = "tick", "forward"
 # So many rows of a table are shown at the most.
 MOST_ROWS = 60
 # So many places of a history are left before a new program is begun.
 LEFT = 100_000
+
+
+@dataclasses.dataclass
+class Run:
+    """Moves in a row that are one to whoever reads of them: their line, or the word for those of
+    `forward`, how many they are, and behind how many they come; the calls of an interrupt are one,
+    each a move of the program."""
+
+    line: str
+    count: int
+    place: int
+    handler: Optional[Handler] = None
+
+    def told(self) -> str:
+        """The surprise that it is; empty where it is none."""
+        if self.line == FORWARD:
+            return ""
+        if self.handler:
+            return f"at {self.place}: an interrupt comes: {self.handler.calls}"
+        if self.line == TICK:
+            return f"at {self.place}: a tick comes early"
+        moves = counted(self.count, "move")
+        return f"at {self.place}: core {self.line.split()[1]} is {moves} ahead"
+
+    def lines(self) -> List[str]:
+        """The lines that make it."""
+        if self.handler:
+            return [*self.handler.lines]
+        return [f"{FORWARD} {self.count}"] if self.line == FORWARD else [self.line] * self.count
+
+
+def choice(cores: Cores) -> Optional[int]:
+    """The core that `forward` would move next, the first busy one from the turn on, if any."""
+    busy = (core for core, task in enumerate(cores.running) if task and core >= cores.turn)
+    return next(busy, None)
+
+
+def runs_of(lines: Sequence[str], looks: Sequence[Cores], handlers: Sequence[Handler]) -> List[Run]:
+    """The runs that the moves of an order make, with the cores before each of them."""
+    found: List[Run] = []
+    at = 0
+    while at < len(lines):
+        line = lines[at]
+        if line.split()[0] == WORD:
+            it = coming(handlers, lines, at) or Handler(line[len(WORD) + 1 :])
+            run = Run(line, len(it.lines), at, it)
+        else:
+            core = choice(looks[at])
+            expected = TICK if core is None else f"step {core}"
+            run = Run(FORWARD if line == expected else line, 1, at)
+        at += run.count
+        if found and found[-1].line == run.line and run.line != TICK and not run.handler:
+            found[-1].count += 1
+        else:
+            found.append(run)
+    return found
 
 
 class Find(NamedTuple):
@@ -82,7 +144,11 @@ class Stage:
 
     def find(self, moves: Sequence[str]) -> Find:
         """The order of these moves. Raises `Failure` where it can't be made."""
-        runs = made(self.at_boot(), moves, self.handlers)
+        answers = self.at_boot().tell_all([it for move in moves for it in ("show cores", move)])
+        if any(it.startswith("no ") for it in answers):
+            raise Failure("what was found can't be made again")
+        looks = [it for it in map(read, answers[::2]) if isinstance(it, Cores)]
+        runs = runs_of(moves, looks, self.handlers)
         told = [it.told() for it in runs if it.told()]
         length = sum(1 if it.handler else it.count for it in runs)
         return self.here([line for it in runs for line in it.lines()], told, length)

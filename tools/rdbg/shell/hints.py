@@ -184,8 +184,7 @@ def count(shell: Shell, words: Words) -> Optional[Tuple[Words, str]]:
 
 def amounts(shell: Shell, words: Words) -> Optional[Tuple[Words, str]]:
     """A condition begins with what is looked at."""
-    at = 2 if words[:2] == ["back", "until"] else 1
-    found = with_subject(words, at, shell.target.names) if words[at:] else None
+    found = with_subject(words, 1, shell.target.names) if words[1:] else None
     return (found, "a condition begins with what is looked at") if found else None
 
 

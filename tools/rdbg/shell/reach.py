@@ -4,7 +4,6 @@ from typing import Callable, List, Sequence, Tuple
 
 from rdbg.driving import trail
 from rdbg.driving.target import Unable
-
 from rdbg.failure import Failure, turned
 from rdbg.goals import words as goal_words
 from rdbg.reaching import beside, losing

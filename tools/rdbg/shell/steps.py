@@ -16,7 +16,6 @@ from rdbg.shell.shell import Shell
 from rdbg.shell.views import check_instruction, check_name, phase_text
 from rdbg.wording import counted
 
-
 # Ticks are asked for so many at a time, and so many that did something are told.
 TICKS, ROWS = 512, 20
 

@@ -91,7 +91,7 @@ def order_of(case: Case, ready: Ready, answer: Answer) -> Iterator[str]:
     with contextlib.closing(Stage(ready.source, ready.interrupts)) as stage:
         find = stage.find(answer.order)
         yield from report.found(ready.goal, stage, [find], False)
-        yield from ("lines:", *report.lines_of(ready.goal, stage, [find]))
+        yield from ("lines:", *report.lines_of(ready.goal, [find]))
 
 
 def tried(folder: str, case: Case) -> Result:
