@@ -49,7 +49,7 @@ def check_output(asked: Words) -> None:
 def with_remarks(asked: Words, output: str, answer: Answer, source: Source, goal: str) -> str:
     """What the program answers as it is told: of a text in lines the instructions that no order
     came to stand there with their lines, and behind it what there is to say of it."""
-    if not is_in_lines(source.path):
+    if not source.path.endswith(LINES):
         return output
     kept = [it for it in output.splitlines() if not said.MISSED.fullmatch(it)]
     texts, has_pace = asked.interrupts(), asked.value(PACE) is not None
@@ -96,17 +96,6 @@ def write_report(asked: Words, answer: Answer, source: Source) -> None:
     reports.write(asked.own[REPORT], source.path, asked.goal(), [found])
 
 
-@turned(of_words, argparse.ArgumentTypeError, of=DEFINE)
-def source_of(asked: Words, file: str) -> Source:
-    """The application's file, with the consts that are asked for. Raises `Failure` without."""
-    return load(file, dict(map(definition, asked.consts)))
-
-
-def is_in_lines(file: str) -> bool:
-    """Whether an application is a text in lines."""
-    return file.endswith(LINES)
-
-
 @contextlib.contextmanager
 def in_its_words(asked: Words) -> Iterator[Tuple[Words, Optional[Source], str]]:
     """The program's words, the file, and the goal as the program has it: a text in lines as JSON,
@@ -114,14 +103,15 @@ def in_its_words(asked: Words) -> Iterator[Tuple[Words, Optional[Source], str]]:
     can't be read is the program's to refuse."""
     file, *goal = asked.plain()
     try:
-        source = source_of(asked, file)
-    except Failure as failure:
+        with turned(of_words, argparse.ArgumentTypeError, of=DEFINE):
+            source = load(file, dict(map(definition, asked.consts)))
+    except Failure:
         if asked.consts:
-            raise Failure(str(failure), UNTOLD) from None
+            raise
         yield asked, None, ""
         return
     if source.application is None:
-        if is_in_lines(file):
+        if file.endswith(LINES):
             raise Failure(f"{file}:{source.faults[0]}; {file} {source.refused()}", UNTOLD)
         yield asked, None, ""
         return
@@ -192,7 +182,7 @@ def main(words: Sequence[str]) -> int:
     asked = read(words)
     files, goal_words = asked.plain()[:1], asked.plain()[1:]
     if not goal_words:
-        is_made = any(map(is_in_lines, files)) or bool(files and asked.consts)
+        is_made = files and (files[0].endswith(LINES) or asked.consts)
         become_engine(asked, unlinked(asked) if is_made else words)
     check_output(asked)
     try:
