@@ -10,7 +10,6 @@ import itertools
 import re
 from typing import Iterator, List, Optional, Sequence, Set, Tuple
 
-from rdbg.driving.target import read
 from rdbg.goals.conditions import Condition
 from rdbg.goals.ways import To, latest
 from rdbg.hunting.goals import STUCK
@@ -125,15 +124,14 @@ class Differs:
         before: List[str] = []
         while len(before) < self.own.place:
             self._stand(before)
-            cores, *views = self.stage.target.tell_all(self.stage.names.lines())
-            look = read(cores)
-            assert isinstance(look, Cores)
-            state = self._state(look, views)
+            here = self.stage.here(before, (), len(before))
+            cores = here.look.cores
+            state = self._state(cores, here.views)
             if state in seen:
                 return
             seen.add(state)
-            next_core = choice(look)
-            for core, task in enumerate(look.running):
+            next_core = choice(cores)
+            for core, task in enumerate(cores.running):
                 if task is not None and core != next_core:
                     for count in range(1, AHEAD + 1):
                         yield [*before, *[f"step {core}"] * count]

@@ -14,6 +14,7 @@ from rdbg.client import Incoming
 from rdbg.driving.interrupt import Woken
 from rdbg.failure import Failure
 from rdbg.shell import sourcing
+from rdbg.shell.completion import Completer
 from rdbg.shell.shell import Shell
 
 MOST_LINES = 2_000
@@ -43,8 +44,6 @@ class Lines:
     """Lines from a terminal. A history that can't be read or written is none."""
 
     def __init__(self, shell: Shell) -> None:
-        from rdbg.shell.completion import Completer
-
         self.shell = shell
         # (which not each Python has)
         self.readline: Optional[ModuleType] = None
