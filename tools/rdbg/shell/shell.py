@@ -334,9 +334,12 @@ class Shell:
                 self.target.places()  # (for the place that was said last)
             return None
         try:
-            last = self._last
-            look = self._part(names_for(self.target, command, last))
-            return look if is_enough(command, look, last) else self._part()
+            names = names_for(self.target, command, self._last)
+            look = self._part(names)
+            # (others may have moved what can be changed elsewhere since the last look)
+            needed = names_for(self.target, command, look)
+            is_enough = {*needed.tasks, *needed.objects} <= {*names.tasks, *names.objects}
+            return look if is_enough else self._part()
         except Refused:
             return None
 
@@ -458,9 +461,11 @@ def names_for(target: Target, command: commands.Command, last: Optional[Look]) -
 
 
 def of_step(target: Target, core: int, last: Look) -> Optional[Names]:
-    """What a step of a core can change, if its task stands where it stood at the last look."""
+    """What a step of a core can change, as far as a look tells that."""
     task = last.cores.running[core] if core < len(last.cores.running) else None
-    if task not in last.tasks or task is None:
+    if task is None:
+        return Names()  # (it is refused)
+    if task not in last.tasks:
         return None
     words = (target.instruction(task, last.tasks[task].pc) or "").split()
     if not words:
@@ -473,14 +478,3 @@ def of_step(target: Target, core: int, last: Look) -> Optional[Names]:
     if any(kind == kinds.QUEUE.word for kind, _ in keys):
         keys += [key for key in target.names.objects if key[0] == kinds.QUEUE_SET.word]
     return Names(target.names.tasks, tuple(dict.fromkeys(keys)))
-
-
-def is_enough(command: commands.Command, look: Look, last: Optional[Look]) -> bool:
-    """Whether a look at names that were chosen by an older one has what the line can change."""
-    core = int(command.words[1]) if command.form.word == "step" else len(look.cores.running)
-    if last is None or core >= len(look.cores.running):
-        return True
-    task = look.cores.running[core]
-    if task is None or task != last.cores.running[core]:
-        return task is None
-    return task in look.tasks and look.tasks[task].pc == last.tasks[task].pc
