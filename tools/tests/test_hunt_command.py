@@ -199,7 +199,7 @@ class Statuses(unittest.TestCase):
         self.assertLess(time.monotonic() - began, 60)
 
     def test_a_limit_of_states(self) -> None:
-        why = "that isn't all: there are more states than --states allows"
+        why = "that isn't all: as many states as may be kept (--states)"
         asked: List[List[str]] = [[], ["--exhaustive"], ["--expect", "none"]]
         for words in asked:
             status, _, errors = said(LOST, "reg poller 7 = 1", "--states", "20", *words)
@@ -248,11 +248,11 @@ class Statuses(unittest.TestCase):
             ([LOST, "stuk"], "`stuck` would be right"),
             ([LOST, "reg worker 8 = 0"], "a register is wanted there, 0 to 7"),
             (["none.json", "stuck"], "cannot read none.json"),
-            ([LOST, "stuck", "--part", "3/2"], "K/N with K of 1 to N"),
             ([LOST, "stuck", "--within", "0"], "a number of seconds"),
             ([LOST, "stuck", "--exhaustive", "--surprises", "1"], "it takes no --surprises"),
             ([LOST, "stuck", "--surprises", "256"], "--surprises is a number, 0 to 255"),
             ([LOST, "stuck", "--states", "0"], "invalid value"),
+            ([LOST, "stuck", "--part", "3/2"], "--part: a part is K/N"),
             ([LOST, "differs", "--pace", "1..2"], "--pace is of goals that are met"),
             ([LOST, "stuck", "--exhaustive", "--smallest"], "it takes no --smallest"),
             ([LOST, "stuck", "--smallest", "--all", "2"], "it takes no --all"),

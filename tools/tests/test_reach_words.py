@@ -11,7 +11,8 @@ class Own(unittest.TestCase):
     def test_none_of_them(self) -> None:
         words = ["a.json", "count", "q", "=", "2", "--moves", "5", "--exact", "--pace=2..4"]
         for given in (words, [*words, PROGRESS], [PROGRESS, *words]):
-            self.assertEqual(([PROGRESS, *words], None, None, (), None, None), tuple(read(given)))
+            asked = read(given)
+            self.assertEqual((words, {}, None, ()), (asked.program, *asked[1:]))
 
     def test_each_way_to_write_them(self) -> None:
         for line in (
@@ -22,19 +23,18 @@ class Own(unittest.TestCase):
         ):
             with self.subTest(line):
                 asked = read(line.split())
-                self.assertEqual(f"{PROGRESS} a.json asleep --moves 5".split(), asked.program)
-                self.assertEqual(("out", 2.5), (asked.output, asked.seconds))
+                self.assertEqual("a.json asleep --moves 5".split(), asked.program)
+                self.assertEqual(("out", 2.5), (asked.own["-o"], asked.seconds))
 
     def test_behind_two_dashes_there_are_none(self) -> None:
         words = "a.json --moves 5 -- asleep -o --within".split()
-        self.assertEqual(([PROGRESS, *words], None, None, (), None, None), tuple(read(words)))
+        asked = read(words)
+        self.assertEqual((words, {}, None, ()), (asked.program, *asked[1:]))
 
     def test_a_report(self) -> None:
         for line in ("a.json asleep --report r", "--report=r a.json asleep"):
             asked = read(line.split())
-            self.assertEqual(
-                (f"{PROGRESS} a.json asleep".split(), "r"), (asked.program, asked.report)
-            )
+            self.assertEqual(("a.json asleep".split(), "r"), (asked.program, asked.own["--report"]))
 
     def test_what_is_wrong(self) -> None:
         for line, why in (
@@ -86,7 +86,7 @@ class Programs(unittest.TestCase):
             ("--progress --states 5 --memory 6 a.json --moves", False),
         ):
             with self.subTest(line):
-                self.assertEqual(has_goal, read(line.split()).has_goal())
+                self.assertEqual(has_goal, read(line.split()).plain()[1:] != [])
 
     def test_files(self) -> None:
         files = read("a.json asleep --exact --from one --from=two -o out".split()).files()

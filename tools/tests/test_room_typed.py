@@ -63,7 +63,7 @@ class Typed(unittest.TestCase):
                 ("stepp 1", "no Syntax: "),
                 ("back 7", "no TooFar 0: no move is done: this is boot"),
                 ("redo 1", "no NothingUndone: "),
-                ("unwatch 4", "no NoWatch: there is no such watch"),
+                ("unwatch 4", "no NoWatch: the session has no watch of this number"),
                 ("save moves.commands", "no: `save` alone gives the moves to the browser"),
                 ("source /etc/passwd", "no: a page reads and writes no files"),
                 ("quit", "no: who closes the page is away"),

@@ -230,7 +230,7 @@ class Moves(unittest.TestCase):
         made = source("busy.fw", BUSY.encode())
         with opened(made) as shell:
             answers = said(shell, "until stuck 50", "goto 0", "until sleeps flash")
-            self.assertIn("# not stuck: isr is busy on core 0, and no instruction", answers[1])
+            self.assertIn("# not stuck: isr is busy on core 0, and never waits", answers[1])
             self.assertIn("so `stuck` can't come", answers[2])
             self.assertRegex(answers[5], r"^# at 10 met: sleeps flash")
             self.assertRegex(answers[6], "flash 1 .* left core 1 .waits with no limit of time.")

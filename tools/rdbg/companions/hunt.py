@@ -6,14 +6,14 @@ import sys
 import time
 from typing import IO, Iterator, List, Optional, Sequence, Tuple
 
-from rdbg import digits, links, options, whole_file
+from rdbg import digits, links, whole_file
 from rdbg.application import NO_INTERRUPT
 from rdbg.driving.target import Unable
 from rdbg.failure import Failure, trying
 from rdbg.files.definitions import take_definitions
 from rdbg.files.source import Source, accepted
 from rdbg.hunting import goals, report
-from rdbg.hunting.differs import Difference, Differs
+from rdbg.hunting.differs import Differs
 from rdbg.hunting.goals import Goal
 from rdbg.hunting.interrupts import handlers
 from rdbg.hunting.search import Search
@@ -21,7 +21,7 @@ from rdbg.hunting.stage import Find, Stage
 from rdbg.options import APPLICATION, Parser, bounded
 from rdbg.reaching import beside
 from rdbg.reaching.asking import CTRL_C, LOST, QUESTIONS, REACH, Asker, NoQuestion
-from rdbg.reaching.handlers import OPTION
+from rdbg.reaching.handlers import OPTION, TIMES
 from rdbg.reaching.said import Answer, Bound, Kind
 from rdbg.replies import Refused
 
@@ -50,12 +50,6 @@ PASSED = {
 }
 # Those of them that are of a search through the orders of one goal.
 OF_ONE_GOAL = ("--pace", "--part")
-
-
-def part(text: str) -> str:
-    """Reads K/N, the part K of N, and passes it on."""
-    options.part(text)
-    return text
 
 
 def seconds(text: str) -> float:
@@ -94,7 +88,7 @@ def parser() -> Parser:
     made.add_argument("--expect", choices=["none", "found"], help="what the status is 0 for")
     word("--within", "SECONDS", "a limit of time", type=seconds)
     for name, (value, what) in PASSED.items():
-        word(name, value, what, type=part if name == "--part" else str)
+        word(name, value, what)
     take_definitions(made)
     return made
 
@@ -118,122 +112,101 @@ def check_words(given: argparse.Namespace, goal: Goal) -> None:
         raise Failure(f"{names[0]} is of goals that are met, and none of differs", CANT)
 
 
-def empty(path: Optional[str], source: str) -> None:
-    """Empties the file where lines go, before anything is looked for, so that none of an earlier
-    hunt stand there where nothing is found. Raises `Failure` where it can't be written."""
-    if path is None or path == STANDARD:
-        return
-    with trying(f"write {path}"):
-        file = links.behind(path)
-        was_there = os.path.lexists(file)
-        if was_there and os.path.samefile(file, source):
-            raise Failure(f"-o {path} is the application itself, which would be lost", CANT)
-        with open(file, "w", encoding="utf-8", opener=links.no_link):
-            pass
-    if not was_there:
-        os.unlink(file)
-
-
 @contextlib.contextmanager
-def outputs(path: Optional[str]) -> Iterator[Tuple[IO[str], IO[str]]]:
-    """Where the lines go, and where what is said of them."""
+def outputs(path: Optional[str], source: str) -> Iterator[Tuple[IO[str], IO[str]]]:
+    """Where the lines go, and where what is said of them. A file is emptied before anything is
+    looked for, so that none of an earlier hunt stand there where nothing is found. Raises `Failure`
+    where it can't be written."""
     if path is None or path == STANDARD:
         yield sys.stdout, sys.stderr
         return
-    with open(links.behind(path), "w", encoding="utf-8", opener=links.no_link) as file:
-        yield file, sys.stdout
+    with trying(f"write {path}"):
+        behind = links.behind(path)
+        was_there = os.path.lexists(behind)
+        if was_there and os.path.samefile(behind, source):
+            raise Failure(f"-o {path} is the application itself, which would be lost", CANT)
+        file = open(behind, "w", encoding="utf-8", opener=links.no_link)
+    try:
+        with file:
+            yield file, sys.stdout
+    finally:
+        with contextlib.suppress(FileNotFoundError):
+            if not was_there and not os.path.getsize(behind):
+                os.unlink(behind)
 
 
 class Hunt:
-    """A hunt by its words, for a goal that an application can have."""
+    """A hunt by its words."""
 
-    def __init__(
-        self, given: argparse.Namespace, source: Source, goal: Goal, search: Search
-    ) -> None:
-        self.given, self.source, self.goal, self.search = given, source, goal, search
-        self.stage = search.stage
+    def __init__(self, given: argparse.Namespace, search: Search) -> None:
+        self.given, self.search, self.goal = given, search, search.goal
+        self.stage, self.source = search.stage, search.stage.source
         self.finds: List[Find] = []
-        self.differs: Optional[Differs] = None
-        self.differences: List[Difference] = []
+        # (the order of `forward`, where others are held against it)
+        self.own: Optional[Find] = None
 
     def run(self) -> None:
         """Searches."""
         given, search = self.given, self.search
         if self.goal.compares:
-            self.differs = Differs(search)
-            self.differences = self.differs.find(given.all or 1)
-            self.finds = [it.find for it in self.differences]
-        elif given.all is not None:
-            self.finds = search.all(given.all)
+            differs = Differs(search)
+            self.own, self.finds = differs.own, differs.find(given.all or 1)
         elif given.smallest:
             self.finds = search.smallest()
-        elif given.exhaustive:
-            self.finds = [*filter(None, [search.shortest(self.goal.asked)])]
         else:
-            self.finds = search.first()
+            self.finds = search.all(given.all or 1)
 
     def report(self) -> None:
         """Writes what came of it, where that was asked."""
         if self.given.report is None:
             return
-        from rdbg.hunting import reports, sarif  # (which take their time)
+        from rdbg.hunting import reports  # (which takes its time)
 
-        goal, path, left = self.goal.text, self.given.report, self.search.left()
-        found = [*sarif.results(self.source, goal, self.stage, self.finds, left)]
-        with whole_file.written(path) as file:
-            file.write(reports.text_of(path, self.source.path, goal, found, self.given.expect))
+        source, goal, stage = self.source, self.goal.text, self.stage
+        found = [reports.found(source, goal, stage, it.lines, it.told) for it in self.finds]
+        results = found or [reports.none(source, goal, self.search.left())]
+        reports.write(self.given.report, source.path, goal, results, self.given.expect)
 
-    def say(self) -> None:
-        """Prints what is said, and the lines of what was found."""
-        path, said = self.given.output, self._said()
-        if not self.finds:
-            is_mixed = path in (None, STANDARD)
-            print(*said, sep="\n", file=sys.stderr if is_mixed else sys.stdout, flush=True)
-            return
-        own = [] if self.differs is None else [self.differs.own.find]
-        lines = report.lines_of(self.goal, self.stage, [*own, *self.finds])
-        with outputs(path) as (file, out):
+    def say(self, file: IO[str], out: IO[str]) -> None:
+        """Prints the lines of what was found, and what is said."""
+        said = self._said()
+        if self.finds:
+            lines = report.lines_of(self.goal, [*filter(None, [self.own]), *self.finds])
             print(*lines, sep="\n", file=file, flush=True)
-            print(*said, sep="\n", file=out, flush=True)
+        print(*said, sep="\n", file=out, flush=True)
         self._write_page()
 
     def _said(self) -> List[str]:
         """What is said."""
+        search, left = self.search, self.search.left()
         if not self.finds:
-            left = self.search.left()
-            said = [*report.none(self.goal, left, self.stage.application)]
-            return [*said, *self._remarks(left)]
-        goal, stage = self.goal, self.stage
-        if self.differs is not None:
-            said = [*report.differing(goal, stage, self.differs.own, self.differences)]
+            answer, said = left, [*report.none(self.goal, left, self.stage.application)]
         else:
-            said = [*report.found(goal, stage, self.finds, self.given.exhaustive)]
-        said.append(report.gone_through(self.search.counts))
-        if self.given.smallest:
-            said += report.smaller(self.search.none)
-        elif self.search.is_all or self.search.untold():
-            said += report.others(self.search.left())
-        return [*said, *self._remarks(Answer(Kind.REACHED))]
-
-    def _remarks(self, answer: Answer) -> Iterator[str]:
-        """What there is to say beside it."""
+            is_exhaustive = self.given.exhaustive and self.own is None
+            told = report.found(self.goal, self.stage, self.finds, is_exhaustive, self.own)
+            answer, said = Answer(Kind.REACHED), [*told, report.gone_through(search.counts)]
+            if self.given.smallest:
+                said += report.smaller(search.none)
+            elif search.is_all or search.untold():
+                said += report.others(left)
         asked = "" if self.goal.compares else self.goal.asked
         has_pace = self.given.pace is not None
-        return beside.remarks(answer, self.source, self.given.isr, asked, has_pace, "--pace")
+        more = beside.remarks(answer, self.source, self.given.isr, asked, has_pace, "--pace")
+        return [*said, *more]
 
     def _write_page(self) -> None:
         """Writes the first find as a page, where that was asked."""
-        if self.given.page is None:
+        if self.given.page is None or not self.finds:
             return
         from rdbg.tracing.command import page_of  # (which takes its time)
         from rdbg.tracing.page.asked import Asked
 
-        order = self.finds[0].order
-        how = "" if self.given.exhaustive else f", {report.with_surprises(len(order.told))}"
-        said = f"Found: the order of this page leads there, at {order.place}{how}."
-        told = () if self.given.exhaustive else order.told
-        asked = Asked(f"hunt {self.goal.text}", (said, *told), order.place)
-        page_of(self.source, order.lines, self.given.page, lambda _: asked)
+        find, is_exhaustive = self.finds[0], self.given.exhaustive
+        where = report.place_of(find, is_exhaustive)
+        said = f"Found: the order of this page leads there, {where}."
+        told = () if is_exhaustive else find.told
+        asked = Asked(f"hunt {self.goal.text}", (said, *told), find.place)
+        page_of(self.source, find.lines, self.given.page, lambda _: asked)
 
     def status(self) -> int:
         """The exit status."""
@@ -259,11 +232,10 @@ def hunt(given: argparse.Namespace, source: Source, path: str) -> int:
     goal = goals.read(words[words[:1] == [question.word] :], source, question)
     check_words(given, goal)
     may_come = handlers(given.isr, source.application)
-    if goal.compares and any(it.when for it in may_come):
+    if goal.compares and any({*dict(it.when)} - {TIMES} for it in may_come):
         why = "differs begins where interrupts have come, and counts anew: give their calls"
         left_out = f"; {OPTION} {NO_INTERRUPT} leaves them out"
         raise Failure(f"{OPTION} NAME after or apart: {why}{left_out}", CANT)
-    empty(given.output, given.file)
     for output in (given.page, given.report):
         if output not in (None, STANDARD):
             whole_file.check(output)
@@ -272,13 +244,13 @@ def hunt(given: argparse.Namespace, source: Source, path: str) -> int:
     stage = Stage(source, may_come)
     bound = Bound(given.moves, given.surprises)
     search = Search(Asker(path, words_passed, end), stage, goal, bound, question, given.exhaustive)
-    it = Hunt(given, source, goal, search)
-    with contextlib.closing(stage):
+    it = Hunt(given, search)
+    with outputs(given.output, given.file) as (file, out), contextlib.closing(stage):
         try:
             it.run()
         except KeyboardInterrupt:
             search.none.append(Answer(Kind.UNTOLD, why=CTRL_C))
-        it.say()
+        it.say(file, out)
         it.report()
         return it.status()
 

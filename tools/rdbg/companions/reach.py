@@ -16,7 +16,7 @@ from rdbg.goals.reading import NoGoal
 from rdbg.goals.scope import Scope
 from rdbg.goals.words import for_search
 from rdbg.reaching import beside, running, said
-from rdbg.reaching.asking import DOOMED, LOST as LOST_AT, PROGRAM, REACH, STOPPED, Question
+from rdbg.reaching.asking import DOOMED, LOST as LOST_AT, REACH, STOPPED, Question, program
 from rdbg.reaching.handlers import handlers, told as told_of
 from rdbg.reaching.said import UNTOLD, Answer
 from rdbg.reaching.words import DEFINE, LOST, OUTPUT, PACE, PAGE, PROGRESS, REPORT, WITHIN
@@ -26,26 +26,17 @@ from rdbg.replies import Refused
 SUMMARY = "answers whether some order of moves comes to a goal; that none does is a theorem"
 
 
-def program() -> str:
-    """The program that searches. Raises `Failure` where nothing says which it is."""
-    named = os.environ.get(PROGRAM)
-    if not named:
-        raise Failure(f"{PROGRAM} doesn't say where the program is; ./rdbg reach does", 2)
-    return named
-
-
 def question_of(asked: Words) -> Question:
     """Which question is asked of the goal."""
-    words = asked.program
-    return LOST_AT if LOST in words else DOOMED if f"--{DOOMED.word}" in words else REACH
+    return LOST_AT if asked.has(LOST) else DOOMED if asked.has(f"--{DOOMED.word}") else REACH
 
 
 def check_output(asked: Words) -> None:
     """Raises `Failure` where the order, its page or the report couldn't be written."""
-    if asked.report is not None and LOST in asked.program:
+    if REPORT in asked.own and asked.has(LOST):
         raise Failure(f"{REPORT} is of what an order leads to; {LOST} asks of a run", 2)
-    for option, path in ((OUTPUT, asked.output), (PAGE, asked.page), (REPORT, asked.report)):
-        if path is None:
+    for option, path in asked.own.items():
+        if option == WITHIN:
             continue
         if path == whole_file.STANDARD_OUTPUT:
             raise Failure(f"{option} takes a file; the order is on standard output without it", 2)
@@ -55,23 +46,12 @@ def check_output(asked: Words) -> None:
                 raise Failure(f"{option} {path} is {file} itself, which would be lost", 2)
 
 
-def save(path: str, answered: str) -> None:
-    """Writes the order of an answer, if it has one. Raises `Failure` where it can't be written."""
-    answer = said.read(answered.splitlines())
-    if answer.has_order:
-        with whole_file.written(path) as file:
-            file.writelines(f"{line}\n" for line in answer.order)
-
-
-def with_remarks(asked: Words, output: str, source: Optional[Source], goal: str) -> str:
-    """An answer of the program's as it is told: of a text in lines the instructions that no order
+def with_remarks(asked: Words, output: str, answer: Answer, source: Source, goal: str) -> str:
+    """What the program answers as it is told: of a text in lines the instructions that no order
     came to stand there with their lines, and behind it what there is to say of it."""
-    lines = output.splitlines()
-    is_answer = any(map(said.COUNTS.fullmatch, lines))
-    if source is None or not is_in_lines(source.path) or not is_answer:
+    if not source.path.endswith(LINES):
         return output
-    answer = said.read(lines)
-    kept = [it for it in lines if not said.MISSED.fullmatch(it)]
+    kept = [it for it in output.splitlines() if not said.MISSED.fullmatch(it)]
     texts, has_pace = asked.interrupts(), asked.value(PACE) is not None
     more = beside.remarks(answer, source, texts, goal, has_pace, PACE)
     told = (*kept, *beside.missed(answer, source), *more)
@@ -80,88 +60,74 @@ def with_remarks(asked: Words, output: str, source: Optional[Source], goal: str)
 
 def say(asked: Words, outcome: running.Outcome, source: Optional[Source], goal: str) -> int:
     """Says what came of a search for a goal, and answers the exit status."""
-    last, surprises = outcome.last, asked.surprises()
-    is_reach = question_of(asked) is REACH
-    if outcome.is_stopped and last is None:
+    output, status, is_reach = outcome.output, outcome.status, question_of(asked) is REACH
+    known = said.stopped(outcome.last, asked.surprises(), STOPPED, is_reach)
+    if not outcome.is_stopped:
+        said.check(output, status, known)
+    elif outcome.last is None:
         raise Failure("it was stopped before it could say how far it was", UNTOLD)
-    if outcome.is_stopped:
-        answer = said.stopped(last, surprises, STOPPED, is_reach)
-        told = "".join(f"{line}\n" for line in said.lines(answer))
-        sys.stdout.write(with_remarks(asked, told, source, goal))
-        write_report(asked, answer)
-        return UNTOLD
-    said.check(outcome.output, outcome.status, said.known(last, surprises, is_reach))
+    else:
+        output, status = "".join(f"{line}\n" for line in said.lines(known)), UNTOLD
+    if not output or source is None:
+        sys.stdout.write(output)
+        return status
+    answer = said.read(output.splitlines())
     try:
-        if asked.output is not None and outcome.status != UNTOLD:
-            save(asked.output, outcome.output)
+        if OUTPUT in asked.own and answer.has_order:
+            with whole_file.written(asked.own[OUTPUT]) as file:
+                file.writelines(f"{line}\n" for line in answer.order)
     finally:
         # (what was found isn't lost where it can't be written)
-        sys.stdout.write(with_remarks(asked, outcome.output, source, goal))
-    if outcome.output:
-        sys.stdout.flush()
-        answer = said.read(outcome.output.splitlines())
-        if asked.page is not None:
-            write_page(asked, answer, asked.page)
-        write_report(asked, answer)
-    return outcome.status
+        sys.stdout.write(with_remarks(asked, output, answer, source, goal))
+    sys.stdout.flush()
+    if not outcome.is_stopped:
+        write_page(asked, answer, source)
+    write_report(asked, answer, source)
+    return status
 
 
-def write_report(asked: Words, answer: Answer) -> None:
+def write_report(asked: Words, answer: Answer, source: Source) -> None:
     """Writes the report of an answer, where that was asked."""
-    if asked.report is None:
+    if REPORT not in asked.own:
         return
-    from rdbg.hunting import reports, sarif  # (which take their time)
+    from rdbg.hunting import reports  # (which takes its time)
 
-    file, *words = (asked.program[at] for at in asked.plain())
-    goal = " ".join(words)
-    found = sarif.of_answer(source_of(asked, file), goal, answer)
-    text = reports.text_of(asked.report, file, goal, [found])
-    with whole_file.written(asked.report) as written:
-        written.write(text)
-
-
-@turned(of_words, argparse.ArgumentTypeError, of=DEFINE)
-def source_of(asked: Words, file: str) -> Source:
-    """The application's file, with the consts that are asked for. Raises `Failure` without."""
-    return load(file, dict(map(definition, asked.consts)))
-
-
-def is_in_lines(file: str) -> bool:
-    """Whether an application is a text in lines."""
-    return file.endswith(LINES)
+    found = reports.of_answer(source, asked.goal(), answer)
+    reports.write(asked.own[REPORT], source.path, asked.goal(), [found])
 
 
 @contextlib.contextmanager
-def in_its_words(asked: Words) -> Iterator[Tuple[List[str], Optional[Source], str]]:
+def in_its_words(asked: Words) -> Iterator[Tuple[Words, Optional[Source], str]]:
     """The program's words, the file, and the goal as the program has it: a text in lines as JSON,
     and the interrupts that it names. Raises `Failure` where there is no goal in them. A file that
     can't be read is the program's to refuse."""
-    file, *goal = (asked.program[at] for at in asked.plain())
+    file, *goal = asked.plain()
     try:
-        source = source_of(asked, file)
-    except Failure as failure:
+        with turned(of_words, argparse.ArgumentTypeError, of=DEFINE):
+            source = load(file, dict(map(definition, asked.consts)))
+    except Failure:
         if asked.consts:
-            raise Failure(str(failure), UNTOLD) from None
-        yield asked.program, None, ""
+            raise
+        yield asked, None, ""
         return
     if source.application is None:
-        if is_in_lines(file):
+        if file.endswith(LINES):
             raise Failure(f"{file}:{source.faults[0]}; {file} {source.refused()}", UNTOLD)
-        yield asked.program, None, ""
+        yield asked, None, ""
         return
     with turned(of_words, NoGoal, of="goal"):
         told = for_search(goal, Scope.of(source))[1] if goal else ""
     application = source.application
     named = asked.with_interrupts(lambda texts: handlers(texts, application))
     with source.as_json() as path:
-        yield (named.put(path, told) if goal else named.put_file(path)), source, told
+        yield named.put(path, told), source, told
 
 
 def become_engine(asked: Words, words: Sequence[str]) -> NoReturn:
     """Becomes the program, which answers lines where it is asked for no goal: nothing stands
     between. Raises `Failure` where it can't be started, and where something is asked that goes with
     a goal."""
-    if (asked.output, asked.seconds, asked.page, asked.report) != (None, None, None, None):
+    if asked.own:
         raise Failure(f"{OUTPUT}, {WITHIN}, {PAGE} and {REPORT} go with a goal", 2)
     found = program()
     sys.stdout.flush()
@@ -177,24 +143,21 @@ def unlinked(asked: Words) -> List[str]:
         if coming:
             print(f"rdbg reach: {coming}", file=sys.stderr)
         made = os.memfd_create("application.json", 0)
-        at = asked._replace(program=told).plain()[0]
-        with open(told[at], "rb") as file:
+        with open(told.plain()[0], "rb") as file:
             os.write(made, file.read())
-        told[at] = f"/proc/self/fd/{made}"
-    return [it for it in told if it != PROGRESS]
+    return told.put(f"/proc/self/fd/{made}", "").program
 
 
-def write_page(asked: Words, answer: Answer, path: str) -> None:
-    """Writes the page of the order in an answer, or of the run that was asked about; where there is
-    none to show, it is said that none is written. Raises `Failure` where it can't be."""
+def write_page(asked: Words, answer: Answer, source: Source) -> None:
+    """Writes the page of the order in an answer, or of the run that was asked about, where that was
+    asked; where there is none to show, it is said that none is written. Raises `Failure` where it
+    can't be."""
+    if PAGE not in asked.own:
+        return
     from rdbg.tracing.command import lines_in, page_of, text_of  # (which take their time)
     from rdbg.tracing.page.asked import asked as asked_of
 
-    file, *rest = (asked.program[at] for at in asked.plain())
-    source, goal = source_of(asked, file), " ".join(rest)
-    if source.application is None:
-        return
-    question = question_of(asked)
+    path, goal, question = asked.own[PAGE], asked.goal(), question_of(asked)
     from_path = asked.value("--from")
     begin = [it.text for it in lines_in(text_of(from_path).text)] if from_path is not None else []
     lines = begin if question is LOST_AT else [*answer.order] or begin
@@ -217,14 +180,15 @@ def main(words: Sequence[str]) -> int:
         print(program_help.OF["reach"])
         return 0
     asked = read(words)
-    if not asked.has_goal():
-        files = [asked.program[at] for at in asked.plain()]
-        is_made = any(map(is_in_lines, files)) or bool(files and asked.consts)
+    files, goal_words = asked.plain()[:1], asked.plain()[1:]
+    if not goal_words:
+        is_made = files and (files[0].endswith(LINES) or asked.consts)
         become_engine(asked, unlinked(asked) if is_made else words)
     check_output(asked)
     try:
         with in_its_words(asked) as (told, source, goal):
-            status = say(asked, running.run([program(), *told], asked.seconds), source, goal)
+            words = [program(), PROGRESS, *told.program]
+            status = say(asked, running.run(words, asked.seconds), source, goal)
         sys.stdout.flush()
         return status
     except OSError as error:

@@ -119,13 +119,10 @@ class PacedWalk(Walk):
             made += 1
         return made
 
-    def ticks(self, count: int) -> int:
-        """Goes on up to so many ticks, or as far as there are moves; how many moves that are."""
-        made = 0
+    def ticks(self, count: int) -> None:
+        """Goes on up to so many ticks, or as far as there are moves."""
         while count and self._one():
-            made += 1
             count -= self._own.get(self.place) == "tick"
-        return made
 
     def until(self, condition: str, count: int) -> Optional[int]:
         """Makes moves at the pace until a condition holds after one, as `Walk.until` does."""

@@ -30,22 +30,18 @@ def way(
 
 def of_move(words: Sequence[str], target: Target, scope: Scope) -> Tuple[Way, int]:
     """What is said of a move, and where it ends. Raises `NoGoal`."""
-    if words[0] == WAKES:
-        return Wakes(named(words, 1, scope, kinds.TASK.word)), 2
-    if words[2:] and words[1] in OBJECTS and not commands.is_count(words[2]):
-        return Changes(target, words[1], named(words, 2, scope, words[1])), 3
+    has_kind = words[2:] and words[1] in OBJECTS and not commands.is_count(words[2])
+    reader = reading.Reader(words, scope)
+    reader.at = 2 if has_kind and words[0] == CHANGES else 1
+    try:
+        if words[0] == WAKES:
+            return Wakes(reader.named(kinds.TASK)), reader.at
+        if has_kind:
+            return Changes(target, words[1], reader.named(kinds.OF_WORD[words[1]])), reader.at
+    except NoGoal as wrong:
+        raise (wrong if wrong.at is None else with_meant(wrong, scope)) from None
     name = words[1] if words[1:] else ""
     there = [kind for kind in scope.names.kinds_of(name) if kind != kinds.TASK.word]
     if not there:
         raise NoGoal(words, 1 if words[1:] else None, "the name of an object is wanted there")
     return Changes(target, there[0], name), 2
-
-
-def named(words: Sequence[str], at: int, scope: Scope, kind: str) -> str:
-    """The name of a kind that stands there. Raises `NoGoal`."""
-    reader = reading.Reader(words, scope)
-    reader.at = at
-    try:
-        return reader.named(kinds.OF_WORD[kind])
-    except NoGoal as wrong:
-        raise (wrong if wrong.at is None else with_meant(wrong, scope)) from None

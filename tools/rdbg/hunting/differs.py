@@ -8,16 +8,13 @@ Interrupts come to `forward`'s own order where nothing else is left to do, each 
 so that one came is no difference by itself."""
 import itertools
 import re
-from typing import Dict, Iterator, List, NamedTuple, Optional, Sequence, Set, Tuple
+from typing import Iterator, List, Optional, Sequence, Set, Tuple
 
-
-from rdbg.driving.target import read
 from rdbg.goals.conditions import Condition
 from rdbg.goals.ways import To, latest
 from rdbg.hunting.goals import STUCK
-from rdbg.hunting.orders import FORWARD, TICK, Order, choice
 from rdbg.hunting.search import STOPS, Search, claims
-from rdbg.hunting.stage import Find, Stage
+from rdbg.hunting.stage import FORWARD, TICK, Find, Stage, choice
 from rdbg.reaching.said import Answer, Bound, Kind
 from rdbg.replies import Cores
 
@@ -31,27 +28,11 @@ TIMES = re.compile(r"((?:wait:\w+:\w+|again):)(\d+)\b")
 AWAKE = ("run", "again", "given")
 
 
-class Own(NamedTuple):
-    """`forward`'s own order, what it comes to in each way in which interrupts come at its end, and
-    the tasks that are at rest there, where not all is."""
-
-    find: Find
-    ends: Tuple[Find, ...]
-    resting: Tuple[str, ...]
-
-
-class Difference(NamedTuple):
-    """An order that differs, and the tasks that are compared; none: all is."""
-
-    find: Find
-    tasks: Tuple[str, ...] = ()
-
-
 def ways(stage: Stage) -> Iterator[Tuple[Tuple[str, ...], ...]]:
     """The ways in which interrupts may come at the end, each as often as it may: their calls."""
     counts = [range(it.times + 1) for it in stage.handlers]
     for chosen in itertools.islice(itertools.product(*counts), MOST_WAYS):
-        yield tuple(it.calls for count, it in zip(chosen, stage.handlers) for _ in range(count))
+        yield tuple(it.lines for count, it in zip(chosen, stage.handlers) for _ in range(count))
 
 
 def rests(stage: Stage, task: str) -> bool:
@@ -66,22 +47,18 @@ def rests(stage: Stage, task: str) -> bool:
 
 
 class Differs:
-    """A search for orders that end otherwise."""
+    """A search for orders that end otherwise than `own`, that of `forward`."""
 
     def __init__(self, search: Search) -> None:
         self.search, self.stage = search, search.stage
         self._moves = MOVES if search.bound.moves is None else search.bound.moves
-        self._ends: Set[Tuple[str, ...]] = set()
-        self.own = self._own()
-
-    def _own(self) -> Own:
-        """`forward`'s own order."""
-        whole = self._run(())
-        tasks = () if STUCK.is_so(whole.look) else self.stage.names.tasks
-        resting = tuple(it for it in tasks if rests(self.stage, it))
-        ends = tuple(self._run(way) for way in ways(self.stage))
-        self._ends.update(it.views for it in ends)
-        return Own(whole, ends, resting)
+        self.own = self._run(())
+        tasks = () if STUCK.is_so(self.own.look) else self.stage.names.tasks
+        # The tasks that are at rest at its end, where not all is; and what it comes to in each way
+        # in which interrupts come there.
+        self._resting = [it for it in tasks if rests(self.stage, it)]
+        self._ends = [self._run(way) for way in ways(self.stage)]
+        self._views = {it.views for it in self._ends}
 
     def _run(self, way: Sequence[Tuple[str, ...]]) -> Find:
         """What `forward` comes to, with these interrupts behind it, each where all rests again."""
@@ -91,7 +68,7 @@ class Differs:
         for calls in way:
             walk.target.tell_all(calls)
             lines += [*calls, *self._to_rest()]
-        return self.stage.here(Order(tuple(lines), place=walk.place, length=walk.place))
+        return self.stage.here(lines, (), walk.place)
 
     def _to_rest(self) -> List[str]:
         """Goes on as `forward` does until all rests, or so many moves are made: the lines of it."""
@@ -106,68 +83,61 @@ class Differs:
         made = walk.place - start
         return [f"{FORWARD} {made}"] if made else []
 
-    def find(self, wanted: int) -> List[Difference]:
+    def find(self, wanted: int) -> List[Find]:
         """So many that differ, at the most; those with fewer surprises first."""
-        if self.own.resting:
+        if self._resting:
             return self._by_leaving(wanted)[:wanted]
-        if not STUCK.is_so(self.own.find.look):
+        if not STUCK.is_so(self.own.look):
             why = f"nothing is at rest in forward's order of {self._moves} moves: name a goal"
             self.search.none.append(Answer(Kind.UNTOLD, why=why))
             return []
-        found = self.search.different(wanted, self.search.ask, self._is_new)
-        differing = [Difference(it) for it in found]
+        found = self.search.different(wanted, lambda it: it.views, self._views)
         if len(found) < wanted:
             # (which bytes there are no goal can say)
-            differing += self._by_leaving(wanted - len(found))
-        return sorted(differing, key=lambda it: it.find.size)[:wanted]
+            found += self._by_leaving(wanted - len(found))
+        return sorted(found, key=lambda it: it.size)[:wanted]
 
-    def _is_new(self, find: Find) -> bool:
-        if find.views in self._ends:
-            return False
-        self._ends.add(find.views)
-        return True
-
-    def _by_leaving(self, wanted: int) -> List[Difference]:
+    def _by_leaving(self, wanted: int) -> List[Find]:
         """Those that leave `forward`'s order at one place, those with fewer surprises first; the
         first that there is, where one is wanted."""
-        found: List[Difference] = []
+        found: List[Find] = []
         if self.search.bound.surprises == 0:
             return found
-        for leaving, come in self._leavings():
+        for leaving in self._leavings():
             if self.search.is_stopped():
                 break
-            it = self._behind(leaving, come)
-            if it is not None and self._is_new(it.find):
+            it = self._behind(leaving)
+            if it is not None and it.views not in self._views:
+                self._views.add(it.views)
                 found.append(it)
             if len(found) == wanted == 1:
                 return found
-        if self.own.resting and not self.search.is_stopped():
+        if self._resting and not self.search.is_stopped():
             why = "orders that leave forward's at one place were asked of alone"
             self.search.none.append(Answer(Kind.UNTOLD, why=why))
-        return sorted(found, key=lambda it: it.find.size)
+        return sorted(found, key=lambda it: it.size)
 
-    def _leavings(self) -> Iterator[Tuple[List[str], List[Tuple[str, ...]]]]:
+    def _leavings(self) -> Iterator[List[str]]:
         """The orders that leave `forward`'s once, by their moves, at each place from boot up to
-        where a state comes again; and which interrupts have come."""
+        where a state comes again."""
         seen: Set[Tuple[object, ...]] = set()
         before: List[str] = []
-        while len(before) < self.own.find.order.place:
+        while len(before) < self.own.place:
             self._stand(before)
-            cores, *views = self.stage.target.tell_all(self.stage.names.lines())
-            look = read(cores)
-            assert isinstance(look, Cores)
-            state = self._state(look, views)
+            here = self.stage.here(before, (), len(before))
+            cores = here.look.cores
+            state = self._state(cores, here.views)
             if state in seen:
                 return
             seen.add(state)
-            next_core = choice(look)
-            for core, task in enumerate(look.running):
+            next_core = choice(cores)
+            for core, task in enumerate(cores.running):
                 if task is not None and core != next_core:
                     for count in range(1, AHEAD + 1):
-                        yield [*before, *[f"step {core}"] * count], []
+                        yield [*before, *[f"step {core}"] * count]
             if next_core is not None:
-                yield [*before, TICK], []
-            yield from (([*before, *it.calls], [it.calls]) for it in self.stage.handlers)
+                yield [*before, TICK]
+            yield from ([*before, *it.lines] for it in self.stage.handlers)
             before.append(TICK if next_core is None else f"step {next_core}")
 
     def _stand(self, lines: Sequence[str]) -> bool:
@@ -183,30 +153,26 @@ class Differs:
         tick, left = cores.tick % len(cores.running), (TIMES.sub(relative, it) for it in views)
         return (cores.running, cores.ready, tick, choice(cores), *left)
 
-    def _behind(
-        self, leaving: Sequence[str], come: Sequence[Tuple[str, ...]]
-    ) -> Optional[Difference]:
+    def _behind(self, leaving: Sequence[str]) -> Optional[Find]:
         """What differs behind an order that has left `forward`'s."""
         if not self._stand(leaving):
             return None
         most, moves = self.search.bound.surprises, self.search.bound.moves
         left = None if moves is None else max(0, moves - len(leaving))
         bound = Bound(left, None if most is None else most - 1)
-        if not self.own.resting:
-            found = self.search.ask(self.search.goal.asked, bound, leaving, come, keeps=False)
-            return None if found is None else Difference(found)
-        for name in self.own.resting:
-            ends = {claims(it.look, self.stage.application)[name] for it in self.own.ends}
+        if not self._resting:
+            return self.search.ask(self.search.goal.asked, bound, leaving, keeps=False)
+        for name in self._resting:
+            ends = {claims(it.look, self.stage.application)[name] for it in self._ends}
             goal = " or ".join(f"( {it} )" for it in sorted(ends))
             # (of whatever length)
-            more = self.search.interrupts(come)
-            answer = self.search.asker.ask(goal, Bound(), leaving, more, self.search.question)
+            answer = self.search.answer(goal, Bound(), leaving)
             if answer.why in STOPS:
                 self.search.none.append(answer)
                 return None
             if answer.kind is Kind.NONE:
-                found = self.search.ask(self._at_rest(name), bound, leaving, come, keeps=False)
-                return Difference(found or self.stage.find(leaving), (name,))
+                found = self.search.ask(self._at_rest(name), bound, leaving, keeps=False)
+                return (found or self.stage.find(leaving))._replace(tasks=(name,))
         return None
 
     def _at_rest(self, name: str) -> str:
@@ -216,11 +182,3 @@ class Differs:
         endless = (at for at, it in enumerate(task.code) if it.words()[-1] == "max")
         waiting = (f"waits {name} and at {name} {at}" for at in endless)
         return " or ".join([f"ended {name}", f"failed {name}", *waiting])
-
-
-def compared(own: Own, difference: Difference) -> Dict[str, Tuple[str, str]]:
-    """What ends otherwise in two orders, thing by thing."""
-    pairs = zip(own.find.views, difference.find.views)
-    others = [(one.split(), (one, other)) for one, other in pairs if one != other]
-    tasks = difference.tasks
-    return {" ".join(it[1:3]): pair for it, pair in others if not tasks or it[1] in tasks}

@@ -1,5 +1,5 @@
 """Goals of a hunt: how the search is asked for one, and what shows that it is met."""
-from typing import List, NamedTuple, Optional, Sequence
+from typing import NamedTuple, Optional, Sequence, Tuple
 
 from rdbg.failure import of_words, turned
 from rdbg.files.source import Source
@@ -14,44 +14,34 @@ STUCK = claims.Stuck()
 
 
 class Goal(NamedTuple):
-    """A goal, as it is told, and as the program that searches is asked for it; what it says of a
-    place, none of two orders; and whether it holds behind what is found."""
+    """A goal, as it is told, and as the program that searches is asked for it; the lines that stand
+    before the orders that are found, and those behind each, which show it; what holds at the end of
+    each, if that is known; and whether an order is held against another one."""
 
     text: str
     asked: str
-    of_places: Optional[claims.Goal] = None
-    is_met: bool = True
-
-    @property
-    def compares(self) -> bool:
-        """Whether an order is held against another one."""
-        return self.of_places is None
+    first: Tuple[str, ...] = ()
+    last: Tuple[str, ...] = ()
+    holds: Optional[claims.Goal] = None
+    compares: bool = False
 
     def is_so(self, look: Look) -> bool:
         """Whether it is so where this is seen, or needn't be."""
-        return self.of_places is None or not self.is_met or self.of_places.is_so(look)
-
-    def first_lines(self) -> List[str]:
-        """The lines that stand first among those that show a find."""
-        is_watched = isinstance(self.of_places, claims.Holds) and self.is_met
-        return [f"watch {self.asked}"] if is_watched else []
-
-    def last_lines(self, names: Names) -> List[str]:
-        """The lines that show, at the end of an order, that it is a find."""
-        if isinstance(self.of_places, claims.Holds) and self.is_met:
-            return ["show watches", self.of_places.condition.view]
-        if self.of_places is None:
-            return names.lines()
-        return Names(names.tasks, self.of_places.names(names).objects).lines()
+        return self.holds is None or self.holds.is_so(look)
 
 
 def read(parts: Sequence[str], source: Source, question: Question = REACH) -> Goal:
     """The goal that these words are, of which this is asked. Raises `Failure` without one."""
     scope = Scope.of(source)
+    names = scope.names
     if list(parts) == [DIFFERS]:
         # (all that come to a rest end so)
-        return Goal(DIFFERS, STUCK.asked(scope.names.tasks))
+        return Goal(DIFFERS, STUCK.asked(names.tasks), last=(*names.lines(),), compares=True)
     with turned(of_words, reading.NoGoal, of="goal"):
         goal, asked = goal_words.for_search(parts, scope)
     told = goal.text if question == REACH else f"{question.word} {goal.text}"
-    return Goal(told, asked, goal, question.is_met)
+    if isinstance(goal, claims.Holds) and question.is_met:
+        last = ("show watches", goal.condition.view)
+        return Goal(told, asked, (f"watch {asked}",), last, goal)
+    views = Names(names.tasks, goal.names(names).objects).lines()
+    return Goal(told, asked, last=(*views,), holds=goal if question.is_met else None)

@@ -1,17 +1,13 @@
 """What is said of a hunt: what was found, and exactly what was gone through."""
-from typing import Iterator, List, Sequence, Tuple
+from typing import Iterator, List, Optional, Sequence, Tuple
 
 from rdbg.application import Application
-from rdbg.failure import Failure
-from rdbg.hunting.differs import Difference, Own, compared
 from rdbg.hunting.goals import Goal
 from rdbg.hunting.stage import Find, Stage
 from rdbg.reaching.said import Answer, Kind
 
 # So many instructions are named, and so many of them in a line.
 MOST_NAMED, IN_A_LINE = 12, 3
-# What ended a search, as the program says it, in words of a hunt.
-WHY = {"as many states as may be kept (--states)": "there are more states than --states allows"}
 
 
 def counted(count: int, noun: str) -> str:
@@ -19,52 +15,48 @@ def counted(count: int, noun: str) -> str:
     return f"{count:,} {noun}{'' if count == 1 else 's'}"
 
 
-def with_surprises(count: int) -> str:
-    """With so many surprises."""
-    return f"with {counted(count, 'surprise')}" if count else "without a surprise"
+def place_of(find: Find, is_exhaustive: bool) -> str:
+    """Where an order ends, and with how many surprises, where these are counted."""
+    count = len(find.told)
+    how = f"with {counted(count, 'surprise')}" if count else "without a surprise"
+    return f"at {find.place}" if is_exhaustive else f"at {find.place}, {how}"
 
 
-def lines_of(goal: Goal, stage: Stage, finds: Sequence[Find]) -> List[str]:
+def lines_of(goal: Goal, finds: Sequence[Find]) -> List[str]:
     """The lines that make each order and show its end, going back to boot between two."""
-    lines = goal.first_lines()
+    lines = [*goal.first]
     for at, find in enumerate(finds):
-        lines += [*find.order.lines, *goal.last_lines(stage.names)]
-        if at + 1 < len(finds) and find.order.place:
-            lines.append(f"back {find.order.place}")
+        lines += [*find.lines, *goal.last]
+        if at + 1 < len(finds) and find.place:
+            lines.append(f"back {find.place}")
     return lines
 
 
-def found(goal: Goal, stage: Stage, finds: Sequence[Find], is_exhaustive: bool) -> Iterator[str]:
-    """What is said of what was found."""
-    for at, find in enumerate(finds, 1):
-        yield from one_found(goal, stage, find, f" {at}" if len(finds) > 1 else "", is_exhaustive)
-
-
-def one_found(
-    goal: Goal, stage: Stage, find: Find, which: str, is_exhaustive: bool = False
+def found(
+    goal: Goal, stage: Stage, finds: Sequence[Find], is_exhaustive: bool, own: Optional[Find] = None
 ) -> Iterator[str]:
-    """What is said of one."""
-    how = "" if is_exhaustive else f", {with_surprises(len(find.order.told))}"
-    yield f"found{which}: {goal.text}, at {find.order.place}{how}"
-    if not is_exhaustive:
-        yield from (f"  {told}" for told in find.order.told)
-    table, is_so = stage.table(find, goal.is_so)
-    if not is_so:
-        raise Failure("what was found doesn't come to its goal when it is made again")
-    yield from table
+    """What is said of what was found, and of how that ends otherwise than `forward`'s own order,
+    where it is held against that."""
+    if own is not None:
+        yield f"the order without a surprise, which ends at {own.place}:"
+        yield from stage.table(own, goal)
+    for at, find in enumerate(finds, 1):
+        which = f" {at}" if len(finds) > 1 else ""
+        yield f"found{which}: {goal.text}, {place_of(find, is_exhaustive)}"
+        if not is_exhaustive:
+            yield from (f"  {told}" for told in find.told)
+        yield from stage.table(find, goal)
+        yield from () if own is None else differing(own, find)
 
 
-def differing(goal: Goal, stage: Stage, own: Own, them: Sequence[Difference]) -> Iterator[str]:
-    """What is said of orders that end otherwise than `forward`'s own."""
-    yield f"the order without a surprise, which ends at {own.find.order.place}:"
-    yield from stage.table(own.find, lambda look: True)[0]
-    for at, it in enumerate(them, 1):
-        yield from one_found(goal, stage, it.find, f" {at}" if len(them) > 1 else "")
-        yield "how the first order ends (<), and this one (>):"
-        for one, other in compared(own, it).values():
+def differing(own: Find, find: Find) -> Iterator[str]:
+    """How an order ends otherwise than another one, thing by thing, as the program shows it."""
+    yield "how the first order ends (<), and this one (>):"
+    for one, other in zip(own.views, find.views):
+        if one != other and (not find.tasks or one.split()[1] in find.tasks):
             yield from (f"< {one}", f"> {other}")
-        for task in it.tasks:
-            yield f"from here on {task} can't end as in the first order, whatever comes"
+    for task in find.tasks:
+        yield f"from here on {task} can't end as in the first order, whatever comes"
 
 
 def gone_through(counts: Tuple[int, int, int]) -> str:
@@ -89,8 +81,7 @@ def not_come_to(answer: Answer, application: Application) -> Iterator[str]:
 def ended(answer: Answer) -> Iterator[str]:
     """Why not all was gone through, if it wasn't; of what was, what else is said of it."""
     if answer.why:
-        why = WHY.get(answer.why, answer.why)
-        yield why if answer.kind is Kind.NONE else f"that isn't all: {why}"
+        yield answer.why if answer.kind is Kind.NONE else f"that isn't all: {answer.why}"
 
 
 def others(answer: Answer) -> Iterator[str]:

@@ -1,12 +1,111 @@
 """The report of a search in the form that its file's name asks for: JUnit's XML, in which it is one
-case, or else SARIF."""
-from typing import Iterator, Optional, Sequence
+case, or else SARIF, in which each order that was found is a result, whose moves are its code flow."""
+import contextlib
+import json
+import os
+import re
+from typing import Any, Dict, Iterator, Optional, Sequence
+from urllib.parse import quote
 from xml.etree import ElementTree
 
-from rdbg import junit
-from rdbg.hunting import sarif
-from rdbg.hunting.sarif import FAIL, OPEN, Values
+from rdbg import junit, whole_file
+from rdbg.client import version
+from rdbg.driving.parts import look_through
+from rdbg.driving.trail import instruction_of
+from rdbg.effects import Move
+from rdbg.files.source import Source
+from rdbg.hunting.stage import Stage
+from rdbg.reaching.said import Answer, Kind
 from rdbg.shown import shown
+from rdbg.tree import Place
+from rdbg.wording import counted
+
+Values = Dict[str, Any]
+SCHEMA = "https://json.schemastore.org/sarif-2.1.0.json"
+VERSION = "2.1.0"
+# How what rdbg says of itself begins, where its version is known.
+NUMBERED = re.compile(r"rdbg (\d+\.\d+\.\d+)\b")
+RULE = "goal-reached"
+RULES = [
+    {
+        "id": RULE,
+        "shortDescription": {"text": "an order of moves leads to a goal"},
+        "fullDescription": {
+            "text": "Some order of the moves of tasks, ticks and interrupts leads to where the goal"
+            " is so. Its moves are the code flow."
+        },
+    }
+]
+# So many moves of an order are told at the most.
+MOST_MOVES = 1_000
+# What is said where no order is found: that none leads there, or that it isn't known.
+PASS, OPEN, FAIL = "pass", "open", "fail"
+
+
+def physical(path: str, place: Optional[Place]) -> Values:
+    """A place in a file."""
+    uri = quote(os.path.relpath(path).replace(os.sep, "/"))
+    found: Values = {"artifactLocation": {"uri": uri}}
+    if place is not None:
+        found["region"] = {"startLine": place.line, "startColumn": place.column}
+    return found
+
+
+def result(kind: str, level: str, text: str, place: Values) -> Values:
+    """What a search has come to, and where."""
+    where = {"message": {"text": text}, "locations": [{"physicalLocation": place}]}
+    return {"ruleId": RULE, "kind": kind, "level": level, **where}
+
+
+def step(source: Source, move: Move) -> Values:
+    """A move as a place of a flow: where its instruction stands, if a task made it."""
+    it = instruction_of(source.application, move)
+    place = physical(source.path, it.place if it else None)
+    where = {"physicalLocation": place, "message": {"text": move.row()}}
+    return {"location": where, "executionOrder": move.place}
+
+
+def found(
+    source: Source, goal: str, stage: Stage, lines: Sequence[str], told: Sequence[str] = ()
+) -> Values:
+    """An order that was found, by the lines that make it from boot, with what is told of it."""
+    stage.at_boot().tell_all(lines)
+    count = stage.walk.place
+    moves = look_through(stage.target, 1, min(count, MOST_MOVES)).moves if count else ()
+    said = f"{goal}: so behind {counted(count, 'move')}"
+    if told:
+        said += f"; {'; '.join(told)}"
+    steps = [step(source, move) for move in moves]
+    last = steps[-1]["location"]["physicalLocation"] if steps else physical(source.path, None)
+    properties = {"properties": {"lines": list(lines), "moves": count}}
+    flows = {"codeFlows": [{"threadFlows": [{"locations": steps}]}]} if steps else {}
+    return {**result(FAIL, "error", said, last), **properties, **flows}
+
+
+def none(source: Source, goal: str, answer: Answer) -> Values:
+    """That no order was found, which is a theorem where the answer is `never`."""
+    kind = PASS if answer.kind is Kind.NONE else OPEN
+    said = f"{goal}: {answer.head()}" + (f"; {answer.why}" if answer.why else "")
+    return result(kind, "none", said, physical(source.path, None))
+
+
+def as_sarif(said: Sequence[Values]) -> str:
+    """A report of these results as SARIF, made by rdbg, of which version, and whether it is proved."""
+    whole = version()
+    number = NUMBERED.match(whole)
+    numbered = {"version": number[1]} if number else {}
+    driver = {"name": "rdbg", "fullName": whole, **numbered, "rules": RULES}
+    run = {"tool": {"driver": driver}, "results": list(said), "columnKind": "unicodeCodePoints"}
+    return json.dumps({"$schema": SCHEMA, "version": VERSION, "runs": [run]}, indent=2) + "\n"
+
+
+def of_answer(source: Source, goal: str, answer: Answer) -> Values:
+    """What an answer to whether a goal can come is; its order is made by rdbg."""
+    if not answer.has_order:
+        return none(source, goal, answer)
+    with contextlib.closing(Stage(source, ())) as stage:
+        return found(source, goal, stage, answer.order)
+
 
 XML = ".xml"
 # What is expected of a search, where nothing is said of that.
@@ -39,10 +138,12 @@ def case(file: str, goal: str, results: Sequence[Values], expect: str) -> Elemen
     return made
 
 
-def text_of(
+def write(
     path: str, file: str, goal: str, results: Sequence[Values], expect: Optional[str] = None
-) -> str:
-    """The report for a path, of what a search for a goal in a file has come to."""
-    if not path.endswith(XML):
-        return sarif.text_of(results)
-    return junit.document(file, [case(file, goal, results, expect or NONE)])
+) -> None:
+    """Writes the report to a path, of what a search for a goal in a file has come to."""
+    with whole_file.written(path) as report:
+        if path.endswith(XML):
+            report.write(junit.document(file, [case(file, goal, results, expect or NONE)]))
+        else:
+            report.write(as_sarif(results))

@@ -17,13 +17,14 @@ from rdbg.instructions import form_of
 from rdbg.looks import Look
 from rdbg.reaching import said
 from rdbg.reaching.asking import CTRL_C, REACH, TIME, Asker, NoQuestion, Question
+from rdbg.reaching.handlers import left
 from rdbg.reaching.said import Answer, Bound, Kind
 
 # Why a goal isn't asked for any more, and why nothing is.
 TOO_LONG = "the goal is too long"
 STOPS = (TIME, CTRL_C)
 Cell = FrozenSet[str]
-Ask = Callable[[str], Optional[Find]]
+End = Tuple[str, ...]
 # A find that waits to be told, behind those that have fewer surprises, fewer moves, or came first;
 # and the claims that its end denies.
 Waiting = Tuple[Tuple[int, int], int, Find, Cell]
@@ -82,23 +83,21 @@ class Search:
         """Whether the time is up, or Ctrl-C came."""
         return any(it.why in STOPS for it in self.none)
 
-    def interrupts(self, come: Sequence[Tuple[str, ...]] = ()) -> List[str]:
-        """The lines that let those interrupts come that are left where these have come."""
-        left = ((it, it.times - [*come].count(it.calls)) for it in self.stage.handlers)
-        return [it._replace(times=times).line() for it, times in left if times > 0]
+    def answer(self, goal: str, bound: Bound, begin: Sequence[str]) -> Answer:
+        """What is answered of a goal behind these lines, with the interrupts that are left there."""
+        more = [it.line() for it in left(self.stage.handlers, begin)]
+        return self.asker.ask(goal, bound, begin, more, self.question)
 
     def ask(
         self,
         goal: str,
         bound: Optional[Bound] = None,
         begin: Sequence[str] = (),
-        come: Sequence[Tuple[str, ...]] = (),
         keeps: bool = True,
     ) -> Optional[Find]:
         """The order that is found for a goal, made again. Where there is none its answer is kept,
         without `keeps` only one that leaves it open."""
-        more, asked = self.interrupts(come), self.bound if bound is None else bound
-        answer = self.asker.ask(goal, asked, begin, more, self.question)
+        answer = self.answer(goal, self.bound if bound is None else bound, begin)
         if answer.kind is Kind.REACHED:
             self.counts = self.counts if any(self.counts) else answer.counts
             return self.stage.find(answer.order)
@@ -110,31 +109,26 @@ class Search:
         """What is said of the orders that weren't found."""
         return said.together(self.none) if self.none else Answer(Kind.UNTOLD)
 
-    def first(self) -> List[Find]:
-        """What is found first."""
-        found = self.ask(self.goal.asked)
-        return [found] if found else []
-
     def smallest(self) -> List[Find]:
         """The find with the fewest surprises, and of those the fewest moves: none has fewer."""
-        found = self.first()
-        while found and not self.is_stopped():
-            surprises, moves = found[0].size
+        found = self.ask(self.goal.asked)
+        while found is not None and not self.is_stopped():
+            surprises, moves = found.size
             tighter = [Bound(moves - 1, surprises)] if moves else []
             tighter += [Bound(self.bound.moves, surprises - 1)] if surprises else []
             fewer = [it for it in (self.ask(self.goal.asked, bound) for bound in tighter) if it]
             if not fewer:
                 break
             self.none = []
-            found = [min(fewer, key=lambda it: it.size)]
-        return found
+            found = min(fewer, key=lambda it: it.size)
+        return [found] if found else []
 
     def shortest(self, goal: str) -> Optional[Find]:
         """The find with the fewest moves, however many surprises."""
         found = self.ask(goal)
         low, untold = 0, self.untold()
-        while found is not None and low < found.order.length and self.untold() == untold:
-            middle = (low + found.order.length - 1) // 2
+        while found is not None and low < found.length and self.untold() == untold:
+            middle = (low + found.length - 1) // 2
             fewer = self.ask(goal, Bound(middle), keeps=False)
             found, low = (found, middle + 1) if fewer is None else (fewer, low)
         return found
@@ -143,10 +137,10 @@ class Search:
         """How many questions couldn't be answered."""
         return sum(it.kind is Kind.UNTOLD for it in self.none)
 
-    def different(self, wanted: int, find: Ask, is_new: Callable[[Find], bool]) -> List[Find]:
-        """Finds that end otherwise, so many at the most, the smaller ones first. The ends are gone
-        through in cells, those in which some claims are denied: where one is found, all others lie
-        where one of its own claims is denied, too."""
+    def different(self, wanted: int, end: Callable[[Find], End], ends: Set[End]) -> List[Find]:
+        """Finds with other ends than these, so many at the most, the smaller ones first. The ends
+        are gone through in cells, those in which some claims are denied: where one is found, all
+        others lie where one of its own claims is denied, too."""
         finds: List[Find] = []
         waiting: List[Waiting] = []
         asked: Set[Cell] = set()
@@ -155,7 +149,7 @@ class Search:
             if cell in asked or self.is_stopped():
                 return
             asked.add(cell)
-            found = self._in_cell(cell, find)
+            found = self._in_cell(cell)
             if found is not None:
                 surprises, moves = found.size
                 size = (0 if self.is_exhaustive else surprises), moves
@@ -164,7 +158,8 @@ class Search:
         look(frozenset())
         while waiting and len(finds) < wanted:
             _, _, found, cell = heapq.heappop(waiting)
-            if is_new(found):
+            if end(found) not in ends:
+                ends.add(end(found))
                 finds.append(found)
             if len(finds) < wanted:
                 for claim in claims(found.look, self.stage.application).values():
@@ -172,12 +167,12 @@ class Search:
         self.is_all = len(finds) < wanted
         return finds
 
-    def _in_cell(self, cell: Cell, find: Ask) -> Optional[Find]:
+    def _in_cell(self, cell: Cell) -> Optional[Find]:
         """What is found in a cell."""
         denied = (f"not ( {it} )" for it in sorted(cell))
         goal = " and ".join([f"( {self.goal.asked} )", *denied]) if cell else self.goal.asked
         try:
-            return find(goal)
+            return self.shortest(goal) if self.is_exhaustive else self.ask(goal)
         except NoQuestion as refused:
             if TOO_LONG not in str(refused) or not cell:
                 raise
@@ -186,13 +181,8 @@ class Search:
 
     def all(self, wanted: int) -> List[Find]:
         """So many finds that end otherwise, as far as goals can tell it."""
-        ends: Set[Tuple[str, ...]] = set()
 
-        def is_new(found: Find) -> bool:
-            before = len(ends)
-            ends.add(tuple(claims(found.look, self.stage.application).values()))
-            return len(ends) > before
+        def end(found: Find) -> End:
+            return tuple(claims(found.look, self.stage.application).values())
 
-        if self.is_exhaustive:
-            return self.different(wanted, self.shortest, is_new)
-        return self.different(wanted, self.ask, is_new)
+        return self.different(wanted, end, set())

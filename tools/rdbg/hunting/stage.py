@@ -1,5 +1,9 @@
-"""A program of a hunt's own, in which what is found is made again, and looked at."""
-from typing import Callable, Iterator, List, NamedTuple, Optional, Sequence, Tuple
+"""Orders of a hunt, made again in a program of its own and looked at, and what in one is a surprise.
+
+A surprise is a move that `forward` wouldn't make next, where the moves of one core in a row, all
+ahead of it, count as one; an interrupt is one, whatever it calls."""
+import dataclasses
+from typing import Iterator, List, NamedTuple, Optional, Sequence, Tuple
 
 from rdbg import commands
 from rdbg.driving.interrupt import Interrupt
@@ -7,29 +11,100 @@ from rdbg.driving.opening import begin
 from rdbg.driving.parts import look_through
 from rdbg.driving.target import Limits, Target, read
 from rdbg.driving.walk import Walk
+from rdbg.failure import Failure
 from rdbg.files.source import Source
-from rdbg.hunting.interrupts import Handler
-from rdbg.hunting.orders import Order, make
+from rdbg.hunting.goals import Goal
 from rdbg.looks import Look, Names
+from rdbg.reaching.handlers import WORD, Handler, coming
+from rdbg.replies import Cores
 from rdbg.tracing.table import Table, rows
+from rdbg.wording import counted
 
+TICK, FORWARD = "tick", "forward"
 # So many rows of a table are shown at the most.
 MOST_ROWS = 60
 # So many places of a history are left before a new program is begun.
 LEFT = 100_000
 
 
-class Find(NamedTuple):
-    """An order, and what there is at its end, as a look and as the program's views."""
+@dataclasses.dataclass
+class Run:
+    """Moves in a row that are one to whoever reads of them: their line, or the word for those of
+    `forward`, how many they are, and behind how many they come; the calls of an interrupt are one,
+    each a move of the program."""
 
-    order: Order
+    line: str
+    count: int
+    place: int
+    handler: Optional[Handler] = None
+
+    def told(self) -> str:
+        """The surprise that it is; empty where it is none."""
+        if self.line == FORWARD:
+            return ""
+        if self.handler:
+            return f"at {self.place}: an interrupt comes: {self.handler.calls}"
+        if self.line == TICK:
+            return f"at {self.place}: a tick comes early"
+        moves = counted(self.count, "move")
+        return f"at {self.place}: core {self.line.split()[1]} is {moves} ahead"
+
+    def lines(self) -> List[str]:
+        """The lines that make it."""
+        if self.handler:
+            return [*self.handler.lines]
+        return [f"{FORWARD} {self.count}"] if self.line == FORWARD else [self.line] * self.count
+
+
+def choice(cores: Cores) -> Optional[int]:
+    """The core that `forward` would move next, the first busy one from the turn on, if any."""
+    busy = (core for core, task in enumerate(cores.running) if task and core >= cores.turn)
+    return next(busy, None)
+
+
+def runs_of(lines: Sequence[str], looks: Sequence[Cores], handlers: Sequence[Handler]) -> List[Run]:
+    """The runs that the moves of an order make, with the cores before each of them."""
+    found: List[Run] = []
+    at = 0
+    while at < len(lines):
+        line = lines[at]
+        if line.split()[0] == WORD:
+            it = coming(handlers, lines, at) or Handler(line[len(WORD) + 1 :])
+            run = Run(line, len(it.lines), at, it)
+        else:
+            core = choice(looks[at])
+            expected = TICK if core is None else f"step {core}"
+            run = Run(FORWARD if line == expected else line, 1, at)
+        at += run.count
+        if found and found[-1].line == run.line and run.line != TICK and not run.handler:
+            found[-1].count += 1
+        else:
+            found.append(run)
+    return found
+
+
+class Find(NamedTuple):
+    """An order that is made: its lines from boot on, its surprises as they are told, and how many
+    moves it has, an interrupt as one; what there is at its end, as a look and as the program's
+    views; and the tasks that end otherwise than in another order, where not all is held against
+    that."""
+
+    lines: Tuple[str, ...]
+    told: Tuple[str, ...]
+    length: int
     look: Look
     views: Tuple[str, ...]
+    tasks: Tuple[str, ...] = ()
 
     @property
     def size(self) -> Tuple[int, int]:
         """How many surprises it has, and how many moves."""
-        return len(self.order.told), self.order.length
+        return len(self.told), self.length
+
+    @property
+    def place(self) -> int:
+        """How many moves the program has made at its end, each call of an interrupt as one."""
+        return self.look.place
 
 
 class Stage:
@@ -69,25 +144,31 @@ class Stage:
 
     def find(self, moves: Sequence[str]) -> Find:
         """The order of these moves. Raises `Failure` where it can't be made."""
-        return self.here(make(self.at_boot(), moves, self.handlers))
+        answers = self.at_boot().tell_all([it for move in moves for it in ("show cores", move)])
+        if any(it.startswith("no ") for it in answers):
+            raise Failure("what was found can't be made again")
+        looks = [it for it in map(read, answers[::2]) if isinstance(it, Cores)]
+        runs = runs_of(moves, looks, self.handlers)
+        told = [it.told() for it in runs if it.told()]
+        length = sum(1 if it.handler else it.count for it in runs)
+        return self.here([line for it in runs for line in it.lines()], told, length)
 
-    def here(self, order: Order) -> Find:
-        """An order whose moves are done, with what there is."""
+    def here(self, lines: Sequence[str], told: Sequence[str], length: int) -> Find:
+        """An order of these lines, which are done, with what there is."""
         views = self.target.tell_all(self.names.lines())
         look = Look.of(self.walk.place, [read(view) for view in views])
-        return Find(order, look, tuple(views[1:]))
+        return Find((*lines,), (*told,), length, look, (*views[1:],))
 
-    def table(self, find: Find, is_so: Callable[[Look], bool]) -> Tuple[List[str], bool]:
-        """Who did what in an order, as `rdbg trace` says it, and whether its end is as is said."""
-        self.at_boot().tell_all(find.order.lines)
-        return [*self._rows()], self.walk.place == find.order.place and is_so(self.target.look())
-
-    def _rows(self) -> Iterator[str]:
-        """The head and the rows of a table of the moves that are done, if there are any."""
-        done, tick = self.walk.place, self.target.look().cores.tick
+    def table(self, find: Find, goal: Goal) -> Iterator[str]:
+        """Who did what in an order, as `rdbg trace` says it: the head and the rows of a table, if it
+        has moves. Raises `Failure` where it doesn't come to its goal."""
+        self.at_boot().tell_all(find.lines)
+        done, look = self.walk.place, self.target.look()
+        if done != find.place or not goal.is_so(look):
+            raise Failure("what was found doesn't come to its goal when it is made again")
         if not done:
             return
-        table = Table.of(self.application, done, tick)
+        table = Table.of(self.application, done, look.cores.tick)
         yield table.head()
         part = look_through(self.target, 1, min(done, MOST_ROWS))
         yield from (table.row(row.cells) for row in rows(part.moves))

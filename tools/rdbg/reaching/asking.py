@@ -99,15 +99,14 @@ class Asker(NamedTuple):
             file.seek(0)
             left = None if self.end is None else max(0.001, self.end - time.monotonic())
             outcome = running.run(words, left, file)
-        if outcome.is_stopped:
-            is_time = self.end is not None and time.monotonic() >= self.end
-            why = TIME if is_time else CTRL_C
-            return said.stopped(outcome.last, bound.surprises, why, question is REACH)
-        return answered(outcome, bound, question)
+        is_time = self.end is not None and time.monotonic() >= self.end
+        why = TIME if is_time else CTRL_C
+        known = said.stopped(outcome.last, bound.surprises, why, question is REACH)
+        return known if outcome.is_stopped else answered(outcome, known)
 
 
-def answered(outcome: running.Outcome, bound: Bound, question: Question) -> Answer:
-    """The answer that a program has given to a question."""
+def answered(outcome: running.Outcome, known: Answer) -> Answer:
+    """The answer that a program has given to a question, of which so much was known before."""
     if outcome.status == UNTOLD and not outcome.output:
         raise NoQuestion("", UNTOLD)  # (which has said why)
     replies = [it.splitlines() for it in outcome.output.split("\n\n") if it]
@@ -115,8 +114,7 @@ def answered(outcome: running.Outcome, bound: Bound, question: Question) -> Answ
         if reply[0].startswith(REFUSED):
             raise NoQuestion(reply[0][len(REFUSED) :], UNTOLD)
     if outcome.status != 0:
-        known = said.known(outcome.last, bound.surprises, question is REACH)
-        said.check("", outcome.status or 1, known)
+        said.check("", outcome.status, known)
     if not replies or replies[-1] == [DONE]:
         raise Failure("the program ended before its answer", UNTOLD)
     return said.read(replies[-1])

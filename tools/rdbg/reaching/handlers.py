@@ -1,7 +1,8 @@
 """Interrupts as the search takes them: those of a text by name, others by their calls."""
-from typing import Container, Dict, List, NamedTuple, Optional, Sequence, Tuple
+from collections import Counter
+from typing import Container, Dict, Iterator, List, NamedTuple, Optional, Sequence, Tuple
 
-from rdbg.application import ANY, NO_INTERRUPT, Application, Interrupt
+from rdbg.application import ANY, MOST_TIMES, NO_INTERRUPT, Application, Interrupt
 from rdbg.failure import Failure
 from rdbg.wording import nearest
 
@@ -16,6 +17,25 @@ class Handler(NamedTuple):
     calls: str
     when: Tuple[Tuple[str, str], ...] = ()
 
+    @property
+    def lines(self) -> Tuple[str, ...]:
+        """The lines that make it."""
+        return tuple(f"{WORD} {it}" for it in self.calls.split(BETWEEN))
+
+    @property
+    def is_endless(self) -> bool:
+        """Whether it comes any number of times."""
+        return dict(self.when).get(TIMES) == EVER
+
+    @property
+    def times(self) -> int:
+        """How often it comes at the most, as far as that is counted."""
+        return MOST_TIMES if self.is_endless else int(dict(self.when).get(TIMES, 1))
+
+    def so_often(self, times: int) -> "Handler":
+        """It, which comes so often at the most."""
+        return Handler(self.calls, tuple({**dict(self.when), TIMES: str(times)}.items()))
+
     def options(self, said: Container[str] = ()) -> List[str]:
         """The words of a command line, on which these options of it stand already."""
         when = [(f"--{key}", it) for key, it in self.when if f"--{key}" not in said]
@@ -24,19 +44,6 @@ class Handler(NamedTuple):
     def line(self) -> str:
         """The line to the program where it answers lines."""
         return " ".join([WORD, self.calls, *(f"{key} {it}" for key, it in self.when)])
-
-    def behind(self, lines: Sequence[str]) -> List["Handler"]:
-        """It as it may come behind these lines, in which it may have come."""
-        own = [f"{WORD} {it}" for it in self.calls.split(BETWEEN)]
-        came, at = 0, 0
-        while at < len(lines):
-            is_own = [*lines[at : at + len(own)]] == own
-            came, at = came + is_own, at + (len(own) if is_own else 1)
-        when = dict(self.when)
-        if when.get(TIMES, EVER) == EVER or not came:
-            return [self]
-        left = {**when, TIMES: str(int(when[TIMES]) - came)}
-        return [Handler(self.calls, tuple(left.items()))] if int(when[TIMES]) > came else []
 
 
 def handlers(texts: Sequence[str], application: Optional[Application]) -> List[Handler]:
@@ -73,11 +80,29 @@ def told(texts: Sequence[str], application: Optional[Application]) -> str:
     return f"{'without' if texts else 'with'} {noun} {', '.join(names)}" if names else ""
 
 
+def coming(handlers: Sequence[Handler], lines: Sequence[str], at: int) -> Optional[Handler]:
+    """The one whose lines stand there, of several the one that has the most."""
+    there = [it for it in handlers if it.lines == (*lines[at : at + len(it.lines)],)]
+    return max(there, key=lambda it: len(it.lines)) if there else None
+
+
+def come(handlers: Sequence[Handler], lines: Sequence[str]) -> Iterator[Handler]:
+    """Those that have come in these lines, one after the other."""
+    at = 0
+    while at < len(lines):
+        it = coming(handlers, lines, at) if lines[at].startswith(WORD) else None
+        if it is not None:
+            yield it
+        at += len(it.lines) if it is not None else 1
+
+
 def left(handlers: Sequence[Handler], lines: Sequence[str]) -> List[Handler]:
     """Those that may still come behind these lines; all, where one comes after another."""
     if any(key == AFTER for it in handlers for key, _ in it.when):
         return [*handlers]
-    return [it for one in handlers for it in one.behind(lines)]
+    came = Counter(come(handlers, lines))
+    left = [it if it.is_endless else it.so_often(it.times - came[it]) for it in handlers]
+    return [it for it in left if it.times > 0]
 
 
 def times_of(it: Interrupt, others: Dict[str, Interrupt]) -> int:

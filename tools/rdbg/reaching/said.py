@@ -124,7 +124,7 @@ def read(lines: Sequence[str]) -> Answer:
     )
 
 
-def check(output: str, status: int, known: str) -> None:
+def check(output: str, status: int, known: Answer) -> None:
     """Raises `Failure`, with what was `known`, where a program ended by no answer or refusal."""
     if status < 0:
         why = f"was ended by {signal.Signals(-status).name}"
@@ -134,12 +134,11 @@ def check(output: str, status: int, known: str) -> None:
         why = "ended before its answer"
     else:
         return
-    raise Failure(f"the program {why}" + (f"; until then: {known}" if known else ""), UNTOLD)
+    until = "" if known.bound == Bound() else f"; until then: {known.bound.text()}"
+    raise Failure(f"the program {why}{until}", UNTOLD)
 
 
-def stopped(
-    last: Optional[Progress], surprises: Optional[int], why: str, is_reach: bool = True
-) -> Answer:
+def stopped(last: Optional[Progress], surprises: Optional[int], why: str, is_reach: bool) -> Answer:
     """What is known where a search ended in the midst of it, by how far it had said to be, and how
     many surprises an order was to have at the most. Where another question than `reach` was asked,
     how far it was says nothing of the answer."""
@@ -148,12 +147,6 @@ def stopped(
     most = surprises if last.surprises is None else last.surprises
     bound = Bound(last.within, most) if is_reach else Bound()
     return Answer(Kind.UNTOLD, bound, why=why, counts=(last.states, last.moves, last.deepest))
-
-
-def known(last: Optional[Progress], surprises: Optional[int], is_reach: bool = True) -> str:
-    """Of which orders that is known, in words; empty where nothing was said, or not for `reach`."""
-    is_said = last is not None and is_reach
-    return stopped(last, surprises, "").bound.text() if is_said else ""
 
 
 def both(one: Answer, other: Answer) -> Answer:

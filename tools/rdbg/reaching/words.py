@@ -1,6 +1,5 @@
 """The words of `rdbg reach`: those of the program that searches, and those of what starts it."""
-from itertools import takewhile
-from typing import Callable, Dict, List, NamedTuple, Optional, Sequence, Tuple
+from typing import Callable, Dict, Iterator, List, NamedTuple, Optional, Sequence, Tuple
 
 from rdbg.application import NO_INTERRUPT
 from rdbg.wording import shown
@@ -15,7 +14,7 @@ DEFINE = "-D"
 # Has the program say how far it is, which it always does here.
 PROGRESS = "--progress"
 # What stands behind each of these, which the program doesn't know.
-OWN = {OUTPUT: "OUT", WITHIN: "SECONDS", PAGE: "OUT.html", REPORT: "FILE"}
+OWN = {OUTPUT: "OUT", WITHIN: "SECONDS", PAGE: "OUT.html", REPORT: "FILE", DEFINE: "NAME=N"}
 # Options of the program behind which a value stands; those among them that belong to an interrupt.
 WHEN = ("--times", "--after", "--apart")
 VALUED = {*"--from --moves --isr --states --memory --part".split(), SURPRISES, PACE, *WHEN}
@@ -23,141 +22,135 @@ VALUED = {*"--from --moves --isr --states --memory --part".split(), SURPRISES, P
 NO_MORE = "--"
 
 
-class Given(NamedTuple):
-    """An interrupt on a command line: from which word to behind which, what is given of it, and the
-    options that belong to it."""
+class Part(NamedTuple):
+    """Words that belong together: an option and its value, where it has one; or a word of the file
+    and the goal, which has no option."""
 
-    first: int
-    end: int
-    text: str
-    when: List[str]
+    words: Tuple[str, ...]
+    option: str
+    value: Optional[str]
+
+
+def plain(word: str) -> Part:
+    """A word of the file and the goal."""
+    return Part((word,), "", word)
+
+
+def parts(words: Sequence[str]) -> Iterator[Part]:
+    """The words of a command line as parts, in their order."""
+    left = list(words)
+    while left:
+        word = left.pop(0)
+        option, has_value, behind = word.partition("=")
+        value = behind if has_value else None
+        if word.startswith((OUTPUT, DEFINE)):
+            # (the value of a short one may stand behind it without a sign)
+            option, behind = word[: len(OUTPUT)], word[len(OUTPUT) :]
+            value = behind[behind.startswith("=") :] or None
+        if word == NO_MORE:
+            yield Part((word,), word, None)
+            yield from map(plain, left)
+            return
+        if not word.startswith("-"):
+            yield plain(word)
+        elif value is None and left and option in (*VALUED, *OWN):
+            value = left.pop(0)
+            yield Part((word, value), option, value)
+        else:
+            yield Part((word,), option, value)
 
 
 class Words(NamedTuple):
-    """What was asked for: the words of the program, what its starter does, and consts of a text."""
+    """What was asked for: the words of the program, but `PROGRESS`; what its starter does, by its
+    options; for how many seconds; and consts of a text."""
 
-    program: List[str]
-    output: Optional[str]
+    parts: Tuple[Part, ...]
+    own: Dict[str, str]
     seconds: Optional[float]
-    consts: Tuple[str, ...] = ()
-    page: Optional[str] = None
-    report: Optional[str] = None
+    consts: Tuple[str, ...]
 
-    def value(self, wanted: str) -> Optional[str]:
+    @property
+    def program(self) -> List[str]:
+        """The words of the program."""
+        return [word for it in self.parts for word in it.words]
+
+    def has(self, option: str) -> bool:
+        """Whether an option of the program stands there."""
+        return any(it.option == option for it in self.parts)
+
+    def value(self, option: str) -> Optional[str]:
         """The value of an option of the program, the last where it stands more than once."""
-        words = [*takewhile(NO_MORE.__ne__, self.program)]
-        asked: Dict[str, str] = {}
-        for word, following in zip(words, [*words[1:], ""]):
-            option, has_value, value = word.partition("=")
-            asked[option] = value if has_value else following
-        return asked.get(wanted)
+        return next((it.value for it in reversed(self.parts) if it.option == option), None)
 
     def surprises(self) -> Optional[int]:
         """How many surprises an order has at the most, if that was asked."""
         asked = self.value(SURPRISES)
         return int(asked) if asked and is_digits(asked) else None
 
-    def plain(self) -> List[int]:
-        """Where the words stand that are no options: the file, and behind it those of a goal."""
-        found: List[int] = []
-        places = iter(range(len(self.program)))
-        for at in places:
-            if self.program[at] == NO_MORE:
-                return found + [*places]
-            if self.program[at] in VALUED:
-                next(places, None)
-            elif not self.program[at].startswith("-"):
-                found.append(at)
-        return found
+    def plain(self) -> List[str]:
+        """The words that are no options: the file, and behind it those of a goal."""
+        return [word for it in self.parts if not it.option for word in it.words]
 
-    def has_goal(self) -> bool:
-        """Whether a goal stands behind the file. Without one the program is an engine."""
-        return len(self.plain()) > 1
+    def goal(self) -> str:
+        """The goal behind the file, as it is typed. Without words for it the program is an engine."""
+        return " ".join(self.plain()[1:])
 
-    def put(self, file: str, goal: str) -> List[str]:
-        """The words of the program, with another file and goal."""
-        first, second, *others = self.plain()
-        new = {first: file, second: goal}
-        return [new.get(at, word) for at, word in enumerate(self.program) if at not in others]
+    def put(self, file: str, goal: str) -> "Words":
+        """The same with another file and, where it has one, goal."""
+        new, found = [plain(file), plain(goal)], []
+        for it in self.parts:
+            if it.option:
+                found.append(it)
+            elif new:
+                found.append(new.pop(0))
+        return self._replace(parts=tuple(found))
 
-    def put_file(self, file: str) -> List[str]:
-        """The words of the program, with another file."""
-        first = self.plain()[0]
-        return [file if at == first else word for at, word in enumerate(self.program)]
+    def interrupts(self) -> List[str]:
+        """What is given of each interrupt."""
+        return [it.value for it in self.parts if it.option == OPTION and it.value is not None]
 
     def with_interrupts(self, handlers: Callable[[List[str]], List[Handler]]) -> "Words":
         """The same with each interrupt as the program takes it, by what these are. What the command
         line says of when one comes counts in place of what the text says."""
-        places, program = self._interrupts(), list(self.program)
-        made = handlers(self.interrupts())
-        if self.interrupts() == [NO_INTERRUPT]:
-            del program[places[0].first : places.pop().end]
-        for place, it in [*zip(places, made)][::-1]:
-            program[place.first : place.end] = it.options(place.when)
-        others = [word for it in made[len(places) :] for word in it.options()]
-        behind = program.index(NO_MORE) if NO_MORE in program else len(program)
-        program[behind:behind] = others
-        return self._replace(program=program)
-
-    def interrupts(self) -> List[str]:
-        """What is given of each interrupt."""
-        return [it.text for it in self._interrupts()]
-
-    def _interrupts(self) -> List[Given]:
-        """The interrupts that are given."""
-        found: List[Given] = []
-        at = 0
-        while at < len(self.program) and self.program[at] != NO_MORE:
-            word, has_value, value = self.program[at].partition("=")
-            is_apart = word in VALUED and not has_value
-            if word == OPTION and (has_value or at + 1 < len(self.program)):
-                text = value if has_value else self.program[at + 1]
-                found.append(Given(at, at + 1 + is_apart, text, []))
-            elif word in WHEN and found:
-                found[-1].when.append(word)
-            at += 1 + is_apart
-        return found
+        texts = self.interrupts()
+        made = handlers(texts)
+        given = [] if texts == [NO_INTERRUPT] else made[: len(texts)]
+        others = [part for it in made[len(given) :] for part in parts(it.options())]
+        found: List[Part] = []
+        said: List[str] = []
+        for it in reversed(self.parts):
+            if it.option == OPTION and it.value is not None:
+                found[:0] = parts(given.pop().options(said)) if given else ()
+                said.clear()
+            else:
+                found.insert(0, it)
+                said += [it.option] if it.option in WHEN else []
+        behind = next((at for at, it in enumerate(found) if it.option == NO_MORE), len(found))
+        return self._replace(parts=(*found[:behind], *others, *found[behind:]))
 
     def files(self) -> List[str]:
         """The words that may be files of the program, an option's among them."""
-        return [it.partition("=")[2] if it.startswith("--") else it for it in self.program]
-
-
-def own(word: str) -> Tuple[str, Optional[str]]:
-    """The option of the starter's that a word is, if any, and its value where it has one."""
-    if word.startswith(OUTPUT):
-        value = word[len(OUTPUT) :]
-        return OUTPUT, (value[1:] if value.startswith("=") else value) or None
-    option, has_value, value = word.partition("=")
-    is_own = option in (WITHIN, PAGE, REPORT)
-    return (option, value if has_value else None) if is_own else ("", None)
+        return [it.value for it in self.parts if it.value]
 
 
 def read(words: Sequence[str]) -> Words:
     """What words ask for. Raises `Failure` where one that isn't the program's is wrong."""
-    program = [PROGRESS]
+    program: List[Part] = []
     found: Dict[str, str] = {}
     consts: List[str] = []
-    left = list(words)
-    while left and left[0] != NO_MORE:
-        word = left.pop(0)
-        if word.startswith(DEFINE):
-            if word == DEFINE and not left:
-                raise Failure(f"{DEFINE} lacks its NAME=N", 2)
-            consts.append(word[len(DEFINE) :] or left.pop(0))
-            continue
-        option, value = own(word)
-        if not option:
-            program += [word] if word != PROGRESS else []
-            continue
-        if option in found:
-            raise Failure(f"{option} stands twice", 2)
-        if value is None and not left:
-            raise Failure(f"{option} lacks its {OWN[option]}", 2)
-        found[option] = left.pop(0) if value is None else value
+    for it in parts(words):
+        if it.option not in OWN:
+            program += [it] if it.option != PROGRESS else []
+        elif it.value is None:
+            raise Failure(f"{it.option} lacks its {OWN[it.option]}", 2)
+        elif it.option == DEFINE:
+            consts.append(it.value)
+        elif it.option in found:
+            raise Failure(f"{it.option} stands twice", 2)
+        else:
+            found[it.option] = it.value
     text = found.get(WITHIN)
     limit = None if text is None else seconds(text)
     if text is not None and limit is None:
         raise Failure(f"{WITHIN} takes a number of seconds above 0, and not '{shown(text)}'", 2)
-    outputs = found.get(OUTPUT), limit, tuple(consts), found.get(PAGE), found.get(REPORT)
-    return Words(program + left, *outputs)
+    return Words(tuple(program), found, limit, tuple(consts))

@@ -1,16 +1,14 @@
 """What Tab puts behind the words of a line: the next words of a form, names of the right kind."""
 import glob
-from typing import TYPE_CHECKING, Dict, Iterable, List, Sequence
+from typing import Dict, Iterable, List, Sequence
 
 from rdbg import commands, kinds
 from rdbg.goals import reading, sought
 from rdbg.shell import glossary, seek, views, words
-
-if TYPE_CHECKING:
-    from rdbg.shell.shell import Shell
+from rdbg.shell.shell import Shell
 
 
-def candidates(shell: "Shell", before: Sequence[str], begun: str) -> List[str]:
+def candidates(shell: Shell, before: Sequence[str], begun: str) -> List[str]:
     """The words that can come behind these and begin so."""
     if not before:
         found: Iterable[str] = [*commands.WORDS, *words.BY_NAME]
@@ -51,7 +49,7 @@ def condition(behind: Sequence[str]) -> List[str]:
     return commands.following(["watch", *behind])
 
 
-def of_symbol(shell: "Shell", symbol: str, begun: str) -> List[str]:
+def of_symbol(shell: Shell, symbol: str, begun: str) -> List[str]:
     """The words that a symbol stands for."""
     target = shell.target
     tasks, objects = target.names.tasks, [name for _, name in target.names.objects]
@@ -79,7 +77,7 @@ def of_symbol(shell: "Shell", symbol: str, begun: str) -> List[str]:
 class Completer:
     """What readline asks, again and again, for the next candidate."""
 
-    def __init__(self, shell: "Shell") -> None:
+    def __init__(self, shell: Shell) -> None:
         self.shell = shell
         self._found: List[str] = []
 

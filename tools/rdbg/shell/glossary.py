@@ -2,15 +2,13 @@
 what those of gdb are here. And `help`."""
 import re
 import textwrap
-from typing import TYPE_CHECKING, Dict, List, Sequence, Tuple
+from typing import Dict, List, Sequence, Tuple
 
 from rdbg import commands, instructions
 from rdbg.checking import freertos
 from rdbg.driving.target import Unable
+from rdbg.shell.shell import Shell
 from rdbg.shell.views import REGISTERS
-
-if TYPE_CHECKING:
-    from rdbg.shell.shell import Shell
 
 WIDTH = 96
 PHASES: Dict[str, str] = {
@@ -42,26 +40,28 @@ GOALS: Dict[str, str] = {
     "changes": "`changes QUEUE`, or another object: what it holds isn't what it was before the"
     " move",
 }
+# (of one that has a number, that is put in)
 REFUSALS: Dict[str, str] = {
     "NoTask": "the core is idle: `where` says who is on which",
-    "TickLimit": "the tick is 4294967295, and can't grow any more",
+    "TickLimit": "the tick is 4294967295, and can't grow any more; `back` takes ticks back",
     "TooFar": "TooFar N: there are only N moves to take back",
     "NothingUndone": "fewer moves were taken back than are to be made again",
     "MovesFull": "the moves done are at their limit, --moves",
-    "Held": "Held N: session N has the wheel; views and watches go on",
+    "Held": "session {number} has the wheel: views go on, moves once it gives it",
     "NoSuch": "there is no core, register, notification entry or name like this",
     "BadEdit": "the edit can't be made: the pc of a task that isn't in phase run, an item or a byte"
     " that isn't there, or a value too large for it",
-    "NoIsr": "the application's profile is 1, which has no interrupts; profile 2 has them",
-    "WatchesFull": "the session has 16 watches",
-    "NoWatch": "the session has no watch of this number",
-    "NotHolder": "the wheel isn't this session's, so it can't give it",
-    "HistoryFull": "no place of the history is free, --history: `help history`",
-    "NoMemory": "a growth was refused",
+    "NoIsr": 'the application has profile 1: with `"profile": 2` in its file it has interrupts',
+    "WatchesFull": "the session has 16 watches: `info watches`, `unwatch N`",
+    "NoWatch": "the session has no watch of this number: `info watches`",
+    "NotHolder": "the wheel isn't this session's, so it can't give it: `show wheel` says who has it",
+    "HistoryFull": "no place of the history is free, and every line and every look takes one:"
+    " `help history`",
+    "NoMemory": "a growth was refused: the machine has no more memory for it",
     "Syntax": "the line is no command: a word too many, one missing, or one of another form",
     "LineTooLong": "the line has over 1024 bytes; the session ends",
     "Broken": "the session's receipts aren't those of the history: a fault of rdbg",
-    "Full": "the server has as many sessions as it was started for",
+    "Full": "the server has as many sessions as it was started for, and lets nobody else in",
 }
 FAULTS: Dict[str, str] = {
     "L1 NotJson": "the text is no JSON",
@@ -120,7 +120,7 @@ def meaning(word: str) -> List[str]:
         found.append(f"goal {word}: {GOALS[word]}")
     refusal = next((name for name in REFUSALS if name.lower() == word.lower()), None)
     if refusal:
-        found.append(f"no {refusal}: {REFUSALS[refusal]}")
+        found.append(f"no {refusal}: {REFUSALS[refusal]}".format(number="N"))
     fault = next((it for it in FAULTS if word.lower() in it.lower().split()), None)
     if fault:
         found.append(f"refused as {fault}: {FAULTS[fault]}; `./rdbg check FILE` says where")
@@ -208,7 +208,7 @@ HISTORY = (
 )
 
 
-def help_on(shell: "Shell", words: Sequence[str]) -> None:
+def help_on(shell: Shell, words: Sequence[str]) -> None:
     """`help [WORD]`."""
     if not words:
         shell.say(overview())

@@ -1,21 +1,19 @@
 """What a refusal most likely wants to say to who typed the line, in a sentence or two: of a line
 that is no command what was meant by it, and where it is first wrong."""
 import re
-from typing import TYPE_CHECKING, Callable, Dict, List, Optional, Sequence, Tuple
+from typing import Callable, Dict, List, Optional, Sequence, Tuple
 
 from rdbg import commands, kinds, record
 from rdbg.goals import words as goal_words
 from rdbg.goals.meant import as_number, with_operator, with_subject
 from rdbg.goals.reading import NoGoal
 from rdbg.replies import Refused
-from rdbg.shell.glossary import GOALS, HINTS
+from rdbg.shell.glossary import GOALS, HINTS, REFUSALS
+from rdbg.shell.shell import Shell
 from rdbg.wording import nearest
 
-if TYPE_CHECKING:
-    from rdbg.shell.shell import Shell
 
-
-def no_such(shell: "Shell", line: str) -> str:
+def no_such(shell: Shell, line: str) -> str:
     """Which name, core, register or entry isn't there."""
     command = commands.read(line)
     if command is None:
@@ -25,7 +23,7 @@ def no_such(shell: "Shell", line: str) -> str:
     return "; ".join(filter(None, texts)) or "what it names isn't there"
 
 
-def missing(shell: "Shell", symbol: str, it: str, is_asked: bool) -> str:
+def missing(shell: Shell, symbol: str, it: str, is_asked: bool) -> str:
     """What is wrong with a word of a command, if anything; `is_asked` in a condition."""
     application = shell.target.application
     if symbol in kinds.OF_SYMBOL:
@@ -41,7 +39,7 @@ def missing(shell: "Shell", symbol: str, it: str, is_asked: bool) -> str:
     return ""
 
 
-def missing_name(shell: "Shell", kind: str, name: str, is_asked: bool) -> str:
+def missing_name(shell: Shell, kind: str, name: str, is_asked: bool) -> str:
     """Why there is nothing of this kind and name, and what there is."""
     names = shell.target.names
     of_kind = names.of_kind(kind)
@@ -62,7 +60,7 @@ def missing_name(shell: "Shell", kind: str, name: str, is_asked: bool) -> str:
     return f"there is no {kind} '{name}'; {there}"
 
 
-def no_task(shell: "Shell", line: str) -> str:
+def no_task(shell: Shell, line: str) -> str:
     """Who is where, when a core is idle."""
     if not shell.target.can_afford(len(shell.target.names.lines())):
         return "the core is idle: `show cores`"
@@ -74,7 +72,7 @@ def no_task(shell: "Shell", line: str) -> str:
     return f"the core is idle: {there}" + ("" if running else "; `tick` lets time pass")
 
 
-def nothing_undone(shell: "Shell", line: str) -> str:
+def nothing_undone(shell: Shell, line: str) -> str:
     """How many moves can be made again."""
     if not shell.target.is_own:
         return "fewer moves were taken back: `show moves`"
@@ -83,7 +81,7 @@ def nothing_undone(shell: "Shell", line: str) -> str:
     return f"{count} taken back that could be made again; a new move forgets them"
 
 
-def moves_full(shell: "Shell", line: str) -> str:
+def moves_full(shell: Shell, line: str) -> str:
     """How many moves are left."""
     limits = shell.target.limits
     if limits is None:
@@ -94,7 +92,7 @@ def moves_full(shell: "Shell", line: str) -> str:
     return f"{fits} (--moves {limits.moves}){more}"
 
 
-def too_far(shell: "Shell", kept: int) -> str:
+def too_far(shell: Shell, kept: int) -> str:
     """How far `back` goes, where so many moves are kept."""
     base = max(0, shell.target.place - kept)
     if not kept:
@@ -111,29 +109,29 @@ BAD_EDITS = {
 }
 Words = List[str]
 # A repair of words: what they should be, and why; the same, or none, where there is none.
-Repair = Callable[["Shell", Words], Optional[Tuple[Words, str]]]
+Repair = Callable[[Shell, Words], Optional[Tuple[Words, str]]]
 COUNTS = {"forward": "100", record.BACK: "1", record.REDO: "1"}
 
 
-def small_letters(shell: "Shell", words: Words) -> Optional[Tuple[Words, str]]:
+def small_letters(shell: Shell, words: Words) -> Optional[Tuple[Words, str]]:
     """Words and names have small letters."""
     small = [word if commands.is_bytes(word) else word.lower() for word in words]
     return small, "words and names have small letters"
 
 
-def marks(shell: "Shell", words: Words) -> Optional[Tuple[Words, str]]:
+def marks(shell: Shell, words: Words) -> Optional[Tuple[Words, str]]:
     """What stands round words in other languages."""
     bare = [re.sub(r"^[\"'`(]+|[\"'`);,]+$", "", word) for word in words]
     return [word for word in bare if word], "there are no quotes, brackets and commas"
 
 
-def spaces(shell: "Shell", words: Words) -> Optional[Tuple[Words, str]]:
+def spaces(shell: Shell, words: Words) -> Optional[Tuple[Words, str]]:
     """An operator stands between spaces."""
     apart = re.sub(r"([<>=!]=?|==)", r" \1 ", " ".join(words))
     return apart.split(), "spaces stand round an operator"
 
 
-def operators(shell: "Shell", words: Words) -> Optional[Tuple[Words, str]]:
+def operators(shell: Shell, words: Words) -> Optional[Tuple[Words, str]]:
     """There are three operators alone."""
     for at, word in enumerate(words):
         found = with_operator(words, at)
@@ -149,7 +147,7 @@ NUMBERS = dict.fromkeys(("0x", "0b"), "numbers are decimal")
 NUMBERS.update(dict.fromkeys(("ma", "po"), "max is of scripts; here it is a number"))
 
 
-def numbers(shell: "Shell", words: Words) -> Optional[Tuple[Words, str]]:
+def numbers(shell: Shell, words: Words) -> Optional[Tuple[Words, str]]:
     """Numbers are decimal, registers and cores have numbers."""
     found, reason = list(words), ""
     for at, word in enumerate(words):
@@ -165,7 +163,7 @@ def numbers(shell: "Shell", words: Words) -> Optional[Tuple[Words, str]]:
     return found, reason
 
 
-def kind(shell: "Shell", words: Words) -> Optional[Tuple[Words, str]]:
+def kind(shell: Shell, words: Words) -> Optional[Tuple[Words, str]]:
     """`show` takes a kind and a name."""
     if words[0] != "show" or len(words) < 2:
         return None
@@ -176,7 +174,7 @@ def kind(shell: "Shell", words: Words) -> Optional[Tuple[Words, str]]:
     return (["show", there[0], word], "`show` takes a kind and a name") if there else None
 
 
-def count(shell: "Shell", words: Words) -> Optional[Tuple[Words, str]]:
+def count(shell: Shell, words: Words) -> Optional[Tuple[Words, str]]:
     """A run and a way back have a COUNT."""
     if words[0] not in COUNTS:
         return None
@@ -184,20 +182,19 @@ def count(shell: "Shell", words: Words) -> Optional[Tuple[Words, str]]:
     return (longer, "its COUNT is missing") if commands.read(" ".join(longer)) else None
 
 
-def amounts(shell: "Shell", words: Words) -> Optional[Tuple[Words, str]]:
+def amounts(shell: Shell, words: Words) -> Optional[Tuple[Words, str]]:
     """A condition begins with what is looked at."""
-    at = 2 if words[:2] == ["back", "until"] else 1
-    found = with_subject(words, at, shell.target.names) if words[at:] else None
+    found = with_subject(words, 1, shell.target.names) if words[1:] else None
     return (found, "a condition begins with what is looked at") if found else None
 
 
-def equals(shell: "Shell", words: Words) -> Optional[Tuple[Words, str]]:
+def equals(shell: Shell, words: Words) -> Optional[Tuple[Words, str]]:
     """A phase is named without an operator."""
     plain = [word for word in words if word != "=" or "phase" not in words]
     return plain, "a phase is named without ="
 
 
-def word(shell: "Shell", words: Words) -> Optional[Tuple[Words, str]]:
+def word(shell: Shell, words: Words) -> Optional[Tuple[Words, str]]:
     """The first word is one of rdbg's."""
     if words[0] in commands.WORDS:
         return None
@@ -210,7 +207,7 @@ REPAIRS: Tuple[Repair, ...] = (
 )  # fmt: skip
 
 
-def syntax(shell: "Shell", line: str) -> str:
+def syntax(shell: Shell, line: str) -> str:
     """Why a line is no command, and what may have been meant."""
     words = line.split()
     if not words:
@@ -232,7 +229,7 @@ def joined(words: Sequence[str]) -> str:
     return f"a watch is one condition, without `{found}`: `until! GOAL` and `rc! GOAL` take goals"
 
 
-def of_goal(shell: "Shell", words: Sequence[str]) -> str:
+def of_goal(shell: Shell, words: Sequence[str]) -> str:
     """Why the words behind `until` and `back until` are no goal; empty where none stand there."""
     behind = words[2:] if words[:2] == ["back", "until"] else words[1:]
     if behind and (words[0] == "until" or len(behind) < len(words) - 1):
@@ -255,7 +252,7 @@ SHOWN = {
 }
 
 
-def mended(shell: "Shell", line: str) -> str:
+def mended(shell: Shell, line: str) -> str:
     """A line that may have been meant, and why; empty where none is found."""
     words = line.split()
     reasons = ["words are separated by spaces, not by tabs"] if "\t" in line else []
@@ -273,7 +270,7 @@ def mended(shell: "Shell", line: str) -> str:
     return ""
 
 
-def at_fault(shell: "Shell", words: Sequence[str]) -> str:
+def at_fault(shell: Shell, words: Sequence[str]) -> str:
     """What can stand where a line is first wrong."""
     from rdbg.shell.words import BY_NAME
 
@@ -312,8 +309,9 @@ def describe(symbol: str) -> str:
     return known.noun if is_plain else f"{known.noun} ({known.choices})"
 
 
-Hint = Callable[["Shell", str], str]
-REFUSALS: Dict[str, Hint] = {
+Hint = Callable[[Shell, str], str]
+# Refusals of which the line says what is to be told.
+OF_LINES: Dict[str, Hint] = {
     "Syntax": syntax,
     "NoSuch": no_such,
     "NoTask": no_task,
@@ -321,25 +319,12 @@ REFUSALS: Dict[str, Hint] = {
     "NothingUndone": nothing_undone,
     "BadEdit": lambda shell, line: BAD_EDITS.get("".join(commands.words_of(line)[1:2]), ""),
 }
-SENTENCES: Dict[str, str] = {
-    "TickLimit": "the tick can't grow any more; `back` takes ticks back",
-    "NoIsr": 'the application has profile 1: with `"profile": 2` in its file it has interrupts',
-    "Held": "session {number} has the wheel: views go on, moves once it gives it",
-    "WatchesFull": "there are 16 watches: `info watches`, `unwatch N`",
-    "NoWatch": "there is no such watch: `info watches`",
-    "NotHolder": "you don't have the wheel: `show wheel` says who does",
-    "HistoryFull": "every line and every look takes a place: see `help history`",
-    "NoMemory": "the machine has no more memory for it",
-    "LineTooLong": "rdbg ends a session at a line of over 1024 bytes",
-    "Full": "the server lets nobody else in",
-    "Broken": "this is a fault of rdbg",
-}
 
 
-def refusal(shell: "Shell", line: str, refused: Refused) -> str:
+def refusal(shell: Shell, line: str, refused: Refused) -> str:
     """A hint on a refusal of a line."""
     if refused.name == "TooFar":
         return too_far(shell, refused.number or 0)
-    if refused.name in REFUSALS:
-        return REFUSALS[refused.name](shell, line)
-    return SENTENCES.get(refused.name, "").format(number=refused.number)
+    if refused.name in OF_LINES:
+        return OF_LINES[refused.name](shell, line)
+    return REFUSALS.get(refused.name, "").format(number=refused.number)

@@ -1,5 +1,5 @@
 """`pace`, `go` and `interrupts`: runs in which cores make enough moves between two ticks."""
-from typing import TYPE_CHECKING, Dict, List, Optional, Sequence
+from typing import Dict, List, Optional, Sequence
 
 from rdbg import commands
 from rdbg.application import NO_INTERRUPT, Interrupt
@@ -7,15 +7,13 @@ from rdbg.driving.interrupt import Interrupted
 from rdbg.driving.pacing import IS, NONE, TickPace, pace
 from rdbg.driving.target import Unable
 from rdbg.goals.paced import PacedWalk
+from rdbg.shell.shell import Shell
 from rdbg.wording import nearest
-
-if TYPE_CHECKING:
-    from rdbg.shell.shell import Shell
 
 TICKS = ("tick", "ticks")
 
 
-def put(shell: "Shell", words: Sequence[str]) -> None:
+def put(shell: Shell, words: Sequence[str]) -> None:
     """`pace M..N`, `pace none`, or which one it is."""
     if len(words) > 1:
         raise Unable(f"`pace 5..20`, or `pace none`: {IS}")
@@ -27,7 +25,7 @@ def put(shell: "Shell", words: Sequence[str]) -> None:
     shell.say(said(shell))
 
 
-def said(shell: "Shell") -> str:
+def said(shell: Shell) -> str:
     """Which pace there is, and which interrupts come by themselves."""
     if shell.pace is None:
         return "no pace: runs are the program's own, one instruction of each busy core a tick"
@@ -37,7 +35,7 @@ def said(shell: "Shell") -> str:
     return f"{text}{most} between two ticks, in go, until! and continue{coming}"
 
 
-def take(shell: "Shell", found: Optional[TickPace], coming: Optional[Sequence[Interrupt]]) -> None:
+def take(shell: Shell, found: Optional[TickPace], coming: Optional[Sequence[Interrupt]]) -> None:
     """Goes on at a pace, or at none, with these interrupts, where it was said which."""
     if isinstance(shell.walk, PacedWalk):
         shell.walk.end()
@@ -45,7 +43,7 @@ def take(shell: "Shell", found: Optional[TickPace], coming: Optional[Sequence[In
     shell.walk = shell.walking(shell.target)
 
 
-def interrupts(shell: "Shell", words: Sequence[str]) -> None:
+def interrupts(shell: Shell, words: Sequence[str]) -> None:
     """`interrupts NAME ..`, `interrupts none`: which come by themselves in runs and searches."""
     application = shell.target.application
     there = {it.name: it for it in application.interrupts} if application else {}
@@ -54,7 +52,7 @@ def interrupts(shell: "Shell", words: Sequence[str]) -> None:
     shell.say(said(shell))
 
 
-def let_come(shell: "Shell", found: Optional[TickPace], coming: Sequence[Interrupt]) -> None:
+def let_come(shell: Shell, found: Optional[TickPace], coming: Sequence[Interrupt]) -> None:
     """Goes on with these interrupts that come by themselves, at a pace where there are any."""
     take(shell, found or (TickPace(1) if coming else None), coming)
 
@@ -74,7 +72,7 @@ def chosen(words: Sequence[str], there: Dict[str, Interrupt]) -> List[Interrupt]
     return [it for it in there.values() if it.name in words]
 
 
-def go(shell: "Shell", words: Sequence[str]) -> None:
+def go(shell: Shell, words: Sequence[str]) -> None:
     """`go COUNT`: so many moves at the pace; `go COUNT ticks`: up to so many ticks."""
     is_ticks = len(words) == 2 and words[1] in TICKS
     if not words or not commands.is_count(words[0]) or len(words) > 1 + is_ticks:
@@ -90,12 +88,11 @@ def go(shell: "Shell", words: Sequence[str]) -> None:
         before = shell.look() if shell.shows_moves else None
         walk.wall = ""
         try:
-            made = walk.ticks(count) if is_ticks else walk.forward(count)
+            walk.ticks(count) if is_ticks else walk.forward(count)
         except Interrupted:
             shell.stopped(f"at {shell.target.place}")
-            made = 0
         if walk.wall:
             shell.answer(f"no {walk.wall}")
         shell.answer(f"ok at {shell.target.place}")
-        if made or shell.target.place != start:
+        if shell.target.place != start:
             shell.after(start, before)

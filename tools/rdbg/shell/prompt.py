@@ -7,16 +7,15 @@ import pathlib
 import select
 import sys
 from types import ModuleType
-from typing import TYPE_CHECKING, Optional
+from typing import Optional
 
 from rdbg import links, own_file
 from rdbg.client import Incoming
 from rdbg.driving.interrupt import Woken
 from rdbg.failure import Failure
 from rdbg.shell import sourcing
-
-if TYPE_CHECKING:
-    from rdbg.shell.shell import Shell
+from rdbg.shell.completion import Completer
+from rdbg.shell.shell import Shell
 
 MOST_LINES = 2_000
 # Wipes the line of a terminal.
@@ -44,9 +43,7 @@ def history_file() -> Optional[pathlib.Path]:
 class Lines:
     """Lines from a terminal. A history that can't be read or written is none."""
 
-    def __init__(self, shell: "Shell") -> None:
-        from rdbg.shell.completion import Completer
-
+    def __init__(self, shell: Shell) -> None:
         self.shell = shell
         # (which not each Python has)
         self.readline: Optional[ModuleType] = None
@@ -120,7 +117,7 @@ class Lines:
             return typed[0]
 
 
-def greet(shell: "Shell") -> None:
+def greet(shell: Shell) -> None:
     """Says what there is, and how to go on."""
     what = shell.source.path if shell.source else "the built-in application"
     if not shell.target.is_own:
@@ -133,7 +130,7 @@ def greet(shell: "Shell") -> None:
     shell.line("where", is_typed=False)
 
 
-def talk(shell: "Shell", begins: bool) -> None:
+def talk(shell: Shell, begins: bool) -> None:
     """Does what is typed, until it ends; first, if it `begins` so, the lines of files for that."""
     shell.is_terminal = shell.shows_moves = True
     shell.interrupt.install()
@@ -158,7 +155,7 @@ def talk(shell: "Shell", begins: bool) -> None:
             last = ""
 
 
-def filter_lines(shell: "Shell", begins: bool) -> None:
+def filter_lines(shell: Shell, begins: bool) -> None:
     """Does each line of standard input; a room is heard between them. It begins as `talk` does."""
     if begins:
         sourcing.begin(shell)
@@ -174,7 +171,7 @@ def filter_lines(shell: "Shell", begins: bool) -> None:
         shell.line(line.decode("utf-8", "replace"))
 
 
-def next_line(shell: "Shell", lines: Incoming) -> bytes:
+def next_line(shell: Shell, lines: Incoming) -> bytes:
     """The next line; while none is there the room is heard. Raises `Failure` where it has ended."""
     room = shell.target.session.waited_for()
     while not lines.has_line():

@@ -1,10 +1,9 @@
 """`reach`, `lost`, `doomed` and `again`: what can still come from here, and at which move it was
 lost, asked of the program that searches."""
-from typing import TYPE_CHECKING, Callable, List, NamedTuple, Sequence, Tuple
+from typing import Callable, List, Sequence, Tuple
 
 from rdbg.driving import trail
 from rdbg.driving.target import Unable
-
 from rdbg.failure import Failure, turned
 from rdbg.goals import words as goal_words
 from rdbg.reaching import beside, losing
@@ -13,31 +12,13 @@ from rdbg.reaching.behind import ask_behind
 from rdbg.reaching.handlers import WORD
 from rdbg.reaching.said import Answer, Kind
 from rdbg.shell import replay
-
-if TYPE_CHECKING:
-    from rdbg.shell.shell import Shell
+from rdbg.shell.shell import Order, Reached, Shell
 
 
-class Reached(NamedTuple):
-    """What was asked: of a goal, as it was typed, at a place; and what was answered."""
-
-    question: Question
-    goal: str
-    place: int
-    said: str
-
-
-class Order(NamedTuple):
-    """The lines of an order that was answered, and the place where it begins."""
-
-    place: int
-    lines: Sequence[str]
-
-
-def asks(question: Question) -> Callable[["Shell", Sequence[str]], None]:
+def asks(question: Question) -> Callable[[Shell, Sequence[str]], None]:
     """What asks one of the program's questions about a goal, from here."""
 
-    def ask(shell: "Shell", words: Sequence[str]) -> None:
+    def ask(shell: Shell, words: Sequence[str]) -> None:
         goal = " ".join(words) or shell.goal
         if not goal:
             raise Unable(f"{question.lacks_goal('worker')}; help {question.word} says more")
@@ -53,7 +34,7 @@ def asks(question: Question) -> Callable[["Shell", Sequence[str]], None]:
     return ask
 
 
-def again(shell: "Shell", words: Sequence[str]) -> None:
+def again(shell: Shell, words: Sequence[str]) -> None:
     """`again`: the file is read anew, and asked for the same goal."""
     before = shell.reached
     what = "what `reach`, `lost` or `doomed`"
@@ -70,7 +51,7 @@ def again(shell: "Shell", words: Sequence[str]) -> None:
 
 
 def asked(
-    shell: "Shell", question: Question, goal: str, lines: List[str]
+    shell: Shell, question: Question, goal: str, lines: List[str]
 ) -> Tuple[Answer, List[str]]:
     """What is answered behind these lines, at the pace of the prompt, with what there is to say of
     it. The interrupts that come by themselves here may come, or all where it wasn't said which."""
@@ -90,7 +71,7 @@ def asked(
     return answer, more
 
 
-def say(shell: "Shell", question: Question, answer: Answer, more: List[str], place: int) -> None:
+def say(shell: Shell, question: Question, answer: Answer, more: List[str], place: int) -> None:
     """Says an answer, and the order in it, which begins at a place; of a goal that was lost, by
     which move, and the order begins before that. `more` is said behind it."""
     shell.say(answer.head())
@@ -116,7 +97,7 @@ def say(shell: "Shell", question: Question, answer: Answer, more: List[str], pla
         shell.say(f"  {line}")
 
 
-def play(shell: "Shell", words: Sequence[str]) -> None:
+def play(shell: Shell, words: Sequence[str]) -> None:
     """`play`: makes the moves of the order that was answered."""
     order = shell.order
     which = "that `reach`, `lost` or `doomed` answered"

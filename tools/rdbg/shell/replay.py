@@ -3,7 +3,7 @@ import contextlib
 import os
 import re
 import stat
-from typing import TYPE_CHECKING, List, Sequence, Set, Tuple
+from typing import List, Sequence, Tuple
 
 from rdbg import commands, own_file, record, replies
 from rdbg.driving import trail
@@ -16,55 +16,11 @@ from rdbg.files.source import Source, load
 from rdbg.looks import Names
 from rdbg.replies import Refused
 from rdbg.shell.notices import MOST_MOVES
+from rdbg.shell.shell import Shell
 from rdbg.wording import counted
 
-if TYPE_CHECKING:
-    from rdbg.shell.shell import Shell
-
-# How the name of a file ends that is written over.
-ENDING = ".commands"
-
-
-class Saved:
-    """The files that a prompt has saved, which it may save anew."""
-
-    def __init__(self) -> None:
-        self._own: Set[Tuple[int, int]] = set()
-
-    def check(self, path: str, is_anew: bool) -> None:
-        """Raises `Unable` where a file is there that stays; `is_anew`: it may be written over."""
-        if os.path.exists(path):
-            self._check(path, os.stat(path), is_anew)
-
-    def _check(self, path: str, there: os.stat_result, is_anew: bool) -> None:
-        if not path.endswith(ENDING):
-            raise Unable(f"{path} is there, and doesn't end in {ENDING}: it stays as it is")
-        if not is_anew and (there.st_dev, there.st_ino) not in self._own:
-            why = f"{path} is there, and wasn't saved by this prompt: it stays as it is"
-            raise Unable(f"{why}; `save! {path}` writes it anew")
-
-    def write(self, path: str, text: str, is_anew: bool) -> None:
-        """Writes a file. Raises `Unable` where it can't, or may not, be written."""
-        try:
-            with turned(Unable, Failure), trying(f"write {path}"):
-                is_made, number = self._opened(path)
-                with os.fdopen(number, "w", encoding="ascii") as file:
-                    there = os.fstat(number)
-                    if not is_made:
-                        self._check(path, there, is_anew)
-                    self._own.add((there.st_dev, there.st_ino))
-                    if stat.S_ISREG(there.st_mode):
-                        file.truncate()
-                    file.write(text)
-        except ValueError:
-            raise Unable(f"cannot write {path!r}: no file has such a name") from None
-
-    @staticmethod
-    def _opened(path: str) -> Tuple[bool, int]:
-        """Whether a file is made, and its number, by which it is written."""
-        with contextlib.suppress(FileExistsError):
-            return True, own_file.opened(path, os.O_WRONLY | os.O_CREAT | os.O_EXCL)
-        return False, own_file.opened(path, os.O_WRONLY)
+# How the name of a file ends that is written over; and how one is opened that isn't there.
+ENDING, NEW = ".commands", os.O_WRONLY | os.O_CREAT | os.O_EXCL
 
 
 DEFAULT_MOVES = 20
@@ -75,7 +31,36 @@ VALUE = re.compile("[0-9]+|r[0-7]|max")
 BYTES = "data"
 
 
-def moves(shell: "Shell", words: Sequence[str]) -> None:
+def check_there(shell: Shell, path: str, there: os.stat_result, is_anew: bool) -> None:
+    """Raises `Unable` where a file that is there stays; `is_anew`: it may be written over."""
+    if not path.endswith(ENDING):
+        raise Unable(f"{path} is there, and doesn't end in {ENDING}: it stays as it is")
+    if not is_anew and (there.st_dev, there.st_ino) not in shell.saved:
+        why = f"{path} is there, and wasn't saved by this prompt: it stays as it is"
+        raise Unable(f"{why}; `save! {path}` writes it anew")
+
+
+def write(shell: Shell, path: str, text: str, is_anew: bool) -> None:
+    """Writes a file. Raises `Unable` where it can't, or may not, be written."""
+    try:
+        with turned(Unable, Failure), trying(f"write {path}"):
+            try:
+                is_made, number = True, own_file.opened(path, NEW)
+            except FileExistsError:
+                is_made, number = False, own_file.opened(path, os.O_WRONLY)
+            with os.fdopen(number, "w", encoding="ascii") as file:
+                there = os.fstat(number)
+                if not is_made:
+                    check_there(shell, path, there, is_anew)
+                shell.saved.add((there.st_dev, there.st_ino))
+                if stat.S_ISREG(there.st_mode):
+                    file.truncate()
+                file.write(text)
+    except ValueError:
+        raise Unable(f"cannot write {path!r}: no file has such a name") from None
+
+
+def moves(shell: Shell, words: Sequence[str]) -> None:
     """`moves [COUNT]`: the last moves, each with what it did."""
     is_all = words == ["all"]
     if not is_all and (words[1:] or not all(map(commands.is_count, words))):
@@ -100,7 +85,7 @@ def moves(shell: "Shell", words: Sequence[str]) -> None:
     shell.say(record.at(done, shell.target.places().undone))
 
 
-def lines_of(shell: "Shell") -> List[str]:
+def lines_of(shell: Shell) -> List[str]:
     """The lines that make the moves that are done. Raises `Unable` where one can't be told."""
     done = shell.target.places().done
     if not done:
@@ -115,18 +100,19 @@ def lines_of(shell: "Shell") -> List[str]:
     return [move.line for move in found]
 
 
-def save(shell: "Shell", words: Sequence[str], is_anew: bool = False) -> None:
+def save(shell: Shell, words: Sequence[str], is_anew: bool = False) -> None:
     """`save FILE`: the moves as lines that rdbg replays; `save! FILE`, onto one that is there."""
     if shell.is_starting:
         raise Unable("a file that a prompt begins with saves nothing")
     if len(words) != 1:
         raise Unable("save to which file? `save found.commands`")
     file = words[0]
-    shell.saved.check(file, is_anew)
+    if os.path.exists(file):
+        check_there(shell, file, os.stat(file), is_anew)
     with shell.wheel():
         lines = lines_of(shell)
         look = shell.target.look()
-    shell.saved.write(file, "".join(f"{line}\n" for line in lines), is_anew)
+    write(shell, file, "".join(f"{line}\n" for line in lines), is_anew)
     shell.say(f"{len(lines)} moves are in {file}")
     if shell.target.application is None:
         shell.say("the application's file isn't known here, so they weren't tried")
@@ -144,7 +130,7 @@ def save(shell: "Shell", words: Sequence[str], is_anew: bool = False) -> None:
         shell.say("the program replays them from boot to this place and state")
 
 
-def in_chunks(shell: "Shell", target: Target, lines: Sequence[str], done: str) -> List[str]:
+def in_chunks(shell: Shell, target: Target, lines: Sequence[str], done: str) -> List[str]:
     """The replies to many lines; at a terminal it is said how far it is."""
     answers: List[str] = []
     for at in range(0, len(lines), CHUNK):
@@ -154,7 +140,7 @@ def in_chunks(shell: "Shell", target: Target, lines: Sequence[str], done: str) -
     return answers
 
 
-def reload(shell: "Shell", words: Sequence[str]) -> None:
+def reload(shell: Shell, words: Sequence[str]) -> None:
     """`reload`: the same moves on the file as it is now, up to the first difference."""
     if shell.notices.is_room:
         shell.target.session.remark("# reload")
@@ -173,7 +159,7 @@ def reload(shell: "Shell", words: Sequence[str]) -> None:
         shell.stopped(f"at {shell.target.place}: {before}")
 
 
-def replayed(shell: "Shell", source: Source, limits: Limits) -> None:
+def replayed(shell: Shell, source: Source, limits: Limits) -> None:
     """Makes the same moves on a source, and goes on with it."""
     done = shell.target.places().done
     if shell.target.base:
@@ -207,7 +193,7 @@ def staying() -> "contextlib.AbstractContextManager[None]":
 
 
 def count_same(
-    shell: "Shell", source: Source, limits: Limits, old: Sequence[Move], names: Names
+    shell: Shell, source: Source, limits: Limits, old: Sequence[Move], names: Names
 ) -> int:
     """How many of these moves are the same on a source, from the first on: in a program of their
     own, so that the looks fill no history that is used later."""
@@ -228,7 +214,7 @@ def count_same(
     return same
 
 
-def first_difference(shell: "Shell", target: Target, move: Move) -> Tuple[str, str]:
+def first_difference(shell: Shell, target: Target, move: Move) -> Tuple[str, str]:
     """What a move was, and is on a target that is at it. Stays before it; `redo 1` makes it then."""
     was = trail.moves(shell.walk, move.place, move.place)[0][0]
     before, place = target.look(), target.place
@@ -255,7 +241,7 @@ def outcome(move: Move) -> Tuple[object, ...]:
     return (move.kind, move.core, move.task, tuple(names), move.answer, tuple(effects))
 
 
-def watches(shell: "Shell", target: Target) -> None:
+def watches(shell: Shell, target: Target) -> None:
     """Makes the same watches, under the same numbers, where their names are still there."""
     old = dict(shell.target.watches)
     numbers = range(max(old, default=-1) + 1)

@@ -1,7 +1,7 @@
 """Words that go to a goal: `until`, `until!`, `rc`, `rc!` and `continue`."""
 import contextlib
 import textwrap
-from typing import TYPE_CHECKING, Iterator, Optional, Sequence, Tuple
+from typing import Iterator, Optional, Sequence, Tuple
 
 from rdbg import commands, record
 from rdbg.driving.interrupt import Interrupted
@@ -12,13 +12,11 @@ from rdbg.goals.claims import Goal, Holds, SomeFailed, Stuck
 from rdbg.goals.reading import NoGoal
 from rdbg.goals.scope import Scope
 from rdbg.goals.ways import AnyOf, To, Wakes, Way, is_so, is_stuck
-from rdbg.instructions import form_of
+from rdbg.reaching.beside import never_rests
 from rdbg.replies import Refused
-from rdbg.shell.views import check_instruction, phase_text, script_of
+from rdbg.shell.shell import Shell
+from rdbg.shell.views import check_instruction, phase_text
 from rdbg.wording import counted
-
-if TYPE_CHECKING:
-    from rdbg.shell.shell import Shell
 
 DEFAULT_COUNT = 10_000
 WIDTH = 96
@@ -36,7 +34,7 @@ def is_goal(words: Sequence[str], scope: Scope) -> bool:
     return False
 
 
-def goal_of(shell: "Shell", words: Sequence[str], becoming: bool) -> Tuple[Way, Optional[int]]:
+def goal_of(shell: Shell, words: Sequence[str], becoming: bool) -> Tuple[Way, Optional[int]]:
     """The way to the goal that these words are, and its COUNT. Raises `Unable`, and `Refused`."""
     with turned(Unable, NoGoal):
         way, count = sought.way(words, shell.target, shell.scope(), becoming)
@@ -45,13 +43,13 @@ def goal_of(shell: "Shell", words: Sequence[str], becoming: bool) -> Tuple[Way, 
     return way, count
 
 
-def keep_goal(shell: "Shell", way: Way) -> None:
+def keep_goal(shell: Shell, way: Way) -> None:
     """Takes note of a goal of places, so that a question without one is of it."""
     if isinstance(way, To) and not isinstance(way, Wakes):
         shell.goal = way.text
 
 
-def check_goal(shell: "Shell", goal: Goal) -> None:
+def check_goal(shell: Shell, goal: Goal) -> None:
     """Raises `Refused` where a name of a goal isn't there, `Unable` where an instruction isn't."""
     for claim in goal.claims():
         condition = claim.condition if isinstance(claim, Holds) else None
@@ -63,14 +61,14 @@ def check_goal(shell: "Shell", goal: Goal) -> None:
         check_instructions(shell, condition)
 
 
-def check_instructions(shell: "Shell", condition: Optional[conditions.Condition]) -> None:
+def check_instructions(shell: Shell, condition: Optional[conditions.Condition]) -> None:
     """Raises `Unable` where a condition is of an instruction that its task doesn't have."""
     if condition is not None and condition.kind == "pc" and condition.operator != "<":
         least = condition.number + (condition.operator == ">")
         check_instruction(shell, condition.name, least)
 
 
-def run_to(shell: "Shell", words: Sequence[str], becoming: bool = True) -> None:
+def run_to(shell: Shell, words: Sequence[str], becoming: bool = True) -> None:
     """Runs to a goal; `until!`."""
     if not words:
         raise Unable("until what? `until! COND [COUNT]`, `until asleep`; help until! says more")
@@ -79,7 +77,7 @@ def run_to(shell: "Shell", words: Sequence[str], becoming: bool = True) -> None:
     forwards(shell, goal, count or DEFAULT_COUNT)
 
 
-def forwards(shell: "Shell", goal: Way, count: int) -> None:
+def forwards(shell: Shell, goal: Way, count: int) -> None:
     """Goes to the first place where a goal is met, or makes so many moves."""
     walk, lines = shell.walk, shell.target.lines
     with from_here(shell) as start:
@@ -110,7 +108,7 @@ def forwards(shell: "Shell", goal: Way, count: int) -> None:
             shell.say(f"`goto {start}` goes back to where this began")
 
 
-def backwards(shell: "Shell", goal: Way) -> None:
+def backwards(shell: Shell, goal: Way) -> None:
     """Goes back to the last earlier place where a goal is met, or stays."""
     walk, lines = shell.walk, shell.target.lines
     with from_here(shell) as start:
@@ -131,7 +129,7 @@ def backwards(shell: "Shell", goal: Way) -> None:
             drop_met(shell, goal)
 
 
-def drop_met(shell: "Shell", goal: Way) -> None:
+def drop_met(shell: Shell, goal: Way) -> None:
     """Drops the watches that were to be met once, and are, behind a run to any of them."""
     if isinstance(goal, AnyOf):
         there = shell.target.watches.items()
@@ -140,7 +138,7 @@ def drop_met(shell: "Shell", goal: Way) -> None:
         shell.drop_temporary(number for number, it in watches.items() if became(shell, it))
 
 
-def became(shell: "Shell", goal: Way) -> bool:
+def became(shell: Shell, goal: Way) -> bool:
     """Whether the last move made so what a goal asks for."""
     place = shell.walk.place
     if not place or not goal.is_so(shell.target):
@@ -151,7 +149,7 @@ def became(shell: "Shell", goal: Way) -> bool:
     return was is False
 
 
-def gave_up(shell: "Shell", ended: Exception, start: int) -> None:
+def gave_up(shell: Shell, ended: Exception, start: int) -> None:
     """Goes back to where a search began, and says so."""
     shell.walk.goto(start)
     if isinstance(ended, Interrupted):
@@ -160,7 +158,7 @@ def gave_up(shell: "Shell", ended: Exception, start: int) -> None:
         shell.say(f"{ended}; back at {start}")
 
 
-def said(shell: "Shell", goal: Way, how: str, start: int, lines: int) -> None:
+def said(shell: Shell, goal: Way, how: str, start: int, lines: int) -> None:
     """Says where a goal was met, or that it wasn't, and how many lines that took."""
     by = f"({counted(shell.target.lines - lines, 'line')} asked)"
     here = shell.target.place
@@ -178,7 +176,7 @@ def said(shell: "Shell", goal: Way, how: str, start: int, lines: int) -> None:
         shell.say(f"at {here} limit: {none} in {moves}{wall} {by}")
 
 
-def ending(shell: "Shell") -> str:
+def ending(shell: Shell) -> str:
     """`finished`, `asleep`, or else `stuck`, where only ticks are left; empty elsewhere."""
     if not is_stuck(shell.target):
         return ""
@@ -186,7 +184,7 @@ def ending(shell: "Shell") -> str:
     return next(it.text for it in reading.ALONE.values() if it.is_so(look))
 
 
-def tell_why(shell: "Shell", goal: Way) -> None:
+def tell_why(shell: Shell, goal: Way) -> None:
     """Says where each task is, where something is met that is said of all of them."""
     met = goal.met if isinstance(goal, AnyOf) else goal
     if isinstance(met, To) and any(isinstance(it, claims.OfAll) for it in met.goal.claims()):
@@ -194,33 +192,30 @@ def tell_why(shell: "Shell", goal: Way) -> None:
         shell.say("\n".join(textwrap.wrap(text, WIDTH)))
 
 
-def tell_who_goes_on(shell: "Shell", goal: str) -> None:
+def tell_who_goes_on(shell: Shell, goal: str) -> None:
     """Says of a target that isn't `asleep`, or `stuck`, who keeps it so."""
     found = []
     for name, it in shell.look().tasks.items():
-        why = ", and no instruction of its script ever waits" if never_waits(shell, name) else ""
+        why = ", and never waits without a deadline" if goes_on(shell, name) else ""
         if it.core is not None:
             found.append(f"{name} is busy on core {it.core}{why}")
         elif it.phase.deadline is not None:
             found.append(f"{name} {phase_text(it)}")
     shell.say("\n".join(textwrap.wrap(f"not {goal}: {'; '.join(found)}", WIDTH)))
-    if any(never_waits(shell, name) for name in shell.target.names.tasks):
+    if any(goes_on(shell, name) for name in shell.target.names.tasks):
         onwards = "`until sleeps TASK` runs to where one task waits for ever"
         shell.say(f"so `{goal}` can't come; {onwards}")
 
 
-def never_waits(shell: "Shell", name: str) -> bool:
-    """Whether no instruction of a task's script can wait, or end it: so it is busy for ever."""
-    script = [it.words() for it in script_of(shell, name)]
-    forms = [(form_of(words[0]), words) for words in script]
-    return bool(script) and not any(
-        form is None or words[0] == "end" or (form.symbols[-1:] == ("T",) and words[-1] != "0")
-        for form, words in forms
-    )
+def goes_on(shell: Shell, name: str) -> bool:
+    """Whether a task goes on for ever, as far as its script is known."""
+    application = shell.target.application
+    task = application.task(name) if application else None
+    return task is not None and never_rests(task)
 
 
 @contextlib.contextmanager
-def from_here(shell: "Shell") -> Iterator[int]:
+def from_here(shell: Shell) -> Iterator[int]:
     """As long as nobody else may move the target: the place where it is, and all tasks are known,
     of which each is on a core or ready at the start."""
     with shell.wheel():
@@ -233,7 +228,7 @@ def from_here(shell: "Shell") -> Iterator[int]:
         yield shell.target.places().done
 
 
-def until(shell: "Shell", words: Sequence[str]) -> None:
+def until(shell: Shell, words: Sequence[str]) -> None:
     """`until` with a goal that is none of rdbg's, or with a condition without its COUNT."""
     if not is_rdbgs(words):
         run_to(shell, words, False)
@@ -251,7 +246,7 @@ def is_rdbgs(words: Sequence[str]) -> bool:
     return is_watch or conditions.read(words) is not None
 
 
-def back(shell: "Shell", words: Sequence[str]) -> None:
+def back(shell: Shell, words: Sequence[str]) -> None:
     """`rc`: back to a goal, rdbg's own or not; without words to where a watch became so."""
     if not words:
         backwards(shell, events(shell))
@@ -261,7 +256,7 @@ def back(shell: "Shell", words: Sequence[str]) -> None:
         back_to(shell, words, False)
 
 
-def back_until(shell: "Shell", words: Sequence[str]) -> None:
+def back_until(shell: Shell, words: Sequence[str]) -> None:
     """`back until GOAL`, `back until! GOAL`."""
     if words[0] == "until!":
         back_to(shell, words[1:])
@@ -269,7 +264,7 @@ def back_until(shell: "Shell", words: Sequence[str]) -> None:
         back(shell, words[1:])
 
 
-def back_to(shell: "Shell", words: Sequence[str], becoming: bool = True) -> None:
+def back_to(shell: Shell, words: Sequence[str], becoming: bool = True) -> None:
     """Goes back to a goal; `rc!`."""
     if not words:
         raise Unable("back to what? `rc! COND`, `rc! asleep`")
@@ -280,7 +275,7 @@ def back_to(shell: "Shell", words: Sequence[str], becoming: bool = True) -> None
     backwards(shell, goal)
 
 
-def events(shell: "Shell") -> Way:
+def events(shell: Shell) -> Way:
     """What a run without a goal ends at: a watch, a task that fails, or that nothing goes on."""
     names = [f"w{number}" for number in sorted(shell.target.watches)]
     goals = [goal_of(shell, [name], True)[0] for name in names]
@@ -289,7 +284,7 @@ def events(shell: "Shell") -> Way:
     return AnyOf("", [*goals, To(SomeFailed(), True), To(Stuck(), True)])
 
 
-def can_change(shell: "Shell", goal: Way) -> bool:
+def can_change(shell: Shell, goal: Way) -> bool:
     """Whether a run can meet a goal: of a target that is stuck only the tick changes."""
     ways = goal.ways if isinstance(goal, AnyOf) else [goal]
     asked = [it for it in ways if isinstance(it, To)]
@@ -298,7 +293,7 @@ def can_change(shell: "Shell", goal: Way) -> bool:
     return is_of_tick or is_met or not is_stuck(shell.target)
 
 
-def carry_on(shell: "Shell", words: Sequence[str]) -> None:
+def carry_on(shell: Shell, words: Sequence[str]) -> None:
     """`continue`."""
     if words[1:] or not all(map(commands.is_count, words)):
         raise Unable("continue [COUNT]: at most so many moves, 1 to 1000000")

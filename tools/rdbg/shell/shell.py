@@ -5,7 +5,7 @@ import re
 import shutil
 import sys
 import time
-from typing import Dict, Iterable, Iterator, List, Optional, Sequence, Tuple
+from typing import Dict, Iterable, Iterator, List, NamedTuple, Optional, Sequence, Set, Tuple
 
 from rdbg import commands, kinds, record
 from rdbg.application import NO_INTERRUPT, Interrupt as Handler
@@ -23,11 +23,9 @@ from rdbg.goals.paced import PacedWalk
 from rdbg.goals.scope import Scope
 from rdbg.instructions import form_of
 from rdbg.looks import Look, Names
+from rdbg.reaching.asking import Question
 from rdbg.replies import Cores, Refused
-from rdbg.shell import hints, views
 from rdbg.shell.notices import READ_ANEW, REMARK, Notices
-from rdbg.shell.reach import Order, Reached
-from rdbg.shell.replay import Saved
 from rdbg.wording import counted
 
 # Of a run of more moves than these the last few are shown.
@@ -37,6 +35,22 @@ NEARLY, NOT_SMALL = (10, 100), 1_000
 COMMENT = re.compile(r"^\s*#| #")
 # So many seconds pass before it is shown how far something is, and between two times.
 MOMENT = 0.3
+
+
+class Reached(NamedTuple):
+    """What was asked: of a goal, as it was typed, at a place; and what was answered."""
+
+    question: Question
+    goal: str
+    place: int
+    said: str
+
+
+class Order(NamedTuple):
+    """The lines of an order that was answered, and the place where it begins."""
+
+    place: int
+    lines: Sequence[str]
 
 
 class Shell:
@@ -54,10 +68,10 @@ class Shell:
         self.temporary: Dict[int, str] = {}
         self._displayed: Optional[Tuple[Target, int]] = None
         # Whether the last line was refused, or stopped; the files that are at work, and whether one
-        # is with which a prompt begins.
+        # is with which a prompt begins; and those that were saved, which may be saved anew.
         self.is_refused = self.is_stopped = self.is_starting = False
         self.sourced: List[str] = []
-        self.saved = Saved()
+        self.saved: Set[Tuple[int, int]] = set()
         # The pace of runs, and the interrupts that come in them by themselves, where it was said
         # which.
         self.pace: Optional[TickPace] = None
@@ -175,10 +189,12 @@ class Shell:
 
     def hint_on(self, line: str, reply: str) -> None:
         """Prints a hint where a reply refuses a line."""
+        from rdbg.shell.hints import refusal
+
         try:
             read(reply)
         except Refused as refused:
-            self.hint(hints.refusal(self, line, refused))
+            self.hint(refusal(self, line, refused))
 
     def _echo(self, line: str) -> None:
         if self.shows_lines:
@@ -201,6 +217,7 @@ class Shell:
 
     def do(self, text: str) -> None:
         """Does a line, rdbg's as it is or a word of sh's, and says what is displayed behind it."""
+        from rdbg.shell.views import displayed
         from rdbg.shell.words import find
 
         stripped, words = parted(text)
@@ -222,11 +239,11 @@ class Shell:
         except Refused as refused:
             self.is_refused = True
             self.refuse(f"rdbg says: no {refused}")
-            self.hint(hints.refusal(self, self.asked, refused))
+            self.hint_on(self.asked, f"no {refused}")
         self.notice()
         here = self.target, self.target.place
         if self.displays and here not in (there, self._displayed):
-            views.displayed(self)
+            displayed(self)
             self._displayed = here
         self._warn()
 
@@ -317,9 +334,12 @@ class Shell:
                 self.target.places()  # (for the place that was said last)
             return None
         try:
-            last = self._last
-            look = self._part(names_for(self.target, command, last))
-            return look if is_enough(command, look, last) else self._part()
+            names = names_for(self.target, command, self._last)
+            look = self._part(names)
+            # (others may have moved what can be changed elsewhere since the last look)
+            needed = names_for(self.target, command, look)
+            is_enough = {*needed.tasks, *needed.objects} <= {*names.tasks, *names.objects}
+            return look if is_enough else self._part()
         except Refused:
             return None
 
@@ -393,13 +413,15 @@ class Shell:
 
     def next_moves(self) -> str:
         """What each busy core would do next, in words."""
+        from rdbg.shell.views import next_of
+
         if self.target.is_own:
             look = self.look()
         else:
             running = self.target.ask("show cores", Cores).running
             look = self._part(Names(tuple(name for name in running if name)))
         seats = ((core, look.tasks.get(name or "")) for core, name in enumerate(look.cores.running))
-        found = [f"{it.name} {views.next_of(self, it)} (core {core})" for core, it in seats if it]
+        found = [f"{it.name} {next_of(self, it)} (core {core})" for core, it in seats if it]
         return ", ".join(found) or "no core is busy: tick"
 
     def _warn(self) -> None:
@@ -439,9 +461,11 @@ def names_for(target: Target, command: commands.Command, last: Optional[Look]) -
 
 
 def of_step(target: Target, core: int, last: Look) -> Optional[Names]:
-    """What a step of a core can change, if its task stands where it stood at the last look."""
+    """What a step of a core can change, as far as a look tells that."""
     task = last.cores.running[core] if core < len(last.cores.running) else None
-    if task not in last.tasks or task is None:
+    if task is None:
+        return Names()  # (it is refused)
+    if task not in last.tasks:
         return None
     words = (target.instruction(task, last.tasks[task].pc) or "").split()
     if not words:
@@ -454,14 +478,3 @@ def of_step(target: Target, core: int, last: Look) -> Optional[Names]:
     if any(kind == kinds.QUEUE.word for kind, _ in keys):
         keys += [key for key in target.names.objects if key[0] == kinds.QUEUE_SET.word]
     return Names(target.names.tasks, tuple(dict.fromkeys(keys)))
-
-
-def is_enough(command: commands.Command, look: Look, last: Optional[Look]) -> bool:
-    """Whether a look at names that were chosen by an older one has what the line can change."""
-    core = int(command.words[1]) if command.form.word == "step" else len(look.cores.running)
-    if last is None or core >= len(look.cores.running):
-        return True
-    task = look.cores.running[core]
-    if task is None or task != last.cores.running[core]:
-        return task is None
-    return task in look.tasks and look.tasks[task].pc == last.tasks[task].pc

@@ -2,20 +2,18 @@
 import os
 import pathlib
 import stat
-from typing import TYPE_CHECKING, Sequence
+from typing import Sequence
 
 from rdbg.driving.target import Unable
 from rdbg.failure import Failure, trying, turned
-
-if TYPE_CHECKING:
-    from rdbg.shell.shell import Shell
+from rdbg.shell.shell import Shell
 
 START = ".rdbginit"
 # Files that are at work for another, at the most.
 MOST_DEEP = 8
 
 
-def source(shell: "Shell", words: Sequence[str]) -> None:
+def source(shell: Shell, words: Sequence[str]) -> None:
     """`source FILE`."""
     if len(words) != 1:
         raise Unable("source which file? `source lines.rdbg`; its name has no spaces")
@@ -24,7 +22,7 @@ def source(shell: "Shell", words: Sequence[str]) -> None:
     do_all(shell, words[0], content)
 
 
-def do_all(shell: "Shell", path: str, content: bytes) -> None:
+def do_all(shell: Shell, path: str, content: bytes) -> None:
     """Does each line, up to one that is refused."""
     if len(shell.sourced) >= MOST_DEEP:
         raise Unable(f"{path} is the one file too many of those that do each other's lines")
@@ -40,7 +38,7 @@ def do_all(shell: "Shell", path: str, content: bytes) -> None:
         shell.sourced.pop()
 
 
-def begin(shell: "Shell") -> None:
+def begin(shell: Shell) -> None:
     """Does the lines of the user's file and of the one beside the application, where there are."""
     beside = [os.path.dirname(os.path.abspath(shell.source.path))] if shell.source else []
     folders = (os.path.realpath(it) for it in (os.path.expanduser("~"), *beside))

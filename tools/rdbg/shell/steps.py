@@ -1,7 +1,7 @@
 """Words that move the target by name, or by gdb's words: `step worker`, `s`, `rs`, `break`."""
 import pathlib
 import re
-from typing import TYPE_CHECKING, List, Optional, Sequence
+from typing import List, Optional, Sequence
 
 from rdbg import commands, record, replies
 from rdbg.driving import trail
@@ -12,18 +12,15 @@ from rdbg.goals import conditions, reading, words as goal_words
 from rdbg.goals.reading import NoGoal
 from rdbg.looks import Names
 from rdbg.shell import seek
+from rdbg.shell.shell import Shell
 from rdbg.shell.views import check_instruction, check_name, phase_text
 from rdbg.wording import counted
-
-if TYPE_CHECKING:
-    from rdbg.shell.shell import Shell
-
 
 # Ticks are asked for so many at a time, and so many that did something are told.
 TICKS, ROWS = 512, 20
 
 
-def step(shell: "Shell", words: Sequence[str]) -> None:
+def step(shell: Shell, words: Sequence[str]) -> None:
     """`step TASK [COUNT]`: instructions of a task, on whichever core it is; or of a core."""
     name = words[0]
     if words[2:] or not all(map(commands.is_count, words[1:])):
@@ -45,7 +42,7 @@ def step(shell: "Shell", words: Sequence[str]) -> None:
             return
 
 
-def tick(shell: "Shell", words: Sequence[str]) -> None:
+def tick(shell: Shell, words: Sequence[str]) -> None:
     """`tick COUNT`: so many ticks."""
     if len(words) != 1 or not commands.is_count(words[0]):
         raise Unable("`tick`, or `tick COUNT` for so many")
@@ -65,7 +62,7 @@ def tick(shell: "Shell", words: Sequence[str]) -> None:
             tell_ticks(shell, start + 1, here)
 
 
-def tell_ticks(shell: "Shell", first: int, last: int) -> None:
+def tell_ticks(shell: Shell, first: int, last: int) -> None:
     """Says which of these ticks woke or turned somebody."""
     found = trail.moves(shell.walk, first, last, Names(shell.target.names.tasks), shell.progress)[0]
     told = [move for move in found if move.effects]
@@ -77,7 +74,7 @@ def tell_ticks(shell: "Shell", first: int, last: int) -> None:
         shell.say(f"{counted(len(found) - len(told), 'tick')} woke and turned nobody")
 
 
-def interrupt(shell: "Shell", words: Sequence[str]) -> None:
+def interrupt(shell: Shell, words: Sequence[str]) -> None:
     """`isr NAME`: an interrupt that the text names comes, with all calls of its handler."""
     application = shell.target.application
     found = application.interrupt(words[0]) if application else None
@@ -89,7 +86,7 @@ def interrupt(shell: "Shell", words: Sequence[str]) -> None:
             return
 
 
-def why_on_none(shell: "Shell", it: replies.Task) -> str:
+def why_on_none(shell: Shell, it: replies.Task) -> str:
     """Why a task is on no core, and who is."""
     pairs = enumerate(shell.target.ask("show cores", replies.Cores).running)
     busy = [f"{name} on core {core}" for core, name in pairs if name]
@@ -99,7 +96,7 @@ def why_on_none(shell: "Shell", it: replies.Task) -> str:
     return f"it {why}; {', '.join(busy) or 'no core is busy'}"
 
 
-def forward(shell: "Shell", words: Sequence[str]) -> None:
+def forward(shell: Shell, words: Sequence[str]) -> None:
     """`s [COUNT]`: moves of a run's choice; `s TASK` is `step TASK`."""
     if words and words[0] in shell.target.names.tasks:
         step(shell, words)
@@ -109,14 +106,14 @@ def forward(shell: "Shell", words: Sequence[str]) -> None:
         shell.command(" ".join(["forward", *(words or ["1"])]))
 
 
-def back(shell: "Shell", words: Sequence[str]) -> None:
+def back(shell: Shell, words: Sequence[str]) -> None:
     """`rs [COUNT]`: takes moves back."""
     if len(words) > 1 or not all(commands.is_count(word) for word in words):
         raise Unable("`rs` takes the last move back, `rs 5` the last five, whosever they are")
     shell.command(" ".join([record.BACK, *(words or ["1"])]))
 
 
-def goto(shell: "Shell", words: Sequence[str]) -> None:
+def goto(shell: Shell, words: Sequence[str]) -> None:
     """`goto PLACE`."""
     there = shell.target.places()
     last = there.done + there.undone
@@ -134,7 +131,7 @@ def goto(shell: "Shell", words: Sequence[str]) -> None:
         shell.command(record.way(there.done, place))
 
 
-def break_at(shell: "Shell", words: Sequence[str]) -> None:
+def break_at(shell: Shell, words: Sequence[str]) -> None:
     """`break TASK PC`, `break FILE:LINE`, `break COND`: a watch, to which `continue` goes."""
     if not seek.is_rdbgs(words) and seek.is_goal(words, shell.scope()):
         check_goal(shell, words)
@@ -148,7 +145,7 @@ def break_at(shell: "Shell", words: Sequence[str]) -> None:
         put_break(shell, words)
 
 
-def break_once(shell: "Shell", words: Sequence[str]) -> None:
+def break_once(shell: Shell, words: Sequence[str]) -> None:
     """`tbreak`: the same, and the watch is dropped where `continue` or `rc` meets it."""
     before = dict(shell.target.watches)
     break_at(shell, words)
@@ -156,14 +153,14 @@ def break_once(shell: "Shell", words: Sequence[str]) -> None:
     shell.temporary.update({number: text for number, text in there if number not in before})
 
 
-def check_goal(shell: "Shell", words: Sequence[str]) -> None:
+def check_goal(shell: Shell, words: Sequence[str]) -> None:
     """Raises `Unable` where words are no goal, with what would be right."""
     if words[0] not in reading.OF_MOVES:
         with turned(Unable, NoGoal):
             goal_words.read(words, shell.scope())
 
 
-def put_break(shell: "Shell", words: Sequence[str]) -> None:
+def put_break(shell: Shell, words: Sequence[str]) -> None:
     """A watch at `TASK PC`, or of a condition."""
     if not words:
         raise Unable("break where? `break worker 2`, or a condition, `break count jobs > 0`")
@@ -182,7 +179,7 @@ def put_break(shell: "Shell", words: Sequence[str]) -> None:
         shell.say("`continue` runs to where a watch becomes so, `rc` goes back to where one did")
 
 
-def at_line(shell: "Shell", file: Optional[str], line: int) -> List[Sequence[str]]:
+def at_line(shell: Shell, file: Optional[str], line: int) -> List[Sequence[str]]:
     """The task and number of the first instruction at a line or behind it, of each task there."""
     source, application = shell.source, shell.target.application
     if source is None or application is None:
@@ -210,7 +207,7 @@ def at_line(shell: "Shell", file: Optional[str], line: int) -> List[Sequence[str
     return [at.split() for at, _ in there]
 
 
-def delete(shell: "Shell", words: Sequence[str]) -> None:
+def delete(shell: Shell, words: Sequence[str]) -> None:
     """`delete N`: drops a watch."""
     if len(words) != 1:
         raise Unable("delete which watch? `info watches` shows them, `delete 0`")

@@ -1,7 +1,7 @@
 """What there is, as tables and sentences: `info`, `where`, `list`, `print`; and `display`, by which
 something is printed again behind each line that has moved the target."""
 import re
-from typing import TYPE_CHECKING, Callable, Dict, Iterator, List, Optional, Sequence
+from typing import Callable, Dict, Iterator, List, Optional, Sequence
 
 from rdbg import commands, kinds, replies
 from rdbg.application import Instruction
@@ -12,10 +12,8 @@ from rdbg.goals.reading import NoGoal
 from rdbg.looks import Key, Object, hexadecimal, holding, time_of
 from rdbg.operands import to_text
 from rdbg.replies import Refused
+from rdbg.shell.shell import Shell
 from rdbg.wording import nearest
-
-if TYPE_CHECKING:
-    from rdbg.shell.shell import Shell
 
 # So many characters of a column are shown at the least.
 LEAST = 8
@@ -52,13 +50,13 @@ def fitted(cells: Sequence[Sequence[str]], width: Optional[int], long: Sequence[
     return table([list(map(fits, row, widths)) for row in rows])
 
 
-def script_of(shell: "Shell", name: str) -> Sequence[Instruction]:
+def script_of(shell: Shell, name: str) -> Sequence[Instruction]:
     """The script of a task; empty where it isn't known."""
     task = shell.target.application.task(name) if shell.target.application else None
     return task.code if task else ()
 
 
-def check_instruction(shell: "Shell", name: str, number: int) -> None:
+def check_instruction(shell: Shell, name: str, number: int) -> None:
     """Raises `Unable` where a script is known, and has no instruction of this number."""
     script = script_of(shell, name)
     if script and number >= len(script):
@@ -66,17 +64,17 @@ def check_instruction(shell: "Shell", name: str, number: int) -> None:
         raise Unable(f"there is no instruction {number}: {name} has {has}")
 
 
-def written(shell: "Shell", task: replies.Task) -> str:
+def written(shell: Shell, task: replies.Task) -> str:
     """The next instruction of a task as it is written; empty where it isn't known."""
     return "".join(it.told for it in script_of(shell, task.name)[task.pc : task.pc + 1])
 
 
-def next_of(shell: "Shell", task: replies.Task) -> str:
+def next_of(shell: Shell, task: replies.Task) -> str:
     """The next instruction of a task, with its number."""
     return f"{task.pc} {written(shell, task)}".rstrip()
 
 
-def place_in_file(shell: "Shell", task: replies.Task) -> str:
+def place_in_file(shell: Shell, task: replies.Task) -> str:
     """The file and the line of the next instruction of a task; empty where it isn't known."""
     path = shell.source.path if shell.source else ""
     found = script_of(shell, task.name)[task.pc : task.pc + 1] if path else ()
@@ -108,7 +106,7 @@ def notes(task: replies.Task) -> str:
     return ",".join(text for text in texts if not text.endswith("=0:idle")) or "-"
 
 
-def tasks(shell: "Shell") -> None:
+def tasks(shell: Shell) -> None:
     """All tasks, as a table."""
     rows = [["task", "core", "phase", "pc", "instruction", "registers", "data", "notes"]]
     for name, it in shell.look().tasks.items():
@@ -165,7 +163,7 @@ def present(names: Sequence[Optional[str]]) -> List[str]:
     return [name for name in names if name]
 
 
-def objects(shell: "Shell") -> None:
+def objects(shell: Shell) -> None:
     """All objects that are known, as a table."""
     found = shell.look().objects
     if not found:
@@ -176,7 +174,7 @@ def objects(shell: "Shell") -> None:
     shell.say("\n".join(fitted(rows, shell.width(), (2, 3))))
 
 
-def task(shell: "Shell", name: str) -> List[str]:
+def task(shell: Shell, name: str) -> List[str]:
     """All of one task, as lines."""
     it = shell.look().tasks[name]
     application = shell.target.application
@@ -193,7 +191,7 @@ def task(shell: "Shell", name: str) -> List[str]:
     ]
 
 
-def where(shell: "Shell", words: Sequence[str]) -> None:
+def where(shell: Shell, words: Sequence[str]) -> None:
     """Each core's task with its next instruction, and who is ready."""
     look = shell.look()
     rows = []
@@ -208,7 +206,7 @@ def where(shell: "Shell", words: Sequence[str]) -> None:
     shell.say(f"ready {ready}  tick {look.cores.tick}  turn {look.cores.turn}  at {look.place}")
 
 
-def listing(shell: "Shell", words: Sequence[str]) -> None:
+def listing(shell: Shell, words: Sequence[str]) -> None:
     """The scripts of tasks, with their places marked: of those on the cores without words."""
     look = shell.look()
     names = list(words) or present(look.cores.running)
@@ -238,7 +236,7 @@ def listed(script: Sequence[Instruction], pc: int, has_lines: bool) -> Iterator[
         yield [line.rjust(4), "->" if is_next else "  ", numbers.rjust(3), text]
 
 
-def check_name(shell: "Shell", name: str, kind: str = "") -> str:
+def check_name(shell: Shell, name: str, kind: str = "") -> str:
     """The kind of the thing of this name. Raises `Unable` where there is none (of `kind`)."""
     known = [kind] if kind else list(kinds.OF_WORD)
     if shell.target.application is None and commands.is_name(name):
@@ -253,7 +251,7 @@ def check_name(shell: "Shell", name: str, kind: str = "") -> str:
     raise Unable(f"there is no {kind or 'task or object'} '{name}'{hint}")
 
 
-def values(shell: "Shell", words: Sequence[str]) -> List[str]:
+def values(shell: Shell, words: Sequence[str]) -> List[str]:
     """Parts of a task, or of those on the cores; or what an object has."""
     given = SETTING.fullmatch(" ".join(words))
     if given:
@@ -280,13 +278,13 @@ def values(shell: "Shell", words: Sequence[str]) -> List[str]:
     return found
 
 
-def show(shell: "Shell", words: Sequence[str]) -> None:
+def show(shell: Shell, words: Sequence[str]) -> None:
     """`show NAME`: rdbg's own view of each thing of this name."""
     for kind in shell.target.names.kinds_of(words[0]):
         shell.command(f"show {kind} {words[0]}")
 
 
-def about(shell: "Shell", name: str, only: str = "") -> List[str]:
+def about(shell: Shell, name: str, only: str = "") -> List[str]:
     """All of a task or of the objects of a name, or of the one of a kind, as lines."""
     check_name(shell, name, only)
     lines: List[str] = []
@@ -299,7 +297,7 @@ def about(shell: "Shell", name: str, only: str = "") -> List[str]:
     return lines
 
 
-def texts(shell: "Shell", words: Sequence[str]) -> List[str]:
+def texts(shell: Shell, words: Sequence[str]) -> List[str]:
     """What parts of tasks, names or an expression say, as lines."""
     text, scope, names = " ".join(words), shell.scope(), shell.target.names
     known = (*FIELDS, *REGISTERS, *names.tasks, *(name for _, name in names.objects))
@@ -315,12 +313,12 @@ def texts(shell: "Shell", words: Sequence[str]) -> List[str]:
     return [f"{text}: {value}" if value in computed.TRUTHS else f"{text} = {value}"]
 
 
-def tell(shell: "Shell", words: Sequence[str]) -> None:
+def tell(shell: Shell, words: Sequence[str]) -> None:
     """`print`."""
     shell.say("\n".join(texts(shell, words)))
 
 
-def display(shell: "Shell", words: Sequence[str]) -> None:
+def display(shell: Shell, words: Sequence[str]) -> None:
     """`display EXPR`, or all that are there."""
     if words:
         texts(shell, words)  # (which says what is wrong)
@@ -330,7 +328,7 @@ def display(shell: "Shell", words: Sequence[str]) -> None:
     displayed(shell, max(shell.displays) if words else 0)
 
 
-def undisplay(shell: "Shell", words: Sequence[str]) -> None:
+def undisplay(shell: Shell, words: Sequence[str]) -> None:
     """`undisplay N ..`, or all."""
     numbers = [int(word) for word in words if commands.is_number(word)]
     if len(numbers) < len(words) or not {*numbers} <= {*shell.displays}:
@@ -340,7 +338,7 @@ def undisplay(shell: "Shell", words: Sequence[str]) -> None:
         shell.displays.pop(number, None)
 
 
-def displayed(shell: "Shell", only: int = 0) -> None:
+def displayed(shell: Shell, only: int = 0) -> None:
     """Says what is displayed, or one of it."""
     shown = {only: shell.displays[only]} if only else shell.displays
     for number, text in shown.items():
@@ -355,7 +353,7 @@ def displayed(shell: "Shell", only: int = 0) -> None:
             shell.say(f"{number}: {line}")
 
 
-def watches(shell: "Shell") -> None:
+def watches(shell: Shell) -> None:
     """The watches, with their conditions."""
     if not shell.target.watches:
         shell.say("no watches; `watch COND` or `break TASK PC` makes one")
@@ -366,14 +364,14 @@ def watches(shell: "Shell") -> None:
     shell.say("\n".join(table([["watch", "now", "condition"], *rows])))
 
 
-def history(shell: "Shell") -> None:
+def history(shell: Shell) -> None:
     """How much was asked, and what the history has room for."""
     left = shell.target.left()
     room = "" if left is None else f"; the history has room for {left} more"
     shell.say(f"{shell.target.lines} lines were asked, looks among them{room}")
 
 
-def info(shell: "Shell", words: Sequence[str]) -> None:
+def info(shell: Shell, words: Sequence[str]) -> None:
     """A table, or all of a task or an object."""
     word = words[0] if words else ""
     singular = word[:-1] if word.endswith("s") else word
@@ -382,7 +380,6 @@ def info(shell: "Shell", words: Sequence[str]) -> None:
         TABLES[word](shell)
     elif word == "registers":
         shell.say("\n".join(values(shell, [*REGISTERS, *words[1:]])))
-
     elif kind and len(words) == 2:
         shell.say("\n".join(about(shell, words[1], kind)))
     elif kind:
@@ -393,7 +390,7 @@ def info(shell: "Shell", words: Sequence[str]) -> None:
         raise Unable(f"info what? {', '.join(INFO_WORDS)}, or a task's or an object's name")
 
 
-TABLES: Dict[str, Callable[["Shell"], None]] = {
+TABLES: Dict[str, Callable[[Shell], None]] = {
     **dict.fromkeys(("tasks", "threads"), tasks),
     **dict.fromkeys(("objects", kinds.QUEUE.key), objects),
     **dict.fromkeys(("watches", "break", "breakpoints", "watchpoints"), watches),

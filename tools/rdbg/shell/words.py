@@ -1,19 +1,17 @@
 """The words of sh's own: one table, for what they do, for help and for Tab."""
 
 import functools
-from typing import TYPE_CHECKING, Callable, Dict, NamedTuple, Optional, Sequence, Tuple
+from typing import Callable, Dict, NamedTuple, Optional, Sequence, Tuple
 
 from rdbg import commands
 from rdbg.driving.target import Unable
 from rdbg.reaching import asking
 from rdbg.shell import glossary, paces, reach, replay, seek, sourcing, steps, views
+from rdbg.shell.shell import Shell
 from rdbg.wording import rows
 
-if TYPE_CHECKING:
-    from rdbg.shell.shell import Shell
-
 SETTINGS = ("moves", "echo")
-Do = Callable[["Shell", Sequence[str]], None]
+Do = Callable[[Shell, Sequence[str]], None]
 
 
 class Word(NamedTuple):
@@ -95,12 +93,12 @@ def word(run: Do, row: str, more: str = "") -> Word:
     return Word(form, does, run, short, behind, more)
 
 
-def leave(shell: "Shell", words: Sequence[str]) -> None:
+def leave(shell: Shell, words: Sequence[str]) -> None:
     """`quit`."""
     shell.is_done = True
 
 
-def put(shell: "Shell", words: Sequence[str]) -> None:
+def put(shell: Shell, words: Sequence[str]) -> None:
     """`set moves|echo on|off`."""
     on_off = ("off", "on")
     if not words:
@@ -196,7 +194,7 @@ SHOW = Word("show NAME", "what rdbg shows of it", views.show)
 BY_NAME: Dict[str, Word] = {name: it for it in WORDS for name in (it.name, *it.short)}
 
 
-def find(shell: "Shell", words: Sequence[str]) -> Optional[Word]:
+def find(shell: Shell, words: Sequence[str]) -> Optional[Word]:
     """The word of sh's own that a line begins with, where it isn't one of rdbg's lines; some words
     are rdbg's too."""
     first, second = words[0], "".join(words[1:2])

@@ -13,10 +13,10 @@ from rdbg.files.definitions import definition
 from rdbg.files.source import Source, load
 from rdbg.hunting import report
 from rdbg.hunting.goals import DIFFERS, Goal, read as read_goal
-from rdbg.hunting.interrupts import Handler, handlers
+from rdbg.hunting.interrupts import handlers
 from rdbg.hunting.stage import Stage
 from rdbg.reaching.asking import LOST, QUESTIONS, Asker
-from rdbg.reaching.handlers import told as told_of_interrupts
+from rdbg.reaching.handlers import Handler, told as told_of_interrupts
 from rdbg.reaching.said import Answer, Bound
 from rdbg.replies import Refused
 from rdbg.testing.cases import Case
@@ -91,7 +91,7 @@ def order_of(case: Case, ready: Ready, answer: Answer) -> Iterator[str]:
     with contextlib.closing(Stage(ready.source, ready.interrupts)) as stage:
         find = stage.find(answer.order)
         yield from report.found(ready.goal, stage, [find], False)
-        yield from ("lines:", *report.lines_of(ready.goal, stage, [find]))
+        yield from ("lines:", *report.lines_of(ready.goal, [find]))
 
 
 def tried(folder: str, case: Case) -> Result:
