@@ -6,7 +6,7 @@ import sys
 import time
 from typing import IO, Iterator, List, Optional, Sequence, Tuple
 
-from rdbg import digits, links, whole_file
+from rdbg import digits, links, options, whole_file
 from rdbg.application import NO_INTERRUPT
 from rdbg.driving.target import Unable
 from rdbg.failure import Failure, trying
@@ -52,6 +52,12 @@ PASSED = {
 OF_ONE_GOAL = ("--pace", "--part")
 
 
+def part(text: str) -> str:
+    """Reads K/N, the part K of N, and passes it on."""
+    options.part(text)
+    return text
+
+
 def seconds(text: str) -> float:
     """Reads a number of seconds, above 0."""
     value = digits.seconds(text)
@@ -88,7 +94,7 @@ def parser() -> Parser:
     made.add_argument("--expect", choices=["none", "found"], help="what the status is 0 for")
     word("--within", "SECONDS", "a limit of time", type=seconds)
     for name, (value, what) in PASSED.items():
-        word(name, value, what)
+        word(name, value, what, type=part if name == "--part" else str)
     take_definitions(made)
     return made
 
