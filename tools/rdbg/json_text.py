@@ -14,6 +14,7 @@ MOST_BYTES = 1_048_576
 MOST_DEPTH = 127
 SPACE = re.compile(r"[ \t\n\r]*")
 PLAIN = re.compile(r'"([^"\\\x00-\x1f]*)"')
+WORD = re.compile(r"[^ ]+")
 CHARACTERS = re.compile(r'[^"\\\x00-\x1f]+')
 HEX = re.compile(r"\\u([0-9A-Fa-f]{4})")
 NUMBER = re.compile(r"-?(?:0|[1-9][0-9]*)(?:\.[0-9]+)?(?:[eE][+-]?[0-9]+)?")
@@ -164,7 +165,7 @@ class Reader:
         return f"{before}the {bracket} of {self.place(self.open[-1])} isn't closed by {closing}"
 
     def string(self, at: int) -> Tuple[Node, int]:
-        """A text, with the places of its characters."""
+        """A text, with the places of its words."""
         place = self.place(at)
         plain = PLAIN.match(self.text, at)
         if plain:
@@ -173,7 +174,7 @@ class Reader:
             columns: Sequence[int] = range(first, first + len(value))
         else:
             value, columns, end = self.escaped(at, place.column)
-        return Node(value, place, columns), end
+        return Node(value, place, [columns[it.start()] for it in WORD.finditer(value)]), end
 
     def escaped(self, start: int, column: int) -> Tuple[str, List[int], int]:
         """A text with escapes: its characters, the column of each, and its end."""

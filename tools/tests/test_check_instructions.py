@@ -145,7 +145,7 @@ class Reading(unittest.TestCase):
             self.assertTrue(faults(text)[0].endswith(f" has a word too many: {word}"), faults(text))
 
     def test_operands_have_places(self) -> None:
-        reading = read(Node("recv jobs 10", Place(3, 5), range(6, 18)), SCOPE)
+        reading = read(Node("recv jobs 10", Place(3, 5), (6, 11, 16)), SCOPE)
         self.assertEqual([Place(3, 11), Place(3, 16)], [it.place for it in reading.operands])
 
     def test_numbers_that_only_break_a_limit_are_no_matter_of_order(self) -> None:

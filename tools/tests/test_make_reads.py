@@ -252,9 +252,9 @@ class Places(unittest.TestCase):
         ]
         self.assertEqual(wanted, found)
 
-    def test_each_character_has_one(self) -> None:
+    def test_each_word_has_one(self) -> None:
         for node in self.code():
-            self.assertEqual(len(str(node.value)), len(node.columns))
+            self.assertEqual(len(str(node.value).split(" ")), len(node.columns))
 
 
 if __name__ == "__main__":

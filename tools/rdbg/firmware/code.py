@@ -9,12 +9,12 @@ from rdbg.firmware import waits
 from rdbg.firmware.blocks import WORDS, Blocks, Mark
 from rdbg.firmware.branches import Test
 from rdbg.firmware.numbers import NAME, Kept, near_to
-from rdbg.firmware.operands import Operand, Operands, as_written, made
+from rdbg.firmware.operands import Operand, Operands, as_written
 from rdbg.firmware.semaphores import Semaphore, why_not
 from rdbg.firmware.tokens import Refusal, Stop, Token, shown, written
 from rdbg.instructions import FORM_OF, WRITES_R1
 from rdbg.operands import PATTERN_OF
-from rdbg.tree import Fault, Member, Node, Object, Part, Place
+from rdbg.tree import Fault, Member, Node, Object, Part
 from rdbg.wording import quoted
 
 # The registers that a line can have, the first one first.
@@ -111,17 +111,17 @@ class Draft:
         return not any(name in labels or not LIKE_REGISTER.fullmatch(name) for name in names)
 
     def node(self) -> Node:
-        """The instruction. A space has the place before it."""
-        columns = [at for part in self.parts for at in (*part.columns, part.columns[-1])]
-        place, text = self.tokens[0].place, " ".join(part.text for part in self.parts)
+        """The instruction."""
+        text = " ".join(part.text for part in self.parts)
+        columns = [part.place.column for part in self.parts]
         spelled = tuple(part.spelled or part.text for part in self.parts)
-        return Node(text, place, columns[:-1], written(self.tokens), spelled)
+        return Node(text, self.tokens[0].place, columns, written(self.tokens), spelled)
 
 
-def label_out_of_place(part: Operand, line: int) -> Optional[Token]:
+def label_out_of_place(part: Operand) -> Optional[Token]:
     """The label that a word is which stands in the place of another."""
     is_name = NAME.fullmatch(part.text) and not LIKE_REGISTER.fullmatch(part.text)
-    return Token(part.text, Place(line, part.columns[0])) if is_name else None
+    return Token(part.text, part.place) if is_name else None
 
 
 @dataclasses.dataclass(frozen=True)
@@ -163,13 +163,12 @@ class Several:
 
     def nodes(self, own: str, spare: Spare, at: int) -> Iterator[Node]:
         """The instructions, the first of which has this number, of a task of this name."""
-        place, here = self.tokens[0].place, range(at, at + self.length + 1)
+        here = range(at, at + self.length + 1)
         free = {"spare": spare.register, "entry": spare.entry, "ending": spare.ending}
         for index, text in enumerate(self.texts):
             made = text.format(own=own, target=self.target, here=here, **free)
             part = Part(index, self.length, self.note, self.cost)
-            columns = [place.column] * len(made)
-            yield Node(made, place, columns, written(self.tokens), (), part)
+            yield Node(made, self.tokens[0].place, (), written(self.tokens), (), part)
 
 
 Line = Union[Draft, Several]
@@ -332,8 +331,7 @@ class Script:
         first, *operands = line.parts
         labels = [part.label for part in operands]
         if line.tokens[0].text in FORM_OF and line.needs_label(self._labels):
-            row = line.tokens[0].place.line
-            labels = [label_out_of_place(part, row) for part in operands]
+            labels = [label_out_of_place(part) for part in operands]
         pairs = zip(operands, labels)
         parts = (self._target(part, it, index, line.tokens) for part, it in pairs)
         return dataclasses.replace(line, parts=(first, *parts))
@@ -346,8 +344,7 @@ class Script:
             return part
         name = label.text
         if name in self._labels:
-            number = made(str(self._labels[name][1]), label.place)
-            return number._replace(spelled=name)
+            return Operand(str(self._labels[name][1]), label.place, spelled=name)
         near = near_to(name, self._labels)
         hint = f"; a label has a colon: {name}:" if name in WORDS else near
         message = f"there is no label {shown(name)}{hint}"
@@ -376,14 +373,11 @@ class Thing:
     def nodes(self, spare: Spare) -> Iterator[Node]:
         """The thing, or the tasks that it is, as parts of the tree, by what its script leaves."""
         for name in self.names():
-            members = [it if it.key != "name" else renamed(it, name) for it in self.members]
+            members = [
+                it._replace(node=Node(name, it.node.place)) if it.key == "name" else it
+                for it in self.members
+            ]
             if self.script is not None:
                 code = Node(tuple(self.script.nodes(name, spare)), self.word.place)
                 members.append(Member("code", self.word.place, code))
             yield Node(Object(tuple(members)), self.word.place)
-
-
-def renamed(member: Member, name: str) -> Member:
-    """The name of a thing, or of one of several tasks."""
-    is_own, place = member.node.value == name, member.node.place
-    return member if is_own else member._replace(node=Node(name, place, [place.column] * len(name)))

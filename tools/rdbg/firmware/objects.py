@@ -34,11 +34,6 @@ def next_number(reader: Numbers) -> Node:
     return Node(Number(str(value)), token.place)
 
 
-def name_node(token: Token) -> Node:
-    """A name."""
-    return Node(token.text, token.place, token.columns())
-
-
 def queue(name: Node, length: Node, item: Node) -> Tuple[Member, ...]:
     """The members of a queue for which a line of another thing stands."""
     values = (("name", name), ("length", length), ("item", item))
@@ -76,7 +71,7 @@ class ObjectLine:
         if self._word.text == "task":
             token = self._without_count(token)
         self.name = token.text
-        self.members.append(Member("name", token.place, name_node(token)))
+        self.members.append(Member("name", token.place, Node(token.text, token.place)))
 
     def _without_count(self, token: Token) -> Token:
         """The name of a task; that of several, `worker[3]`, without how many they are."""
@@ -108,4 +103,4 @@ class ObjectLine:
         for token in self._reader.each():
             if not token.is_word():
                 raise Refusal(token.place, f"{shown(token.text)} is no name")
-            yield name_node(token)
+            yield Node(token.text, token.place)

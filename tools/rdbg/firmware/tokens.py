@@ -61,10 +61,6 @@ class Token(NamedTuple):
         """The place of a character."""
         return Place(self.place.line, self.place.column + index)
 
-    def columns(self) -> Sequence[int]:
-        """The columns of its characters, in its line."""
-        return range(self.place.column, self.place.column + len(self.text))
-
     def check(self) -> None:
         """Refuses a text that isn't closed, what is too long, and a character that no word has."""
         if self.is_quoted() and not CLOSED.fullmatch(self.text):
