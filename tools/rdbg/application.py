@@ -1,7 +1,8 @@
 """An application as data: what an accepted file says, each thing with its place in the text."""
-from typing import Callable, List, Mapping, NamedTuple, Optional, Sequence, Tuple, TypeVar, Union
+from typing import Any, Callable, Dict, List, Mapping, NamedTuple, Optional, Sequence, Tuple, Union
 
 from rdbg import kinds
+from rdbg.shapes import DEFAULTS, FILE, Key, Shape
 from rdbg.tree import Fault, Node, Number, Object, Part, Place, objects
 from rdbg.wording import counted
 
@@ -133,7 +134,6 @@ class Beside(NamedTuple):
 
 # Whatever an application has that has a name.
 Named = Union[Task, Queue, QueueSet, Stream, Messages, Group]
-Made = TypeVar("Made")
 
 
 class Application(NamedTuple):
@@ -183,28 +183,15 @@ class Application(NamedTuple):
         return [(kind.word, it.name) for kind in kinds.OBJECTS for it in self.of(kind)]
 
 
-def number(owner: Object, key: str, absent: int = 0) -> int:
-    """The number under a key of a file without faults."""
-    node = owner.get(key)
-    return int(node.value.text) if node and isinstance(node.value, Number) else absent
-
-
-def text(owner: Object, key: str) -> str:
-    """The text under a key of a file without faults."""
-    node = owner.get(key)
-    return str(node.value) if node else ""
-
-
-def listed(owner: Object, key: str) -> Tuple[Node, ...]:
-    """The list under a key of a file without faults; empty where there is none."""
-    node = owner.get(key)
-    return node.value if node and isinstance(node.value, tuple) else ()
-
-
-def place(owner: Object) -> Place:
-    """Where a thing is named."""
-    node = owner.get("name")
-    return node.place if node else Place(1, 1)
+# What the things of a kind are made as, of the values of their keys and of their place.
+MADE: Dict[str, Callable[..., Named]] = {
+    kinds.QUEUE.key: Queue,
+    kinds.QUEUE_SET.key: QueueSet,
+    kinds.STREAM.key: Stream,
+    kinds.MESSAGE.key: Messages,
+    kinds.GROUP.key: Group,
+    kinds.TASK.key: Task,
+}
 
 
 def instruction(node: Node) -> Instruction:
@@ -214,39 +201,29 @@ def instruction(node: Node) -> Instruction:
     return Instruction(value, written, node.place, node.part)
 
 
-def task(it: Object) -> Task:
-    """A task of a file without faults."""
-    code = tuple(instruction(node) for node in listed(it, "code"))
-    return Task(text(it, "name"), number(it, "priority"), code, place(it))
+def value_of(key: Key, node: Optional[Node]) -> Any:
+    """What is under a key of a file without faults, and where nothing is, what that stands for."""
+    if key.of is not None:
+        make, shape = MADE[key.name], key.of
+        return tuple(make(*values_of(it, shape), place(it)) for it in objects(node))
+    if node is None:
+        return DEFAULTS[key.name]
+    if isinstance(node.value, tuple):
+        return tuple(instruction(it) if key.holds == "code" else it.value for it in node.value)
+    return int(node.value.text) if isinstance(node.value, Number) else node.value
 
 
-def things(
-    root: Object, kind: kinds.Kind, make: Callable[..., Made], *numbers: str
-) -> Tuple[Made, ...]:
-    """The things of a kind: each is made of its name, of these of its numbers, and of its place."""
-    return tuple(
-        make(text(it, "name"), *(number(it, key) for key in numbers), place(it))
-        for it in objects(root.get(kind.key))
-    )
+def values_of(it: Object, shape: Shape) -> List[Any]:
+    """The values of an object's keys, in the order of its shape."""
+    return [value_of(key, it.get(key.name)) for key in shape.keys]
 
 
-def queue_set(it: Object) -> QueueSet:
-    """A queue set of a file without faults."""
-    members = tuple(str(node.value) for node in listed(it, "members"))
-    return QueueSet(text(it, "name"), number(it, "length"), members, place(it))
+def place(it: Object) -> Place:
+    """Where a thing is named."""
+    node = it.get("name")
+    return node.place if node else Place(1, 1)
 
 
 def application(root: Object) -> Application:
     """The application of a file without faults."""
-    return Application(
-        profile=number(root, "profile"),
-        cores=number(root, "cores"),
-        notes=number(root, "notes", 1),
-        tick=number(root, "tick"),
-        queues=things(root, kinds.QUEUE, Queue, "length", "item"),
-        sets=tuple(queue_set(it) for it in objects(root.get("sets"))),
-        streams=things(root, kinds.STREAM, Stream, "size", "trigger"),
-        messages=things(root, kinds.MESSAGE, Messages, "size"),
-        groups=things(root, kinds.GROUP, Group),
-        tasks=tuple(task(it) for it in objects(root.get("tasks"))),
-    )
+    return Application(*values_of(root, FILE))

@@ -3,13 +3,11 @@ import json
 from typing import Any, Dict, List, Sequence, Tuple
 
 from rdbg.application import Application, Task
-from rdbg.shapes import FILE, Shape
+from rdbg.shapes import DEFAULTS, FILE, Shape
 
 WIDTH = 112
 # A file that is longer isn't read by rdbg.
 MOST_BYTES = 1 << 20
-# Keys that are left out where they have this value.
-DEFAULTS: Dict[str, int] = {"notes": 1, "tick": 0}
 
 
 def pairs(thing: Any, shape: Shape) -> List[Tuple[str, Any]]:

@@ -1,5 +1,5 @@
 """The shape of an application file: one table of the keys of each of its objects."""
-from typing import NamedTuple, Optional, Tuple
+from typing import Dict, NamedTuple, Optional, Tuple
 
 from rdbg import kinds
 from rdbg.wording import by_word
@@ -126,6 +126,8 @@ FILE = Shape(
         objects(kinds.TASK.key, TASK, 1),
     ),
 )
+# Keys that are left out where they have this value.
+DEFAULTS: Dict[str, int] = {"notes": 1, "tick": 0}
 
 # What else a key is called, in small letters, and the key that it is here if it has such a one.
 OTHER_NAMES = by_word(

@@ -2,7 +2,6 @@
 import unittest
 from typing import Any, Dict, List, Tuple
 
-from rdbg.application import listed
 from rdbg.files.source import Source, source
 from rdbg.tree import Node, Object, objects
 from tests.test_make_faults import faults
@@ -226,7 +225,9 @@ class Places(unittest.TestCase):
         """The instructions."""
         root = read(self.TEXT).root
         assert root is not None and isinstance(root.value, Object)
-        return listed(objects(root.value.get("tasks"))[0], "code")
+        code = objects(root.value.get("tasks"))[0].get("code")
+        assert code is not None and isinstance(code.value, tuple)
+        return code.value
 
     def test_of_an_application(self) -> None:
         app = read(self.TEXT).application
