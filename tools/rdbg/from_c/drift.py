@@ -4,7 +4,7 @@ import pathlib
 import re
 from typing import Dict, Iterator, List, Mapping, NamedTuple, Optional, Sequence, Set, Tuple
 
-from rdbg.from_c.calls import CHOICES, NAMES, TEMPLATES, Block, Call, Operand
+from rdbg.from_c.calls import CHOICES, NAMES, TEMPLATES, VALUES, Block, Call, Operand
 from rdbg.from_c.calls import blocks, calls_in, made_by
 from rdbg.from_c.lexer import DIRECTIVE, Piece, pieces
 from rdbg.from_c.lines import SKIP, Line, lines_of, rows_alone
@@ -14,7 +14,12 @@ from rdbg.operands import PATTERN_OF
 from rdbg.tree import Fault, Place
 
 DRIFT = "drift"
-NOUN = {"Q": "object", "K": "task", "T": "block time", "V": "number"}
+NOUN = {
+    **dict.fromkeys(NAMES, "object"),
+    **dict.fromkeys(VALUES, "number"),
+    "K": "task",
+    "T": "block time",
+}
 # The own task, which a script names.
 OWN = "NULL"
 HANDLE = re.compile(r"[&*()]+")
@@ -53,7 +58,7 @@ class Comparing:
         for it in form.operands:
             text = call.argument(it.argument)
             named = self._handles.get(handle(text))
-            choice = CHOICES.get(it.kind, {}).get(text)
+            choice = CHOICES.get(it.kind, {}).get(text.lower())
             plain = handle(text) if it.kind in NAMES else text
             parts.append(it.fixed or choice or (named[0] if named else plain) or it.kind)
         return " ".join(parts)
@@ -95,7 +100,7 @@ class Comparing:
         if operand.kind in NAMES:
             return self._other_thing(handle(text), value.text, noun)
         if operand.kind in CHOICES:
-            choice = operand.fixed or CHOICES[operand.kind].get(text, "")
+            choice = operand.fixed or CHOICES[operand.kind].get(text.lower(), "")
             return f"{text}, which is {choice}" if choice not in ("", value.text) else ""
         if PATTERN_OF["R"].fullmatch(value.text):
             return ""
