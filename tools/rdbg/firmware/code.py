@@ -92,49 +92,16 @@ def without_parentheses(tokens: Sequence[Token]) -> Sequence[Token]:
 
 
 @dataclasses.dataclass(frozen=True)
-class Draft:
-    """An instruction. Labels among its operands are numbers once its script is closed."""
-
-    parts: Tuple[Operand, ...]
-    tokens: Tuple[Token, ...]
-    length = 1
-
-    def uses(self, uses: Uses) -> None:
-        """Takes note of what it uses."""
-        uses.add([part.text for part in self.parts])
-
-    def needs_label(self, labels: Mapping[str, object]) -> bool:
-        """Whether it jumps, and no label stands in its place: then another word is one."""
-        if "L" not in FORM_OF[self.tokens[0].text].symbols:
-            return False
-        names = [part.label.text for part in self.parts if part.label is not None]
-        return not any(name in labels or not LIKE_REGISTER.fullmatch(name) for name in names)
-
-    def node(self) -> Node:
-        """The instruction."""
-        text = " ".join(part.text for part in self.parts)
-        columns = [part.place.column for part in self.parts]
-        spelled = tuple(part.spelled or part.text for part in self.parts)
-        return Node(text, self.tokens[0].place, columns, written(self.tokens), spelled)
-
-
-def label_out_of_place(part: Operand) -> Optional[Token]:
-    """The label that a word is which stands in the place of another."""
-    is_name = NAME.fullmatch(part.text) and not LIKE_REGISTER.fullmatch(part.text)
-    return Token(part.text, part.place) if is_name else None
-
-
-@dataclasses.dataclass(frozen=True)
-class Several:
+class Line:
     """A line that becomes instructions, which are written as in `rdbg.firmware.branches`. They jump
     to `target`, if anywhere, a number once its script is closed; `note` is said behind the line,
     and `cost` of it."""
 
     tokens: Tuple[Token, ...]
     texts: Tuple[str, ...]
-    target: Union[None, Token, Mark, int]
-    note: str
-    cost: str
+    cost: str = "1 move"
+    target: Union[None, Token, Mark, int] = None
+    note: str = ""
 
     @property
     def length(self) -> int:
@@ -171,7 +138,34 @@ class Several:
             yield Node(made, self.tokens[0].place, (), written(self.tokens), (), part)
 
 
-Line = Union[Draft, Several]
+@dataclasses.dataclass(frozen=True)
+class Draft(Line):
+    """An instruction. Labels among its operands are numbers once its script is closed."""
+
+    parts: Tuple[Operand, ...] = ()
+
+    @classmethod
+    def of(cls, tokens: Sequence[Token], parts: Sequence[Operand]) -> "Draft":
+        """The one that is written so, with these parts."""
+        text = " ".join(part.text for part in parts)
+        return cls(tuple(tokens), (text,), parts=tuple(parts))
+
+    def labels(self, known: Mapping[str, object]) -> List[Operand]:
+        """The operands that are labels. Where it jumps, and no label stands in its place, those are
+        which stand in that of another."""
+        labels = [part for part in self.parts if part.is_label]
+        is_there = any(it.text in known or not LIKE_REGISTER.fullmatch(it.text) for it in labels)
+        form = FORM_OF.get(self.tokens[0].text)
+        if is_there or form is None or "L" not in form.symbols:
+            return labels
+        names = (it for it in self.parts[1:] if NAME.fullmatch(it.text))
+        return [it for it in names if not LIKE_REGISTER.fullmatch(it.text)]
+
+    def nodes(self, own: str, spare: Spare, at: int) -> Iterator[Node]:
+        """The instruction."""
+        columns = [part.place.column for part in self.parts]
+        spelled = tuple(part.spelled or part.text for part in self.parts)
+        yield Node(self.texts[0], self.tokens[0].place, columns, written(self.tokens), spelled)
 
 
 class Script:
@@ -221,18 +215,18 @@ class Script:
         """A line that becomes instructions."""
         if isinstance(target, Mark):
             target.is_used = True
-        self._add(Several(tuple(tokens), texts, target, note, cost))
+        self._add(Line(tuple(tokens), texts, cost, target, note))
 
     @property
     def has_waits(self) -> bool:
         """Whether some line waits at an entry that an interrupt may end."""
-        return any(isinstance(it, Several) and it.needs("{ending}") for _, it in self._lines)
+        return any(it.needs("{ending}") for _, it in self._lines)
 
     def fillers(self, queue: str) -> Iterator[Token]:
         """The lines that put something into a queue."""
-        for _, line in self._lines:
-            if isinstance(line, Draft) and [it.text for it in line.parts[1:2]] == [queue]:
-                yield from [line.tokens[0]] if line.tokens[0].text in waits.FILLS else []
+        filling = tuple(f"{word} {queue} " for word in waits.FILLS)
+        lines = (line for _, line in self._lines if f"{line.texts[0]} ".startswith(filling))
+        return (line.tokens[0] for line in lines)
 
     def instruction(self, tokens: Sequence[Token]) -> None:
         """Reads an instruction; where it is refused its word counts. Raises `Stop` at the most."""
@@ -243,12 +237,12 @@ class Script:
         why = why_not(tokens[0].text, parts[1].text, self.semaphores) if parts[1:] else ""
         if why:
             kept.refuse(tokens[0].place, why)
-        self._add(Draft(tuple(parts), tuple(tokens)))
+        self._add(Draft.of(tokens, parts))
         self.refusals += [self._told(refusal, index, tokens) for refusal in kept.refusals]
 
     def placeholder(self, tokens: Sequence[Token]) -> None:
         """Keeps the place of an instruction that is refused."""
-        self._add(Draft((as_written(tokens[0]),), tuple(tokens)))
+        self._add(Draft.of(tokens, [as_written(tokens[0])]))
 
     def _told(self, refusal: Refusal, index: int, tokens: Sequence[Token]) -> Refusal:
         """What is refused of an instruction, with the words that say of which one."""
@@ -294,7 +288,7 @@ class Script:
     def check_spare(self, spare: Spare) -> None:
         """Refuses lines that need what their task has none of."""
         for at, line in self._lines:
-            lacks = line.lacks(spare) if isinstance(line, Several) else ""
+            lacks = line.lacks(spare)
             if lacks:
                 refusal = Refusal(line.tokens[0].place, f"it needs {lacks}")
                 self.refusals.append(self._told(refusal, at, line.tokens))
@@ -302,7 +296,7 @@ class Script:
     def remarks(self, spare: Spare, names: Sequence[str]) -> Iterator[Fault]:
         """What there is to say of lines that look at bits or wait, and aren't refused."""
         for _, line in self._lines:
-            if not isinstance(line, Several) or line.lacks(spare):
+            if line.lacks(spare):
                 continue
             if line.needs("{ending}"):
                 ends = [f"{name}{waits.NAME_END}" for name in names]
@@ -315,33 +309,25 @@ class Script:
     def nodes(self, own: str, spare: Spare) -> Iterator[Node]:
         """The instructions of a task of this name, when the script is closed."""
         for at, line in self._lines:
-            yield from [line.node()] if isinstance(line, Draft) else line.nodes(own, spare, at)
+            yield from line.nodes(own, spare, at)
 
     def _with_numbers(self, line: Line, index: int) -> Line:
         """A line with the number of an instruction in place of each label."""
-        if isinstance(line, Several):
-            number = 0
-            if isinstance(line.target, Mark):
-                # (what is refused of its block is told there)
-                number = min(line.target.at or 0, self.length - 1)
-            elif isinstance(line.target, Token):
-                part = self._target(as_written(line.target), line.target, index, line.tokens)
-                number = int(part.text) if part.text.isdigit() else 0
-            return dataclasses.replace(line, target=number)
-        first, *operands = line.parts
-        labels = [part.label for part in operands]
-        if line.tokens[0].text in FORM_OF and line.needs_label(self._labels):
-            labels = [label_out_of_place(part) for part in operands]
-        pairs = zip(operands, labels)
-        parts = (self._target(part, it, index, line.tokens) for part, it in pairs)
-        return dataclasses.replace(line, parts=(first, *parts))
+        if isinstance(line, Draft):
+            labels = line.labels(self._labels)
+            known = {it: self._target(it, index, line.tokens) for it in labels}
+            return Draft.of(line.tokens, [known.get(part, part) for part in line.parts])
+        number = 0
+        if isinstance(line.target, Mark):
+            # (what is refused of its block is told there)
+            number = min(line.target.at or 0, self.length - 1)
+        elif isinstance(line.target, Token):
+            found = self._target(as_written(line.target), index, line.tokens).text
+            number = int(found) if found.isdigit() else 0
+        return dataclasses.replace(line, target=number)
 
-    def _target(
-        self, part: Operand, label: Optional[Token], index: int, tokens: Sequence[Token]
-    ) -> Operand:
-        """A part of an instruction, where it is a label as the number of its instruction."""
-        if label is None:
-            return part
+    def _target(self, label: Operand, index: int, tokens: Sequence[Token]) -> Operand:
+        """The number of the instruction for a label; the label itself where it names none."""
         name = label.text
         if name in self._labels:
             return Operand(str(self._labels[name][1]), label.place, spelled=name)
@@ -349,7 +335,7 @@ class Script:
         hint = f"; a label has a colon: {name}:" if name in WORDS else near
         message = f"there is no label {shown(name)}{hint}"
         self.refusals.append(self._told(Refusal(label.place, message, "L5 Instr"), index, tokens))
-        return part
+        return label
 
 
 @dataclasses.dataclass(frozen=True)

@@ -1,6 +1,6 @@
 """The operands of instructions in a text in lines, as rdbg reads them, from what is written."""
 import re
-from typing import Callable, Dict, List, NamedTuple, Optional
+from typing import Callable, Dict, List, NamedTuple
 
 from rdbg.firmware.numbers import FOREVER, NAME, NOTHING_NAMED, NUMBER, Numbers
 from rdbg.firmware.tokens import Refusal, Token, shown, written
@@ -22,11 +22,11 @@ JOINING = ("|", "<<")
 
 
 class Operand(NamedTuple):
-    """An operand as rdbg reads it, where it stands, its label, and as it is `spelled`."""
+    """An operand as rdbg reads it, where it stands, whether it is a label, and as `spelled`."""
 
     text: str
     place: Place
-    label: Optional[Token] = None
+    is_label: bool = False
     spelled: str = ""
 
 
@@ -141,8 +141,7 @@ class Operands(Numbers):
     def target(self) -> Operand:
         """The next label, or number of an instruction."""
         operand = self.word()
-        label = self.tokens[self.at - 1] if NAME.fullmatch(operand.text) else None
-        return operand._replace(label=label)
+        return operand._replace(is_label=NAME.fullmatch(operand.text) is not None)
 
     def data(self) -> Operand:
         """All bytes that come: digits, a text in quotes, or consts of a byte each."""
