@@ -1,17 +1,18 @@
 """The scripts of a text in lines: each instruction as rdbg reads it, with numbers for labels. And
 the registers that a task leaves free."""
+import contextlib
 import dataclasses
 import re
 from typing import Dict, Iterator, List, Mapping, NamedTuple, Optional, Sequence, Set, Tuple, Union
 
 from rdbg.digits import is_digits
 from rdbg.firmware import waits
-from rdbg.firmware.blocks import WORDS, Blocks, Mark
+from rdbg.firmware.blocks import LOOP, WORDS, Blocks, Mark
 from rdbg.firmware.branches import Test
 from rdbg.firmware.numbers import NAME, Kept, near_to
 from rdbg.firmware.operands import Operand, Operands, as_written
-from rdbg.firmware.semaphores import Semaphore, why_not
-from rdbg.firmware.tokens import Refusal, Stop, Token, shown, written
+from rdbg.firmware.semaphores import Semaphore, instruction, why_not
+from rdbg.firmware.tokens import Refusal, Stop, Token, shown, without_parentheses, written
 from rdbg.instructions import FORM_OF, WRITES_R1
 from rdbg.operands import PATTERN_OF
 from rdbg.tree import Fault, Member, Node, Object, Part
@@ -77,18 +78,6 @@ def spare(
 MOST_READ = 1000
 # What is no label where a register stands beside it.
 LIKE_REGISTER = re.compile("[rR][0-9]+")
-
-
-def without_parentheses(tokens: Sequence[Token]) -> Sequence[Token]:
-    """The operands of `recv(jobs, max)`. Raises `Refusal` where a parenthesis isn't closed."""
-    depth = 0
-    for index, token in enumerate(tokens if tokens and tokens[0].text == "(" else ()):
-        depth += (token.text == "(") - (token.text == ")")
-        if depth == 0:
-            return tokens[1:index] if index + 1 == len(tokens) else tokens
-    if depth:
-        raise Refusal(tokens[0].place, "this ( isn't closed")
-    return tokens
 
 
 @dataclasses.dataclass(frozen=True)
@@ -217,10 +206,39 @@ class Script:
             target.is_used = True
         self._add(Line(tuple(tokens), texts, cost, target, note))
 
+    @contextlib.contextmanager
+    def counting(self, tokens: Sequence[Token]) -> Iterator[None]:
+        """Has a line that is refused count as an instruction, where it is no `loop`."""
+        known = self.length
+        try:
+            yield
+        except Refusal:
+            if tokens and self.length == known and tokens[0].text != LOOP:
+                self.placeholder(tokens)
+            raise
+
+    def read(self, tokens: Sequence[Token]) -> None:
+        """Reads a line of a block, of a wait or of a semaphore, or an instruction."""
+        if self.blocks.reads(tokens):
+            return
+        if tokens[0].text == waits.WORD:
+            self.add(tokens, *waits.texts_of(tokens, self.kept))
+            return
+        text = instruction(tokens, self.semaphores, self.kept)
+        if text is None:
+            self.instruction(tokens)
+        else:
+            self.add(tokens, (text,))
+
     @property
     def has_waits(self) -> bool:
         """Whether some line waits at an entry that an interrupt may end."""
         return any(it.needs("{ending}") for _, it in self._lines)
+
+    def waits(self) -> Iterator[Token]:
+        """The first words of lines that wait."""
+        firsts = (line.tokens[0] for _, line in self._lines)
+        return (it for it in firsts if it.text == waits.WORD)
 
     def fillers(self, queue: str) -> Iterator[Token]:
         """The lines that put something into a queue."""

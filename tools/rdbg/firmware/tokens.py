@@ -84,6 +84,18 @@ def written(tokens: Sequence[Token]) -> str:
     return "".join(token.gap + token.text for token in tokens)[len(tokens[0].gap) :]
 
 
+def without_parentheses(tokens: Sequence[Token]) -> Sequence[Token]:
+    """The operands of `recv(jobs, max)`. Raises `Refusal` where a parenthesis isn't closed."""
+    depth = 0
+    for index, token in enumerate(tokens if tokens and tokens[0].text == "(" else ()):
+        depth += (token.text == "(") - (token.text == ")")
+        if depth == 0:
+            return tokens[1:index] if index + 1 == len(tokens) else tokens
+    if depth:
+        raise Refusal(tokens[0].place, "this ( isn't closed")
+    return tokens
+
+
 def decoded(content: bytes) -> str:
     """The text of a file. Raises `Refusal` where it isn't UTF-8, `Failure` where it is too long."""
     if len(content) > MOST_BYTES:
