@@ -4,7 +4,8 @@ A form is written as in docs/FORMATS.md: words in small letters stand as they ar
 are fields, which are read by their types. A refusal is no value, but an exception with its name."""
 import dataclasses
 import re
-from typing import Any, Callable, Dict, List, Literal, Optional, Tuple, Union, get_type_hints
+import typing
+from typing import Any, Callable, Dict, List, Literal, NamedTuple, Optional, Tuple, Union
 
 from rdbg.digits import MOST_DIGITS, is_digits
 from rdbg.failure import Failure
@@ -30,8 +31,7 @@ class Unreadable(Failure):
         super().__init__(f"rdbg answered what no reply looks like: '{line[:200]}'")
 
 
-@dataclasses.dataclass(frozen=True)
-class Moved:
+class Moved(NamedTuple):
     """So many moves are done. `how` is said after a run or a way back to a condition, else it is
     empty. `answer` is that of an interrupt, 0 or 1, and none behind other moves."""
 
@@ -45,8 +45,7 @@ class WheelDone:
     """The wheel was taken, or given back."""
 
 
-@dataclasses.dataclass(frozen=True)
-class WatchDone:
+class WatchDone(NamedTuple):
     """A watch was kept, or dropped."""
 
     number: int
@@ -76,8 +75,7 @@ class QueueSet:
     waiters: Tuple[str, ...]
 
 
-@dataclasses.dataclass(frozen=True)
-class Stream:
+class Stream(NamedTuple):
     """A stream buffer, and whom its places name."""
 
     name: str
@@ -89,8 +87,7 @@ class Stream:
     writer: Optional[str]
 
 
-@dataclasses.dataclass(frozen=True)
-class Messages:
+class Messages(NamedTuple):
     """A message buffer. `held` counts four bytes more for each message."""
 
     name: str
@@ -101,8 +98,7 @@ class Messages:
     writer: Optional[str]
 
 
-@dataclasses.dataclass(frozen=True)
-class Wish:
+class Wish(NamedTuple):
     """A task that waits for bits: for all of them or any, which are cleared then or kept."""
 
     task: str
@@ -111,8 +107,7 @@ class Wish:
     clears: bool
 
 
-@dataclasses.dataclass(frozen=True)
-class Group:
+class Group(NamedTuple):
     """An event group, and who waits, in the order of arrival."""
 
     name: str
@@ -120,8 +115,7 @@ class Group:
     waiters: Tuple[Wish, ...]
 
 
-@dataclasses.dataclass(frozen=True)
-class Phase:
+class Phase(NamedTuple):
     """A task's phase: `word` is `run`, `again`, `given`, `wait`, `ended` or `failed`; `place` is
     where it waits, as `recv:jobs`; `deadline` a tick, or none for `max`."""
 
@@ -133,16 +127,14 @@ class Phase:
     cause: Optional[str] = None
 
 
-@dataclasses.dataclass(frozen=True)
-class Note:
+class Note(NamedTuple):
     """A notification entry; its state is `idle`, `waiting` or `received`."""
 
     value: int
     state: str
 
 
-@dataclasses.dataclass(frozen=True)
-class Task:
+class Task(NamedTuple):
     """A task; `core` is none where it is on no core."""
 
     name: str
@@ -163,8 +155,7 @@ class Task:
         return self.phase.word if self.phase.word in ("ended", "failed") else "ready"
 
 
-@dataclasses.dataclass(frozen=True)
-class Cores:
+class Cores(NamedTuple):
     """Who is on each core, who is ready in which order, the tick, and the turn."""
 
     running: Tuple[Optional[str], ...]
@@ -173,8 +164,7 @@ class Cores:
     turn: int
 
 
-@dataclasses.dataclass(frozen=True)
-class Moves:
+class Moves(NamedTuple):
     """How many moves are done, how many `redo` can make again, and of how many of those done a
     record is kept, by which `back` takes them back."""
 
@@ -183,15 +173,13 @@ class Moves:
     kept: int
 
 
-@dataclasses.dataclass(frozen=True)
-class WheelHolder:
+class WheelHolder(NamedTuple):
     """The number of the session that has the wheel."""
 
     session: Optional[int]
 
 
-@dataclasses.dataclass(frozen=True)
-class Watches:
+class Watches(NamedTuple):
     """The numbers of a session's watches, and which of them hold."""
 
     holds: Tuple[Tuple[int, bool], ...]
@@ -337,7 +325,7 @@ REFUSALS: Dict[str, bool] = {
 # By the first word: what lines look like, what is made of their fields, and how each is read.
 BY_WORD: Dict[str, List[Tuple["re.Pattern[str]", Callable[..., Reply], List[Any]]]] = {}
 for _text, _make in FORMS.items():
-    _readers = [READERS.get(it) for it in get_type_hints(_make).values()]
+    _readers = [READERS.get(it) for it in typing.get_type_hints(_make).values()]
     _pattern = re.compile(re.sub(r"[A-Z]+", r"([^ /]+)", _text))
     BY_WORD.setdefault(_text.split(" ")[0], []).append((_pattern, _make, _readers))
 
