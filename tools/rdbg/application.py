@@ -1,8 +1,8 @@
 """An application as data: what an accepted file says, each thing with its place in the text."""
-from typing import Any, Callable, Dict, List, Mapping, NamedTuple, Optional, Sequence, Tuple, Union
+from typing import Any, Dict, List, Mapping, NamedTuple, Optional, Sequence, Tuple, Union
 
 from rdbg import kinds
-from rdbg.shapes import DEFAULTS, FILE, Key, Shape
+from rdbg.shapes import DEFAULTS, FILE, TASK, Key, Shape
 from rdbg.tree import Fault, Node, Number, Object, Part, Place, objects
 from rdbg.wording import counted
 
@@ -48,46 +48,14 @@ class Task(NamedTuple):
     place: Place
 
 
-class Queue(NamedTuple):
-    """A queue of so many items of so many bytes."""
+class Thing(NamedTuple):
+    """An object: its name, its numbers by their keys, where it is named, and of a queue set its
+    members at boot."""
 
     name: str
-    length: int
-    item: int
+    numbers: Tuple[Tuple[str, int], ...]
     place: Place
-
-
-class QueueSet(NamedTuple):
-    """A queue set with room for so many handles, and its members at boot."""
-
-    name: str
-    length: int
-    members: Tuple[str, ...]
-    place: Place
-
-
-class Stream(NamedTuple):
-    """A stream buffer of so many bytes, with its trigger level."""
-
-    name: str
-    size: int
-    trigger: int
-    place: Place
-
-
-class Messages(NamedTuple):
-    """A message buffer of so many bytes."""
-
-    name: str
-    size: int
-    place: Place
-
-
-class Group(NamedTuple):
-    """An event group."""
-
-    name: str
-    place: Place
+    members: Tuple[str, ...] = ()
 
 
 # The word that leaves out all interrupts of a text, of which none has this name.
@@ -133,7 +101,7 @@ class Beside(NamedTuple):
 
 
 # Whatever an application has that has a name.
-Named = Union[Task, Queue, QueueSet, Stream, Messages, Group]
+Named = Union[Task, Thing]
 
 
 class Application(NamedTuple):
@@ -143,11 +111,11 @@ class Application(NamedTuple):
     cores: int
     notes: int
     tick: int
-    queues: Tuple[Queue, ...]
-    sets: Tuple[QueueSet, ...]
-    streams: Tuple[Stream, ...]
-    messages: Tuple[Messages, ...]
-    groups: Tuple[Group, ...]
+    queues: Tuple[Thing, ...]
+    sets: Tuple[Thing, ...]
+    streams: Tuple[Thing, ...]
+    messages: Tuple[Thing, ...]
+    groups: Tuple[Thing, ...]
     tasks: Tuple[Task, ...]
     interrupts: Tuple[Interrupt, ...] = ()
 
@@ -183,17 +151,6 @@ class Application(NamedTuple):
         return [(kind.word, it.name) for kind in kinds.OBJECTS for it in self.of(kind)]
 
 
-# What the things of a kind are made as, of the values of their keys and of their place.
-MADE: Dict[str, Callable[..., Named]] = {
-    kinds.QUEUE.key: Queue,
-    kinds.QUEUE_SET.key: QueueSet,
-    kinds.STREAM.key: Stream,
-    kinds.MESSAGE.key: Messages,
-    kinds.GROUP.key: Group,
-    kinds.TASK.key: Task,
-}
-
-
 def instruction(node: Node) -> Instruction:
     """An instruction of a file without faults."""
     value = str(node.value)
@@ -204,8 +161,7 @@ def instruction(node: Node) -> Instruction:
 def value_of(key: Key, node: Optional[Node]) -> Any:
     """What is under a key of a file without faults, and where nothing is, what that stands for."""
     if key.of is not None:
-        make, shape = MADE[key.name], key.of
-        return tuple(make(*values_of(it, shape), place(it)) for it in objects(node))
+        return tuple(named(it, key.of) for it in objects(node))
     if node is None:
         return DEFAULTS[key.name]
     if isinstance(node.value, tuple):
@@ -213,17 +169,21 @@ def value_of(key: Key, node: Optional[Node]) -> Any:
     return int(node.value.text) if isinstance(node.value, Number) else node.value
 
 
-def values_of(it: Object, shape: Shape) -> List[Any]:
-    """The values of an object's keys, in the order of its shape."""
-    return [value_of(key, it.get(key.name)) for key in shape.keys]
+def values_of(it: Object, shape: Shape) -> Dict[str, Any]:
+    """The values of an object by its keys."""
+    return {key.name: value_of(key, it.get(key.name)) for key in shape.keys}
 
 
-def place(it: Object) -> Place:
-    """Where a thing is named."""
-    node = it.get("name")
-    return node.place if node else Place(1, 1)
+def named(it: Object, shape: Shape) -> Named:
+    """A task or an object."""
+    node, found = it.get("name"), values_of(it, shape)
+    place = node.place if node else Place(1, 1)
+    if shape is TASK:
+        return Task(**found, place=place)
+    name, members = found.pop("name"), found.pop("members", ())
+    return Thing(name, tuple(found.items()), place, members)
 
 
 def application(root: Object) -> Application:
     """The application of a file without faults."""
-    return Application(*values_of(root, FILE))
+    return Application(**values_of(root, FILE))

@@ -1,16 +1,16 @@
 """The text in lines (`.fw`) of an application: what `rdbg.firmware` reads, written to be read."""
 import itertools
 import re
-from typing import Any, Callable, Dict, Iterator, List, NamedTuple, Optional, Sequence, Tuple
+from typing import Callable, Dict, Iterator, List, NamedTuple, Optional, Sequence, Tuple
 
-from rdbg.application import Application, Instruction, Task
+from rdbg import kinds
+from rdbg.application import Application, Instruction, Named, Task
 from rdbg.digits import is_digits
 from rdbg.firmware.branches import Test
 from rdbg.firmware.numbers import FOREVER, LARGEST
 from rdbg.firmware.objects import OBJECTS
 from rdbg.instructions import FORM_OF
 from rdbg.json_layout import pairs, settings
-from rdbg.shapes import FILE
 
 JUMPS = ("jump", "jumpz")
 # What stands for a number while instructions are compared.
@@ -163,7 +163,7 @@ def counted(left: Sequence[Tuple[Task, List[str]]]) -> int:
     return len([*itertools.takewhile(bool, alike)])
 
 
-def object_cells(word: str, thing: Any) -> List[str]:
+def object_cells(word: str, thing: Named) -> List[str]:
     """The parts of the line of an object; its members are one of them."""
     cells = [word, thing.name]
     for key, value in pairs(thing, OBJECTS[word])[1:]:
@@ -183,10 +183,9 @@ def aligned(rows: Sequence[List[str]], first: int) -> List[str]:
 
 def object_lines(app: Application) -> List[str]:
     """The lines of the objects, kind by kind."""
-    kinds = [key.name for key in FILE.keys if key.of is not None and key.name != "tasks"]
-    rows = {name: [object_cells(name[:-1], it) for it in getattr(app, name)] for name in kinds}
-    width = max((len(name) - 1 for name in kinds if rows[name]), default=0)
-    return [line for name in kinds for line in aligned(rows[name], width)]
+    rows = [[object_cells(kind.word, it) for it in app.of(kind)] for kind in kinds.OBJECTS]
+    width = max((len(each[0][0]) for each in rows if each), default=0)
+    return [line for each in rows for line in aligned(each, width)]
 
 
 def text_of(app: Application, is_plain: bool = False) -> str:
