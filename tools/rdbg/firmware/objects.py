@@ -41,7 +41,7 @@ def queue(name: Node, length: Node, item: Node) -> Tuple[Member, ...]:
 
 
 class ObjectLine:
-    """Reads a line of an object or of a task. What is refused of it is kept in `refusals`."""
+    """A line of an object or of a task, read as far as it can be. What is refused of it is kept."""
 
     def __init__(self, tokens: Sequence[Token], kept: Kept) -> None:
         self._word, self._shape = tokens[0], OBJECTS[tokens[0].text]
@@ -50,10 +50,7 @@ class ObjectLine:
         self.members: List[Member] = []
         # How many tasks have the script, where they are several.
         self.count: Optional[int] = None
-
-    def read(self) -> None:
-        """Reads all of it, as far as it can be read."""
-        with self._kept.keeping():
+        with kept.keeping():
             self._name()
             for token in self._reader.each():
                 self._key(token)

@@ -233,13 +233,12 @@ class Reader:
 
     def _thing(self, tokens: Sequence[Token]) -> None:
         """A line of an object or of a task."""
-        word, line = tokens[0], ObjectLine(tokens, self.kept)
+        word = tokens[0]
         if len(self._things[word.text]) == MOST_READ:
             what = OBJECTS[word.text].plural
             message = f"there are {MOST_READ} {what} up to here; the rest isn't read"
             raise Stop(word.place, message, "L3 Limit")
-        line.read()
-        script = None
+        line, script = ObjectLine(tokens, self.kept), None
         if word.text == "task":
             name = line.name if line.count is None else f"{line.name}[{line.count}]"
             label = f"task {name or 'number ' + str(len(self._things['task']))}"
@@ -269,9 +268,8 @@ class Reader:
             if word == "task":
                 self._thing(line)
                 return
-            reader = ObjectLine(line, Kept(self.constants, []))
-            reader.read()
-            self._meant.append(Thing(first, tuple(reader.members)))
+            members = ObjectLine(line, Kept(self.constants, [])).members
+            self._meant.append(Thing(first, tuple(members)))
         elif meant.is_label(tokens, self._targets) and self._script is not None:
             self._script.label(tokens[0])
         elif self._script is not None:
