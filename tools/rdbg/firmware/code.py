@@ -163,6 +163,7 @@ class Script:
     def __init__(self, task: str, kept: Kept, semaphores: Mapping[str, Semaphore]) -> None:
         self.task, self.kept, self.refusals = task, kept, kept.refusals
         self.length, self.blocks, self.semaphores = 0, Blocks(self), semaphores
+        self.spare = Spare(None, None)
         # (each line with the number of its first instruction)
         self._lines: List[Tuple[int, Line]] = []
         self._labels: Dict[str, Tuple[Token, int]] = {}
@@ -303,31 +304,31 @@ class Script:
                 self.refuse(token, f"no instruction stands behind label {shown(token.text)}")
         self._lines = [(at, self._with_numbers(line, at)) for at, line in self._lines]
 
-    def check_spare(self, spare: Spare) -> None:
+    def check_spare(self) -> None:
         """Refuses lines that need what their task has none of."""
         for at, line in self._lines:
-            lacks = line.lacks(spare)
+            lacks = line.lacks(self.spare)
             if lacks:
                 refusal = Refusal(line.tokens[0].place, f"it needs {lacks}")
                 self.refusals.append(self._told(refusal, at, line.tokens))
 
-    def remarks(self, spare: Spare, names: Sequence[str]) -> Iterator[Fault]:
+    def remarks(self, names: Sequence[str]) -> Iterator[Fault]:
         """What there is to say of lines that look at bits or wait, and aren't refused."""
         for _, line in self._lines:
-            if line.lacks(spare):
+            if line.lacks(self.spare):
                 continue
             if line.needs("{ending}"):
                 ends = [f"{name}{waits.NAME_END}" for name in names]
                 yield Fault(line.tokens[0].place, "", waits.remark(line.cost, ends))
             if line.needs("{entry}"):
-                by = f"entry {spare.entry} and {spare.register}"
+                by = f"entry {self.spare.entry} and {self.spare.register}"
                 text = f"note: {line.cost}, by {by}; r0 is another in between, and then as before"
                 yield Fault(line.tokens[0].place, "", text)
 
-    def nodes(self, own: str, spare: Spare) -> Iterator[Node]:
+    def nodes(self, own: str) -> Iterator[Node]:
         """The instructions of a task of this name, when the script is closed."""
         for at, line in self._lines:
-            yield from line.nodes(own, spare, at)
+            yield from line.nodes(own, self.spare, at)
 
     def _with_numbers(self, line: Line, index: int) -> Line:
         """A line with the number of an instruction in place of each label."""
@@ -374,14 +375,14 @@ class Thing:
         numbers = [""] if self.count is None else [str(it) for it in range(self.count)]
         return tuple(self.name() + number for number in numbers)
 
-    def nodes(self, spare: Spare) -> Iterator[Node]:
-        """The thing, or the tasks that it is, as parts of the tree, by what its script leaves."""
+    def nodes(self) -> Iterator[Node]:
+        """The thing, or the tasks that it is, as parts of the tree."""
         for name in self.names():
             members = [
                 it._replace(node=Node(name, it.node.place)) if it.key == "name" else it
                 for it in self.members
             ]
             if self.script is not None:
-                code = Node(tuple(self.script.nodes(name, spare)), self.word.place)
+                code = Node(tuple(self.script.nodes(name)), self.word.place)
                 members.append(Member("code", self.word.place, code))
             yield Node(Object(tuple(members)), self.word.place)

@@ -10,7 +10,7 @@ from rdbg.application import Beside, Interrupt, Text
 from rdbg.checking.faults import faults_of
 from rdbg.failure import Failure
 from rdbg.firmware import blocks, interrupts, meant, semaphores, waits
-from rdbg.firmware.code import MOST_READ, Script, Spare, Thing, Uses, spare
+from rdbg.firmware.code import MOST_READ, Script, Thing, Uses, spare
 from rdbg.firmware.numbers import Constants, Kept, Numbers, near_to
 from rdbg.firmware.objects import OBJECTS, SETTINGS, ObjectLine, form_of, next_number, queue
 from rdbg.firmware.tokens import MOST_TOKENS, Refusal, Scanner, Stop, Token, decoded, shown, written
@@ -25,7 +25,6 @@ CONST = ("const", "#define")
 SET_KEYS = ("length", "members")
 OF_SCRIPTS = frozenset((*FORM_OF, *blocks.WORDS, semaphores.GIVE, waits.WORD))
 TOP = Place(1, 1)
-NOTHING = Spare(None, None)
 
 
 def is_const(tokens: Sequence[Token]) -> bool:
@@ -90,7 +89,6 @@ class Reader:
         self._check_constants()
         self._check_sets()
         self._check_never()
-        self._check_interrupts()
         return self._tree()
 
     def _lines(self, text: str) -> List[List[Token]]:
@@ -302,13 +300,9 @@ class Reader:
         for at, it in enumerate(self._interrupts):
             self.refusals += names.faults(it, self._interrupts[:at])
         profile = self._numbers.get("profile")
-        is_needed = self._interrupts or self._has_endings()
+        is_needed = self._interrupts or self._endings
         if is_needed and profile is not None and profile.node.value == Number("1"):
             self.kept.refuse(profile.node.place, "profile 1 has no interrupts: profile 2 has")
-
-    def _has_endings(self) -> bool:
-        """Whether some wait may be ended by an interrupt."""
-        return any(script.has_waits for _, script in self.scripts())
 
     def scripts(self) -> List[Tuple[Thing, Script]]:
         """The tasks, with their scripts."""
@@ -323,24 +317,22 @@ class Reader:
         those = (it for it in self.scripts() if it[0].count is not None)
         return {at for it, script in those for at in (it.word.place.line, *script.lines())}
 
-    def _spares(self) -> Dict[int, Spare]:
-        """What each task doesn't use; its script is closed."""
+    def _close(self) -> None:
+        """Closes the scripts, once it is known what each task doesn't use."""
         for _, script in self.scripts():
             script.close()
         uses = [script.uses() for _, script in self.scripts()]
         uses.append(Uses())
         for call in (call for it in self._interrupts for call in it.calls):
             uses[-1].tell(call.words)
-        found: Dict[int, Spare] = {}
         for (task, script), own in zip(self.scripts(), uses):
             names = task.names()
-            free = spare(names, own, uses, self._entries(), script.has_waits)
-            found[id(task)] = free
-            script.check_spare(free)
-            self.remarks += script.remarks(free, names)
-            if free.ending is not None:
-                self._endings += [waits.interrupt(name, free.ending) for name in names]
-        return found
+            script.spare = spare(names, own, uses, self._entries(), script.has_waits)
+            script.check_spare()
+            self.remarks += script.remarks(names)
+            ending = script.spare.ending
+            if ending is not None:
+                self._endings += [waits.interrupt(name, ending) for name in names]
 
     def _entries(self) -> int:
         """How many notification entries each task has."""
@@ -352,8 +344,9 @@ class Reader:
             others = self._things[thing.word.text]
             if thing.name() not in [other.name() for other in others]:
                 others.append(thing)
-        spares = self._spares()
-        number = Number("2" if self._interrupts or self._has_endings() else "1")
+        self._close()
+        self._check_interrupts()
+        number = Number("2" if self._interrupts or self._endings else "1")
         profile = Member("profile", TOP, Node(number, TOP))
         numbers = {"profile": profile, **self._numbers}
         members: List[Member] = []
@@ -363,8 +356,7 @@ class Reader:
                 members.append(numbers[key.name])
             elif things:
                 place = things[0].word.place
-                nodes = (it.nodes(spares.get(id(it), NOTHING)) for it in things)
-                tree = Node(tuple(itertools.chain.from_iterable(nodes)), place)
+                tree = Node(tuple(node for it in things for node in it.nodes()), place)
                 members.append(Member(key.name, place, tree))
         return Node(Object(tuple(members)), TOP)
 
