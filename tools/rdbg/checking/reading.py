@@ -193,10 +193,8 @@ class Reader:
 
     def another_order(self, order: Dict[int, int]) -> str:
         """What to say of words that stand in another order, of which some may be missing."""
-        parts = [
-            self.spelled[order[at]] if at in order else symbol
-            for at, symbol in enumerate(self.symbols)
-        ]
+        symbols = enumerate(self.symbols)
+        parts = [self.spelled[order[at]] if at in order else symbol for at, symbol in symbols]
         line = " ".join([self.form.word, *parts])
         missing = [self.described(at) for at in range(len(parts)) if at not in order]
         if not missing:

@@ -292,10 +292,8 @@ class Reader:
 
     def _check_interrupts(self) -> None:
         """Refuses interrupts that name what isn't there, and a profile that has none."""
-        tasks, queues = (
-            [name for thing in self._things[word] for name in thing.names()]
-            for word in ("task", "queue")
-        )
+        tasks = [name for thing in self._things["task"] for name in thing.names()]
+        queues = [thing.name() for thing in self._things["queue"]]
         names = interrupts.Names(tasks, queues, self._entries(), self._refused_interrupts)
         for at, it in enumerate(self._interrupts):
             self.refusals += names.faults(it, self._interrupts[:at])
