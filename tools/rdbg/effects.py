@@ -3,9 +3,9 @@ import dataclasses
 from typing import Callable, Dict, Iterator, List, NamedTuple, Optional, Sequence, Tuple
 
 from rdbg import replies
-from rdbg.by_hand import INTERRUPT, ByHand, edit_of, interrupt_of
+from rdbg.by_hand import INTERRUPT, ByHand, changed_objects, edit_of, interrupt_of
 from rdbg.instructions import WRITES_R1
-from rdbg.looks import Look, Object, content_of, hexadecimal, holding, time_of
+from rdbg.looks import Look, Object, hexadecimal, holding, time_of
 
 # (instructions that don't call the kernel, so that r0 is no answer of theirs)
 LOCAL = ("set", "add", "move", "data", "pack", "unpack", "jump", "jumpz", "end")
@@ -148,11 +148,9 @@ def change_of(was: Object, now: Object) -> str:
 
 def holdings(before: Look, after: Look) -> Iterator[Effect]:
     """The objects that hold something else now."""
-    for key, now in after.objects.items():
-        was = before.objects.get(key)
-        # (a reply that says the same is mostly the same value)
-        if was is not now and was is not None and content_of(was) != content_of(now):
-            yield Effect("holds", now.name, None, change_of(was, now))
+    for key in changed_objects(before, after):
+        was, now = before.objects[key], after.objects[key]
+        yield Effect("holds", now.name, None, change_of(was, now))
 
 
 def notes(before: Look, after: Look) -> Iterator[Effect]:
