@@ -44,7 +44,7 @@ class Block:
 
     word: Token
     head: int
-    behind: Mark
+    behind: Mark = dataclasses.field(default_factory=Mark)
     otherwise: Optional[Mark] = None
     inner: int = 0
     is_refused: bool = False
@@ -110,35 +110,31 @@ class Blocks:
         """Refuses what stands behind a word that stands alone."""
         self._end_of_line(tokens[0].text, tokens[1:])
 
-    def _begin(self, word: Token, behind: Mark, otherwise: Optional[Mark] = None) -> None:
-        """Opens a block."""
-        self._open.append(Block(word, self._script.length, behind, otherwise))
-
     def _loop(self, tokens: Sequence[Token]) -> None:
-        self._begin(tokens[0], Mark())
+        self._open.append(Block(tokens[0], self._script.length))
         self._alone(tokens)
 
     def _while(self, tokens: Sequence[Token]) -> None:
-        behind = Mark()
-        self._begin(tokens[0], behind)
+        block = Block(tokens[0], self._script.length)
+        self._open.append(block)
         test, rest = self._test(tokens)
         self._end_of_line(WHILE, rest)
-        self._script.jump(tokens, test.turned(), behind)
+        self._script.add(tokens, *test.turned().jump(), block.behind)
 
     def _if(self, tokens: Sequence[Token]) -> None:
         words = [token.text for token in tokens]
         is_block = not any(it in words for it in (*GOTO, BREAK, CONTINUE))
         otherwise = Mark()
         if is_block:
-            self._begin(tokens[0], Mark(), otherwise)
+            self._open.append(Block(tokens[0], self._script.length, otherwise=otherwise))
         test, rest = self._test(tokens)
         if not rest and is_block:
-            self._script.jump(tokens, test.turned(), otherwise)
+            self._script.add(tokens, *test.turned().jump(), otherwise)
             self._open[-1].inner = self._script.length
         elif rest and rest[0].text in GOTO and len(rest) == 2 and rest[1].is_word():
-            self._script.jump(tokens, test, rest[1])
+            self._script.add(tokens, *test.jump(), rest[1])
         elif rest and rest[0].text in (BREAK, CONTINUE) and len(rest) == 1:
-            self._script.jump(tokens, test, self._of_loop(rest[0]))
+            self._script.add(tokens, *test.jump(), self._of_loop(rest[0]))
         else:
             self._end_of_line(IF, (rest or tokens)[-1:], "has no place here")
 
@@ -158,8 +154,7 @@ class Blocks:
 
     def _leave(self, tokens: Sequence[Token]) -> None:
         self._alone(tokens)
-        target = self._of_loop(tokens[0])
-        self._script.add(tokens, JUMP, target=target)
+        self._script.add(tokens, JUMP, target=self._of_loop(tokens[0]))
 
     def _else(self, tokens: Sequence[Token]) -> None:
         if tokens[1:] and tokens[1].text == IF:

@@ -8,7 +8,6 @@ from typing import Dict, Iterator, List, Mapping, NamedTuple, Optional, Sequence
 from rdbg.digits import is_digits
 from rdbg.firmware import waits
 from rdbg.firmware.blocks import LOOP, WORDS, Blocks, Mark
-from rdbg.firmware.branches import Test
 from rdbg.firmware.numbers import NAME, Kept, near_to
 from rdbg.firmware.operands import Operand, Operands, as_written
 from rdbg.firmware.semaphores import Semaphore, instruction, why_not
@@ -189,10 +188,6 @@ class Script:
             raise Stop(line.tokens[0].place, message, "L3 Limit")
         self._lines.append((self.length, line))
         self.length += line.length
-
-    def jump(self, tokens: Sequence[Token], test: Test, target: Union[Token, Mark]) -> None:
-        """A line that jumps where a test is met."""
-        self.add(tokens, *test.jump(), target)
 
     def add(
         self,
