@@ -3,7 +3,7 @@
 A form is written as in docs/CALLS.md: its word, then the symbols of its operands. What an operand
 can be stands in `rdbg.operands`."""
 import itertools
-from typing import Dict, NamedTuple, Optional, Tuple
+from typing import Dict, NamedTuple, Tuple
 
 from rdbg.operands import KIND_OF
 from rdbg.wording import rows
@@ -141,15 +141,9 @@ GIVEN: Dict[str, str] = {
     "xTaskNotifyStateClear(K)": "nclear K I=0",
     "ulTaskNotifyValueClear(K,V)": "vclear K I=0 V",
 }
-# Those that write r1, too.
+# Instructions that write r1, too.
 WRITES_R1 = ("query", "nwait")
-
-
-def form_of(word: str) -> Optional[InstructionForm]:
-    """The form of the instruction with this word, or none."""
-    return FORM_OF.get(word)
-
-
-def is_final(word: str) -> bool:
-    """Whether a script can end with this instruction: it never goes on behind it."""
-    return word in ("end", "jump")
+# Those with which a script can end, since it never goes on behind them.
+FINAL = ("end", "jump")
+# The form of the instruction with a word, or none.
+form_of = FORM_OF.get

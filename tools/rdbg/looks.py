@@ -68,16 +68,9 @@ class Look:
     def of(cls, place: int, answers: Sequence[replies.Reply]) -> "Look":
         """The look that the replies to `Names.lines` make, at a place that is known. Raises
         `Unreadable` where one of them is none of these."""
-        tasks: Dict[str, replies.Task] = {}
-        objects: Dict[Key, Object] = {}
-        cores: Optional[replies.Cores] = None
-        for answer in answers:
-            if isinstance(answer, replies.Task):
-                tasks[answer.name] = answer
-            elif isinstance(answer, OBJECTS):
-                objects[KINDS[type(answer)], answer.name] = answer
-            elif isinstance(answer, replies.Cores):
-                cores = answer
+        tasks = {it.name: it for it in answers if isinstance(it, replies.Task)}
+        objects = {key_of(it): it for it in answers if isinstance(it, OBJECTS)}
+        cores = next((it for it in answers if isinstance(it, replies.Cores)), None)
         if cores is None:
             raise replies.Unreadable(str(answers))
         return cls(place, cores, tasks, objects)
