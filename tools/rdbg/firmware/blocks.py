@@ -142,7 +142,7 @@ class Blocks:
         """The test behind the first word of a line, and what stands behind it."""
         if len(tokens) < 2:
             raise Refusal(tokens[0].place, f"{FORMS[tokens[0].text]}: there is no test")
-        tests = Tests(split(tokens[1:]), self._script.kept)
+        tests = Tests([*split(tokens[1:])], self._script.kept)
         return tests.test(), tests.tokens[tests.at :]
 
     def _of_loop(self, word: Token) -> Mark:

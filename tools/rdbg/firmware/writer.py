@@ -110,41 +110,37 @@ def instruction_text(instruction: Instruction) -> str:
 Line = Tuple[int, str, Optional[int]]
 
 
-def lines_of(task: Task, has_ifs: bool) -> List[Line]:
+def lines_of(task: Task, has_ifs: bool) -> Iterator[Line]:
     """The lines of a script: its first instruction, its text, and where it jumps, of each."""
     code = [it.text for it in task.code]
-    found: List[Line] = []
     at = 0
     while at < len(code):
         ifs = ifs_at(code, at, task.name) if has_ifs else ()
         several = max(ifs, key=lambda it: it.length, default=None)
         if several is not None:
             text = f"if {text_of_test(several.test)} goto {label(str(several.target))}"
-            found.append((at, text, several.target))
+            yield at, text, several.target
             at += several.length
             continue
         words = code[at].split(" ")
         symbols = FORM_OF[words[0]].symbols
         jumps = [int(word) for symbol, word in zip(symbols, words[1:]) if symbol == "L"]
-        found.append((at, instruction_text(task.code[at]), jumps[0] if jumps else None))
+        yield at, instruction_text(task.code[at]), jumps[0] if jumps else None
         at += 1
-    return found
 
 
-def script_lines(task: Task, has_ifs: bool) -> List[str]:
+def script_lines(task: Task, has_ifs: bool) -> Iterator[str]:
     """The lines of a script, with labels."""
-    lines = lines_of(task, has_ifs)
+    lines = [*lines_of(task, has_ifs)]
     labelled = {target for _, _, target in lines if target is not None}
-    found: List[str] = []
     for number, text, _ in lines:
-        found += [f"{label(str(number))}:"] if number in labelled else []
-        found.append(INDENT + text)
-    return found
+        yield from [f"{label(str(number))}:"] if number in labelled else []
+        yield INDENT + text
 
 
 def task_blocks(app: Application, is_plain: bool) -> Iterator[List[str]]:
     """The lines of each task; of several with one script, whose names are counted from 0, once."""
-    left = [(it, script_lines(it, not is_plain)) for it in app.tasks]
+    left = [(it, [*script_lines(it, not is_plain)]) for it in app.tasks]
     while left:
         task, script = left[0]
         count = 0 if is_plain else counted(left)
@@ -196,12 +192,10 @@ def text_of(app: Application, is_plain: bool = False) -> str:
     return "\n\n".join("\n".join(block) for block in blocks if block) + "\n"
 
 
-def jumps_of(app: Application) -> List[str]:
+def jumps_of(app: Application) -> Iterator[str]:
     """The tasks of which jumps come back with labels, as no JSON has blocks, with their numbers."""
-    found: List[str] = []
     for task in app.tasks:
         ends = [(at, text) for at, text, target in lines_of(task, True) if target is not None]
         numbers = [str(at) for at, text in ends if not text.startswith("if ")]
         if numbers:
-            found.append(f"{task.name} {', '.join(numbers)}")
-    return found
+            yield f"{task.name} {', '.join(numbers)}"
