@@ -112,7 +112,7 @@ Line = Tuple[int, str, Optional[int]]
 
 def lines_of(task: Task, has_ifs: bool) -> Iterator[Line]:
     """The lines of a script: its first instruction, its text, and where it jumps, of each."""
-    code = [it.text for it in task.code]
+    code = [" ".join(it.words()) for it in task.code]
     at = 0
     while at < len(code):
         ifs = ifs_at(code, at, task.name) if has_ifs else ()
