@@ -133,11 +133,10 @@ class Scanner:
         at, gap = 0, ""
         while at < len(line) and len(tokens) <= MOST_TOKENS:
             if self._comment is not None:
-                end = line.find("*/", at) + 2
-                self._comment = None if end > 1 else self._comment
-                end = end if end > 1 else len(line)
-                self._keep(number, line[at:end])
-                at, gap = end, " "
+                before, closed, _ = line[at:].partition("*/")
+                self._comment = None if closed else self._comment
+                self._keep(number, before + closed)
+                at, gap = at + len(before + closed), " "
                 continue
             found = PIECE.match(line, at)
             assert found is not None, "each character begins a piece"

@@ -29,8 +29,8 @@ class Line(NamedTuple):
         return self.place.line
 
 
-def bodies(piece: Piece) -> Iterator[Line]:
-    """The lines of a model in a comment, if it has any."""
+def bodies(piece: Piece, alone: Set[int]) -> Iterator[Line]:
+    """The lines of a model in a comment, if it has any, of which these rows have nothing else."""
     mark = MARK.match(piece.text)
     if mark is None:
         return
@@ -43,7 +43,7 @@ def bodies(piece: Piece) -> Iterator[Line]:
         column = begin + (piece.place.column if number == 0 else 1)
         if body.strip():
             place = Place(piece.place.line + number, column)
-            yield Line(body.strip(), place, mark[1] or "", False)
+            yield Line(body.strip(), place, mark[1] or "", place.line in alone)
 
 
 def rows_alone(found: Sequence[Piece]) -> Set[int]:
@@ -56,8 +56,7 @@ def rows_alone(found: Sequence[Piece]) -> Set[int]:
 def lines_of(found: Sequence[Piece]) -> List[Line]:
     """The lines of a model in a source."""
     alone = rows_alone(found)
-    said = [line for it in found if it.kind == COMMENT for line in bodies(it)]
-    return [it._replace(is_alone=it.number in alone) for it in said]
+    return [line for it in found if it.kind == COMMENT for line in bodies(it, alone)]
 
 
 def without_model(piece: Match[str]) -> str:
