@@ -181,6 +181,9 @@ class Reads(unittest.TestCase):
             told = f'4:6: task t, instruction 0: "data {name}": {said}'
             self.assertEqual([told], faults(wrong.encode()))
 
+    def test_a_semicolon_alone_says_nothing(self) -> None:
+        self.assertEqual([], faults(b"cores 1\n;\ntask t priority 1\nend;\n;\n"))
+
     def test_comments(self) -> None:
         lines = ["// one", "# two", "/* three", "recv jobs 5", "*/ recv jobs 0 /**/ // four"]
         lines += ["count jobs# five /*"]

@@ -86,6 +86,11 @@ class Blocks:
             raise
         return True
 
+    def fill(self) -> None:
+        """Takes note of a line that stands in a block, and is of no script."""
+        for block in self._open[-1:]:
+            block.inner = -1
+
     def close_all(self) -> None:
         """Refuses blocks that are open at the end, and those behind which nothing stands."""
         for block in self._open:

@@ -174,6 +174,8 @@ class Reader:
     def _structure(self, tokens: Sequence[Token]) -> None:
         """Reads a line that is of no script. The first fault of it counts."""
         known = len(self.refusals)
+        if self._script is not None:
+            self._script.blocks.fill()
         with self.kept.keeping():
             READERS.get(tokens[0].text, Reader._unknown)(self, tokens)
         del self.refusals[known + 1 :]
