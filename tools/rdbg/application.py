@@ -1,7 +1,8 @@
 """An application as data: what an accepted file says, each thing with its place in the text."""
-from typing import Callable, List, Mapping, NamedTuple, Optional, Sequence, Tuple, TypeVar, Union
+from typing import Any, Dict, List, Mapping, NamedTuple, Optional, Sequence, Tuple, Union
 
 from rdbg import kinds
+from rdbg.shapes import DEFAULTS, FILE, TASK, Key, Shape
 from rdbg.tree import Fault, Node, Number, Object, Part, Place, objects
 from rdbg.wording import counted
 
@@ -47,46 +48,14 @@ class Task(NamedTuple):
     place: Place
 
 
-class Queue(NamedTuple):
-    """A queue of so many items of so many bytes."""
+class Thing(NamedTuple):
+    """An object: its name, its numbers by their keys, where it is named, and of a queue set its
+    members at boot."""
 
     name: str
-    length: int
-    item: int
+    numbers: Tuple[Tuple[str, int], ...]
     place: Place
-
-
-class QueueSet(NamedTuple):
-    """A queue set with room for so many handles, and its members at boot."""
-
-    name: str
-    length: int
-    members: Tuple[str, ...]
-    place: Place
-
-
-class Stream(NamedTuple):
-    """A stream buffer of so many bytes, with its trigger level."""
-
-    name: str
-    size: int
-    trigger: int
-    place: Place
-
-
-class Messages(NamedTuple):
-    """A message buffer of so many bytes."""
-
-    name: str
-    size: int
-    place: Place
-
-
-class Group(NamedTuple):
-    """An event group."""
-
-    name: str
-    place: Place
+    members: Tuple[str, ...] = ()
 
 
 # The word that leaves out all interrupts of a text, of which none has this name.
@@ -132,8 +101,7 @@ class Beside(NamedTuple):
 
 
 # Whatever an application has that has a name.
-Named = Union[Task, Queue, QueueSet, Stream, Messages, Group]
-Made = TypeVar("Made")
+Named = Union[Task, Thing]
 
 
 class Application(NamedTuple):
@@ -143,11 +111,11 @@ class Application(NamedTuple):
     cores: int
     notes: int
     tick: int
-    queues: Tuple[Queue, ...]
-    sets: Tuple[QueueSet, ...]
-    streams: Tuple[Stream, ...]
-    messages: Tuple[Messages, ...]
-    groups: Tuple[Group, ...]
+    queues: Tuple[Thing, ...]
+    sets: Tuple[Thing, ...]
+    streams: Tuple[Thing, ...]
+    messages: Tuple[Thing, ...]
+    groups: Tuple[Thing, ...]
     tasks: Tuple[Task, ...]
     interrupts: Tuple[Interrupt, ...] = ()
 
@@ -183,30 +151,6 @@ class Application(NamedTuple):
         return [(kind.word, it.name) for kind in kinds.OBJECTS for it in self.of(kind)]
 
 
-def number(owner: Object, key: str, absent: int = 0) -> int:
-    """The number under a key of a file without faults."""
-    node = owner.get(key)
-    return int(node.value.text) if node and isinstance(node.value, Number) else absent
-
-
-def text(owner: Object, key: str) -> str:
-    """The text under a key of a file without faults."""
-    node = owner.get(key)
-    return str(node.value) if node else ""
-
-
-def listed(owner: Object, key: str) -> Tuple[Node, ...]:
-    """The list under a key of a file without faults; empty where there is none."""
-    node = owner.get(key)
-    return node.value if node and isinstance(node.value, tuple) else ()
-
-
-def place(owner: Object) -> Place:
-    """Where a thing is named."""
-    node = owner.get("name")
-    return node.place if node else Place(1, 1)
-
-
 def instruction(node: Node) -> Instruction:
     """An instruction of a file without faults."""
     value = str(node.value)
@@ -214,39 +158,32 @@ def instruction(node: Node) -> Instruction:
     return Instruction(value, written, node.place, node.part)
 
 
-def task(it: Object) -> Task:
-    """A task of a file without faults."""
-    code = tuple(instruction(node) for node in listed(it, "code"))
-    return Task(text(it, "name"), number(it, "priority"), code, place(it))
+def value_of(key: Key, node: Optional[Node]) -> Any:
+    """What is under a key of a file without faults, and where nothing is, what that stands for."""
+    if key.of is not None:
+        return tuple(named(it, key.of) for it in objects(node))
+    if node is None:
+        return DEFAULTS[key.name]
+    if isinstance(node.value, tuple):
+        return tuple(instruction(it) if key.holds == "code" else it.value for it in node.value)
+    return int(node.value.text) if isinstance(node.value, Number) else node.value
 
 
-def things(
-    root: Object, kind: kinds.Kind, make: Callable[..., Made], *numbers: str
-) -> Tuple[Made, ...]:
-    """The things of a kind: each is made of its name, of these of its numbers, and of its place."""
-    return tuple(
-        make(text(it, "name"), *(number(it, key) for key in numbers), place(it))
-        for it in objects(root.get(kind.key))
-    )
+def values_of(it: Object, shape: Shape) -> Dict[str, Any]:
+    """The values of an object by its keys."""
+    return {key.name: value_of(key, it.get(key.name)) for key in shape.keys}
 
 
-def queue_set(it: Object) -> QueueSet:
-    """A queue set of a file without faults."""
-    members = tuple(str(node.value) for node in listed(it, "members"))
-    return QueueSet(text(it, "name"), number(it, "length"), members, place(it))
+def named(it: Object, shape: Shape) -> Named:
+    """A task or an object."""
+    node, found = it.get("name"), values_of(it, shape)
+    place = node.place if node else Place(1, 1)
+    if shape is TASK:
+        return Task(**found, place=place)
+    name, members = found.pop("name"), found.pop("members", ())
+    return Thing(name, tuple(found.items()), place, members)
 
 
 def application(root: Object) -> Application:
     """The application of a file without faults."""
-    return Application(
-        profile=number(root, "profile"),
-        cores=number(root, "cores"),
-        notes=number(root, "notes", 1),
-        tick=number(root, "tick"),
-        queues=things(root, kinds.QUEUE, Queue, "length", "item"),
-        sets=tuple(queue_set(it) for it in objects(root.get("sets"))),
-        streams=things(root, kinds.STREAM, Stream, "size", "trigger"),
-        messages=things(root, kinds.MESSAGE, Messages, "size"),
-        groups=things(root, kinds.GROUP, Group),
-        tasks=tuple(task(it) for it in objects(root.get("tasks"))),
-    )
+    return Application(**values_of(root, FILE))

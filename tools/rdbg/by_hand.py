@@ -33,7 +33,9 @@ def changes(was: Sequence[Value], now: Sequence[Value]) -> List[Tuple[int, Value
 def changed_objects(before: Look, after: Look) -> List[Key]:
     """The objects that hold something else in the second look."""
     there = ((key, before.objects.get(key, it), it) for key, it in after.objects.items())
-    return [key for key, was, now in there if content_of(was) != content_of(now)]
+    # (a reply that says the same is mostly the same value)
+    others = ((key, was, now) for key, was, now in there if was is not now)
+    return [key for key, was, now in others if content_of(was) != content_of(now)]
 
 
 def edit_of(before: Look, after: Look) -> Optional[str]:

@@ -5,17 +5,17 @@ started by threads that are there as long as their process is: its main thread, 
 alone."""
 import functools
 import os
-import queue
 import signal
 import subprocess
 import threading
-from typing import IO, Callable, Optional, Sequence, Tuple, Union
+from typing import IO, TYPE_CHECKING, Callable, Sequence, Union
 
 from rdbg.ending import ENDING, STARTED
 
+if TYPE_CHECKING:
+    import concurrent.futures
+
 Stream = Union[None, int, IO[bytes]]
-Begin = Callable[[], "subprocess.Popen[bytes]"]
-Begun = Union["subprocess.Popen[bytes]", BaseException]
 # What is asked of the system: this signal, once who started it has gone.
 PR_SET_PDEATHSIG = 1
 # What a process that is made of this one takes over, which a program shouldn't have.
@@ -54,38 +54,12 @@ def become(parent: int, number: int, ignored: Sequence[int]) -> None:
     bind(parent, number)
 
 
-class Starter:
-    """A thread that starts processes for the threads that end before their process does."""
+@functools.lru_cache(maxsize=None)
+def starter(process: int) -> "concurrent.futures.Executor":
+    """The thread of this process that starts others for threads that end before those do."""
+    import concurrent.futures
 
-    def __init__(self) -> None:
-        self._guard = threading.Lock()
-        self._thread: Optional[threading.Thread] = None
-        self._asked: "queue.SimpleQueue[Tuple[Begin, queue.SimpleQueue[Begun]]]"
-
-    def start(self, begin: Begin) -> "subprocess.Popen[bytes]":
-        """Starts a process. Raises what that raises."""
-        answer: "queue.SimpleQueue[Begun]" = queue.SimpleQueue()
-        with self._guard:
-            if self._thread is None or not self._thread.is_alive():
-                self._asked = queue.SimpleQueue()
-                self._thread = threading.Thread(target=self._serve, daemon=True)
-                self._thread.start()
-            self._asked.put((begin, answer))
-        made = answer.get()
-        if isinstance(made, BaseException):
-            raise made
-        return made
-
-    def _serve(self) -> None:
-        while True:
-            begin, answer = self._asked.get()
-            try:
-                answer.put(begin())
-            except BaseException as error:
-                answer.put(error)
-
-
-STARTER = Starter()
+    return concurrent.futures.ThreadPoolExecutor(1)
 
 
 def start(
@@ -115,6 +89,6 @@ def start(
 
     is_main = threading.current_thread() is threading.main_thread()
     with ENDING.held():
-        process = begin() if is_main else STARTER.start(begin)
+        process = begin() if is_main else starter(os.getpid()).submit(begin).result()
         STARTED[process] = number
     return process

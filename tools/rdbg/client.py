@@ -49,19 +49,6 @@ def said_by(words: Sequence[str], errors: Optional[int]) -> Tuple[bytes, int]:
     return said.strip(), process.returncode
 
 
-@functools.lru_cache(maxsize=None)
-def built_by(wrapper: str, words: str, name: str) -> str:
-    """The program of a name, `rdbg` or `rdreach`, that `./rdbg` starts after these words of its
-    own, which it builds where it has to. Raises `Failure` where it can't."""
-    asked = [wrapper, *words.split(), "--build", *([] if name == "rdbg" else [name])]
-    with trying(f"start {wrapper}"):
-        path, status = said_by(asked, None)
-    os.environ["RDBG_SAID"] = "1"  # (that it isn't proved, which is said once)
-    if status or not path:
-        raise Failure("there is no program to start")
-    return os.fsdecode(path)
-
-
 def program() -> str:
     """The program that a session of its own starts: the one that the environment names, or that of
     `./rdbg`, which says there where it is itself, and what it was given before the companion."""
@@ -74,10 +61,18 @@ def wrapper() -> Tuple[str, List[str]]:
     return os.environ.get("RDBG_WRAPPER", str(WRAPPER)), words.split()
 
 
+@functools.lru_cache(maxsize=None)
 def built_by_wrapper(name: str) -> str:
-    """The program of a name that `./rdbg` starts, as it was called itself."""
+    """The program of a name, `rdbg` or `rdreach`, that `./rdbg` starts as it was called itself,
+    which it builds where it has to. Raises `Failure` where it can't."""
     file, words = wrapper()
-    return built_by(file, " ".join(words), name)
+    with trying(f"start {file}"):
+        asked = [file, *words, "--build", *([] if name == "rdbg" else [name])]
+        path, status = said_by(asked, None)
+    os.environ["RDBG_SAID"] = "1"  # (that it isn't proved, which is said once)
+    if status or not path:
+        raise Failure("there is no program to start")
+    return os.fsdecode(path)
 
 
 class Incoming:
@@ -263,10 +258,6 @@ class Session:
             size += len(line) + 1
         if batch:
             yield from self._exchange(batch)
-
-    def ask_all(self, lines: Iterable[str]) -> List[replies.Reply]:
-        """The replies to lines as values. Raises the first `Refused` when all are answered."""
-        return [replies.read(reply) for reply in list(self.tell_all(lines))]
 
     def _exchange(self, batch: Sequence[str]) -> Iterator[str]:
         self._catch_up()

@@ -3,9 +3,9 @@ import dataclasses
 from typing import Callable, Dict, Iterator, List, NamedTuple, Optional, Sequence, Tuple
 
 from rdbg import replies
-from rdbg.by_hand import INTERRUPT, ByHand, edit_of, interrupt_of
+from rdbg.by_hand import INTERRUPT, ByHand, changed_objects, edit_of, interrupt_of
 from rdbg.instructions import WRITES_R1
-from rdbg.looks import Look, Object, content_of, hexadecimal, holding, time_of
+from rdbg.looks import Look, Object, hexadecimal, holding, time_of
 
 # (instructions that don't call the kernel, so that r0 is no answer of theirs)
 LOCAL = ("set", "add", "move", "data", "pack", "unpack", "jump", "jumpz", "end")
@@ -22,10 +22,10 @@ class Effect(NamedTuple):
 
     def text(self, actor: Optional[str] = None) -> str:
         """It in words; of the task that made the move, without its name."""
-        seat = "ready" if self.core is None else f"core {self.core}"
+        where = "ready" if self.core is None else f"core {self.core}"
         name = "" if self.kind == "left" and self.name == actor else f"{self.name} "
         form = TEXTS[self.kind]
-        return form.format(name=self.name, core=self.core, how=self.how, seat=seat, who=name)
+        return form.format(name=self.name, core=self.core, how=self.how, where=where, who=name)
 
 
 TEXTS: Dict[str, str] = {
@@ -34,9 +34,9 @@ TEXTS: Dict[str, str] = {
     "goes on": "goes on at {how}",
     "holds": "{name} {how}",
     "note": "{name}'s note {how}",
-    "woke": "woke {name} ({seat})",
-    "time up": "woke {name}, whose time was up ({seat})",
-    "given": "woke {name} with {how} ({seat})",
+    "woke": "woke {name} ({where})",
+    "time up": "woke {name}, whose time was up ({where})",
+    "given": "woke {name} with {how} ({where})",
     "left": "{who}left core {core} ({how})",
     "took": "{name} took core {core}",
     "turns": "{name} took core {core} in turn after {how}",
@@ -117,10 +117,11 @@ def woken(before: Look, after: Look, at_tick: bool) -> Iterator[Effect]:
             yield Effect("time up" if at_tick else "woke", name, task.core)
 
 
-def seats(before: Look, after: Look, awake: Sequence[str], turning: Optional[int]) -> List[Effect]:
-    """Who left a core, and who took one that wasn't woken by the move. On the core `turning` a task
-    takes its turn at a tick, where nobody outranks who ran there."""
-    found: List[Effect] = []
+def scheduled(before: Look, after: Look, turning: Optional[int] = None) -> List[Effect]:
+    """Who woke, who left a core, and who took one that wasn't woken by the move. On the core
+    `turning` a task takes its turn at a tick, where nobody outranks who ran there."""
+    found = list(woken(before, after, turning is not None))
+    awake = [it.name for it in found]
     for core, (was, now) in enumerate(zip(before.cores.running, after.cores.running)):
         if was == now:
             continue
@@ -147,11 +148,9 @@ def change_of(was: Object, now: Object) -> str:
 
 def holdings(before: Look, after: Look) -> Iterator[Effect]:
     """The objects that hold something else now."""
-    for key, now in after.objects.items():
-        was = before.objects.get(key)
-        # (a reply that says the same is mostly the same value)
-        if was is not now and was is not None and content_of(was) != content_of(now):
-            yield Effect("holds", now.name, None, change_of(was, now))
+    for key in changed_objects(before, after):
+        was, now = before.objects[key], after.objects[key]
+        yield Effect("holds", now.name, None, change_of(was, now))
 
 
 def notes(before: Look, after: Look) -> Iterator[Effect]:
@@ -188,9 +187,7 @@ def move_between(before: Look, after: Look, script: Script, known: Optional[ByHa
     if known is not None:
         return done_by_hand(before, after, known)
     if after.cores.tick != before.cores.tick:
-        awake = list(woken(before, after, True))
-        turning = after.cores.tick % len(after.cores.running)
-        effects = [*awake, *seats(before, after, [it.name for it in awake], turning)]
+        effects = scheduled(before, after, after.cores.tick % len(after.cores.running))
         return Move(after.place, "tick", "tick", after.cores.tick, effects=tuple(effects))
     core = after.cores.turn - 1
     task = before.cores.running[core] if 0 <= core < len(before.cores.running) else None
@@ -206,9 +203,7 @@ def done_by_hand(before: Look, after: Look, known: ByHand) -> Move:
     line, tick = known.line, after.cores.tick
     if line.split(" ")[0] != INTERRUPT:
         return Move(after.place, "edit", line, tick)
-    awake = list(woken(before, after, False))
-    effects = [*holdings(before, after), *notes(before, after), *awake]
-    effects += seats(before, after, [it.name for it in awake], None)
+    effects = [*holdings(before, after), *notes(before, after), *scheduled(before, after)]
     what, answer = tuple(effects), known.answer
     return Move(after.place, "isr", line, tick, instruction=line, answer=answer, effects=what)
 
@@ -240,7 +235,6 @@ def stepped(before: Look, after: Look, core: int, task: str, script: Script) -> 
     effects += holdings(before, after)
     if word in NOTIFICATIONS:
         effects += notes(before, after)
-    awake = list(woken(before, after, False))
-    effects += [*awake, *seats(before, after, [it.name for it in awake], None)]
+    effects += scheduled(before, after)
     pc, tick, line = was.pc if was else None, after.cores.tick, f"step {core}"
     return Move(after.place, "step", line, tick, core, task, pc, text, answer, tuple(effects))

@@ -3,19 +3,20 @@
 A form is written as in docs/CALLS.md: its word, then the symbols of its operands. What an operand
 can be stands in `rdbg.operands`."""
 import itertools
-from typing import Dict, NamedTuple, Optional, Tuple
+from typing import Dict, NamedTuple, Tuple
 
 from rdbg.operands import KIND_OF
 from rdbg.wording import rows
 
 
 class InstructionForm(NamedTuple):
-    """A form of instructions: how it is written, the FreeRTOS names that it stands for, what it
-    does, what its answer in r0 is, and what each operand is called where its kind says too little
+    """A form of instructions: how it is written, the calls of FreeRTOS that it stands for, each
+    with the operands that its arguments are, up to the last one, and `-` for others, what it does,
+    what its answer in r0 is, and what each operand is called where its kind says too little
     (`nouns`, one for each operand)."""
 
     text: str
-    freertos: Tuple[str, ...]
+    calls: Tuple[str, ...]
     does: str
     answer: str
     nouns: Tuple[str, ...]
@@ -24,6 +25,11 @@ class InstructionForm(NamedTuple):
     def word(self) -> str:
         """The instruction's own word."""
         return self.text.split(" ")[0]
+
+    @property
+    def freertos(self) -> Tuple[str, ...]:
+        """The names of the calls."""
+        return tuple(it.split("(")[0] for it in self.calls)
 
     @property
     def symbols(self) -> Tuple[str, ...]:
@@ -36,12 +42,12 @@ class InstructionForm(NamedTuple):
         return tuple(map(" ".join, itertools.product(*choices)))
 
 
-def form(text: str, freertos: str, does: str, answer: str, nouns: str = "") -> InstructionForm:
-    """A form; `freertos` are names separated by spaces, `nouns` by commas."""
+def form(text: str, calls: str, does: str, answer: str, nouns: str = "") -> InstructionForm:
+    """A form; `calls` are separated by spaces, `nouns` by commas."""
     symbols = text.split(" ")[1:]
     given = nouns.split(", ") if nouns else [KIND_OF[symbol].noun for symbol in symbols]
     assert len(given) == len(symbols), text
-    return InstructionForm(text, tuple(freertos.split()), does, answer, tuple(given))
+    return InstructionForm(text, tuple(calls.split()), does, answer, tuple(given))
 
 
 STAYS = "r0 stays"
@@ -64,73 +70,80 @@ unpack R | | the register becomes the data's first four bytes | {OWN}
 jump L | | the script goes on at this instruction | {STAYS}
 jumpz R L | | the script goes on there if the register is 0 | {STAYS}
 end | vTaskDelete | the task has ended | {STAYS}
-send Q T | xQueueSend xQueueSendToBack | sends the data, to the back | {SENT}
-front Q T | xQueueSendToFront | sends the data, to the front | {SENT}
-recv Q T | xQueueReceive | takes the first item, as the data | {RECEIVED}
-peek Q T | xQueuePeek | reads the first item, as the data, and leaves it | {RECEIVED}
-over Q | xQueueOverwrite | puts the data in place of the one item | 1
-qreset Q | xQueueReset | takes all items out | 1
-count Q | uxQueueMessagesWaiting | counts the items | how many items there are
-spaces Q | uxQueueSpacesAvailable | counts the free places | how many are free
-setadd Q S | xQueueAddToSet | makes the queue a member
+send Q T | xQueueSend(Q,-,T) xQueueSendToBack(Q,-,T) | sends the data, to the back | {SENT}
+front Q T | xQueueSendToFront(Q,-,T) | sends the data, to the front | {SENT}
+recv Q T | xQueueReceive(Q,-,T) | takes the first item, as the data | {RECEIVED}
+peek Q T | xQueuePeek(Q,-,T) | reads the first item, as the data, and leaves it | {RECEIVED}
+over Q | xQueueOverwrite(Q) | puts the data in place of the one item | 1
+qreset Q | xQueueReset(Q) | takes all items out | 1
+count Q | uxQueueMessagesWaiting(Q) | counts the items | how many items there are
+spaces Q | uxQueueSpacesAvailable(Q) | counts the free places | how many are free
+setadd Q S | xQueueAddToSet(Q,S) | makes the queue a member
   | 1, or 0 where it is one already, or has items
-setdel Q S | xQueueRemoveFromSet | ends that it is a member
+setdel Q S | xQueueRemoveFromSet(Q,S) | ends that it is a member
   | 1, or 0 where it isn't one, or has items
-select S T | xQueueSelectFromSet | takes the oldest handle
+select S T | xQueueSelectFromSet(S,T) | takes the oldest handle
   | the queue's number in the file and 1, or 0 for none
-swrite B T | xStreamBufferSend | writes the data | how many bytes were written
-sread B ROOM T | xStreamBufferReceive | reads so many bytes at the most, as the data
+swrite B T | xStreamBufferSend(B,-,-,T) | writes the data | how many bytes were written
+sread B ROOM T | xStreamBufferReceive(B,-,ROOM,T) | reads so many bytes at the most, as the data
   | how many bytes were read
-sreset B | xStreamBufferReset | drops all bytes | 1, or 0 where somebody waits
-strig B V | xStreamBufferSetTriggerLevel | sets the trigger level
+sreset B | xStreamBufferReset(B) | drops all bytes | 1, or 0 where somebody waits
+strig B V | xStreamBufferSetTriggerLevel(B,V) | sets the trigger level
   | 1, or 0 where it is above the size | stream buffer, trigger level
-scount B | xStreamBufferBytesAvailable | counts the bytes | how many there are
-sspaces B | xStreamBufferSpacesAvailable | counts the room | how many bytes fit
-mwrite M T | xMessageBufferSend | writes the data as a message | its length, or 0
-mread M ROOM T | xMessageBufferReceive | reads a message of so many bytes at the most, as the data
+scount B | xStreamBufferBytesAvailable(B) | counts the bytes | how many there are
+sspaces B | xStreamBufferSpacesAvailable(B) | counts the room | how many bytes fit
+mwrite M T | xMessageBufferSend(M,-,-,T) | writes the data as a message | its length, or 0
+mread M ROOM T | xMessageBufferReceive(M,-,ROOM,T)
+  | reads a message of so many bytes at the most, as the data
   | its length, or 0 where there is none or it is longer
-mreset M | xMessageBufferReset | drops all messages | 1, or 0 where somebody waits
-mspaces M | xMessageBufferSpacesAvailable | counts the room
+mreset M | xMessageBufferReset(M) | drops all messages | 1, or 0 where somebody waits
+mspaces M | xMessageBufferSpacesAvailable(M) | counts the room
   | how many bytes are free, four a message for its length among them
-mnext M | xMessageBufferNextLengthBytes | looks at the message in front
+mnext M | xMessageBufferNextLengthBytes(M) | looks at the message in front
   | its length, or 0 for none
-notify K I V ACTION | xTaskNotifyIndexed | notifies an entry of the task | {TOLD}
+notify K I V ACTION | xTaskNotifyIndexed(K,I,V,ACTION) | notifies an entry of the task | {TOLD}
   | task, index of a notification entry, value that is sent, action
-query K I V ACTION | xTaskNotifyAndQueryIndexed
+query K I V ACTION | xTaskNotifyAndQueryIndexed(K,I,V,ACTION)
   | notifies an entry of the task; r1 becomes its value before | {TOLD}
   | task, index of a notification entry, value that is sent, action
-take I clear|dec T | ulTaskNotifyTakeIndexed
+take I clear|dec T | ulTaskNotifyTakeIndexed(I,clear|dec,T)
   | waits until the entry's value isn't 0, then clears it or takes one away
   | the value before, or 0
-nwait I V V T | xTaskNotifyWaitIndexed | waits until the entry has received; r1 becomes its value
+nwait I V V T | xTaskNotifyWaitIndexed(I,V,V,-,T)
+  | waits until the entry has received; r1 becomes its value
   | 1, or 0 where nothing came until the time was up
   | index of a notification entry, bits to clear on entry, bits to clear on exit, block time
-nclear K I | xTaskNotifyStateClearIndexed | makes an entry idle that has received
+nclear K I | xTaskNotifyStateClearIndexed(K,I) | makes an entry idle that has received
   | 1, or 0 where it had not
-vclear K I V | ulTaskNotifyValueClearIndexed | clears bits of an entry's value | the value before
-  | task, index of a notification entry, bits to clear
-gset G V | xEventGroupSetBits | sets bits | the bits afterwards | event group, bits to set
-gclear G V | xEventGroupClearBits | clears bits | the bits before | event group, bits to clear
-gget G | xEventGroupGetBits | looks at the bits | the bits
-gwait G V WISH CLR T | xEventGroupWaitBits
+vclear K I V | ulTaskNotifyValueClearIndexed(K,I,V) | clears bits of an entry's value
+  | the value before | task, index of a notification entry, bits to clear
+gset G V | xEventGroupSetBits(G,V) | sets bits | the bits afterwards | event group, bits to set
+gclear G V | xEventGroupClearBits(G,V) | clears bits | the bits before | event group, bits to clear
+gget G | xEventGroupGetBits(G) | looks at the bits | the bits
+gwait G V WISH CLR T | xEventGroupWaitBits(G,V,CLR,WISH,T)
   | waits for any or all of these bits, and keeps or clears them once they came
   | the bits, also where the time was up
   | event group, bits to wait for, wish, word for clearing, block time
-gsync G V V T | xEventGroupSync | sets bits, then waits for all of others, and clears these
+gsync G V V T | xEventGroupSync(G,V,V,T) | sets bits, then waits for all of others, and clears these
   | the bits, also where the time was up | event group, bits to set, bits to wait for, block time
 """
     )
 )
 FORM_OF: Dict[str, InstructionForm] = {it.word: it for it in FORMS}
-# Those that write r1, too.
+# Calls that an instruction stands for with some of its operands given.
+GIVEN: Dict[str, str] = {
+    "xTaskNotify(K,V,ACTION)": "notify K I=0 V ACTION",
+    "xTaskNotifyGive(K)": "notify K I=0 V=0 ACTION=inc",
+    "xTaskNotifyGiveIndexed(K,I)": "notify K I V=0 ACTION=inc",
+    "xTaskNotifyAndQuery(K,V,ACTION)": "query K I=0 V ACTION",
+    "ulTaskNotifyTake(clear|dec,T)": "take I=0 clear|dec T",
+    "xTaskNotifyWait(V,V,-,T)": "nwait I=0 V V T",
+    "xTaskNotifyStateClear(K)": "nclear K I=0",
+    "ulTaskNotifyValueClear(K,V)": "vclear K I=0 V",
+}
+# Instructions that write r1, too.
 WRITES_R1 = ("query", "nwait")
-
-
-def form_of(word: str) -> Optional[InstructionForm]:
-    """The form of the instruction with this word, or none."""
-    return FORM_OF.get(word)
-
-
-def is_final(word: str) -> bool:
-    """Whether a script can end with this instruction: it never goes on behind it."""
-    return word in ("end", "jump")
+# Those with which a script can end, since it never goes on behind them.
+FINAL = ("end", "jump")
+# The form of the instruction with a word, or none.
+form_of = FORM_OF.get

@@ -139,6 +139,8 @@ def in_text(text: str, start: int, at: int) -> Tuple[int, str]:
     """What is wrong with a text that ends at no quote, or with a character in it; and where."""
     if at >= len(text) or text[at] in "\r\n":
         return start, "the text that begins here isn't closed by \" on its line"
+    if text[at] == "\\":
+        return at, escape(text, at)
     sign = "a tab" if text[at] == "\t" else shown(text[at])
     return at, f"{sign} stands within a text; it has no control characters"
 
@@ -146,6 +148,9 @@ def in_text(text: str, start: int, at: int) -> Tuple[int, str]:
 def escape(text: str, at: int) -> str:
     """Why an escape is none."""
     sign = text[at + 1 : at + 2]
+    half = re.compile(r"\\u[0-9A-Fa-f]{4}").match(text, at)
+    if half:
+        return f"{half.group()} is half of a pair, and has no other half"
     if sign == "u":
         return "\\u is followed by four hexadecimal digits"
     if not sign or sign in "\r\n":

@@ -2,22 +2,21 @@
 import json
 from typing import Any, Dict, List, Sequence, Tuple
 
-from rdbg.application import Application, Task
-from rdbg.shapes import FILE, Shape
+from rdbg.application import Application, Named, Task
+from rdbg.shapes import DEFAULTS, FILE, Shape
 
 WIDTH = 112
 # A file that is longer isn't read by rdbg.
 MOST_BYTES = 1 << 20
-# Keys that are left out where they have this value.
-DEFAULTS: Dict[str, int] = {"notes": 1, "tick": 0}
 
 
-def pairs(thing: Any, shape: Shape) -> List[Tuple[str, Any]]:
+def pairs(thing: Named, shape: Shape) -> List[Tuple[str, Any]]:
     """The keys of an object or a task with their values, in the documents' order."""
-    found = {key.name: getattr(thing, key.name) for key in shape.keys}
-    if "code" in found:
-        found["code"] = [instruction.text for instruction in found["code"]]
-    return list(found.items())
+    if isinstance(thing, Task):
+        code = [instruction.text for instruction in thing.code]
+        return [("name", thing.name), ("priority", thing.priority), ("code", code)]
+    members = [("members", thing.members)] if "members" in shape.names() else []
+    return [("name", thing.name), *thing.numbers, *members]
 
 
 def settings(app: Application) -> List[Tuple[str, int]]:

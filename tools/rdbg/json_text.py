@@ -2,8 +2,9 @@
 
 What is taken is what the program takes: no comments, no commas too many, no byte order mark, at
 most 127 brackets within each other, numbers that a float holds, whole characters alone."""
+import json
 import re
-from typing import Callable, List, Optional, Sequence, Tuple, TypeVar
+from typing import Callable, List, Optional, Tuple, TypeVar
 
 from rdbg import json_causes as causes
 from rdbg.failure import Failure
@@ -13,14 +14,16 @@ NOT_JSON = "L1 NotJson"
 MOST_BYTES = 1_048_576
 MOST_DEPTH = 127
 SPACE = re.compile(r"[ \t\n\r]*")
-PLAIN = re.compile(r'"([^"\\\x00-\x1f]*)"')
-CHARACTERS = re.compile(r'[^"\\\x00-\x1f]+')
-HEX = re.compile(r"\\u([0-9A-Fa-f]{4})")
+WORD = re.compile(r"[^ ]+")
+# Characters of a text, or one that is written by an escape, which may be two halves.
+PIECE = re.compile(
+    r'[^"\\\x00-\x1f]+|\\["\\/bfnrt]|\\u(?![dD][89a-fA-F])[0-9a-fA-F]{4}'
+    r"|\\u[dD][89abAB][0-9a-fA-F]{2}\\u[dD][c-fC-F][0-9a-fA-F]{2}"
+)
 NUMBER = re.compile(r"-?(?:0|[1-9][0-9]*)(?:\.[0-9]+)?(?:[eE][+-]?[0-9]+)?")
 NUMBER_GOES_ON = re.compile(r"[0-9A-Za-z_.+]")
 LITERAL = re.compile(r"(?:true|false|null)(?![0-9A-Za-z_])")
 LITERALS = {"true": True, "false": False, "null": None}
-ESCAPES = {"b": "\b", "f": "\f", "n": "\n", "r": "\r", "t": "\t", '"': '"', "\\": "\\", "/": "/"}
 Part = TypeVar("Part")
 
 
@@ -164,49 +167,17 @@ class Reader:
         return f"{before}the {bracket} of {self.place(self.open[-1])} isn't closed by {closing}"
 
     def string(self, at: int) -> Tuple[Node, int]:
-        """A text, with the places of its characters."""
-        place = self.place(at)
-        plain = PLAIN.match(self.text, at)
-        if plain:
-            value, end = plain.group(1), plain.end()
-            first = place.column + 1
-            columns: Sequence[int] = range(first, first + len(value))
-        else:
-            value, columns, end = self.escaped(at, place.column)
-        return Node(value, place, columns), end
-
-    def escaped(self, start: int, column: int) -> Tuple[str, List[int], int]:
-        """A text with escapes: its characters, the column of each, and its end."""
-        parts: List[str] = []
-        columns: List[int] = []
-        at = start + 1
-        while not self.text.startswith('"', at):
-            run = CHARACTERS.match(self.text, at)
-            if run:
-                part, end = run.group(), run.end()
-                columns += range(column + at - start, column + end - start)
-            else:
-                part, end = self.escape(start, at)
-                columns.append(column + at - start)
-            parts.append(part)
-            at = end
-        return "".join(parts), columns, at + 1
-
-    def escape(self, start: int, at: int) -> Tuple[str, int]:
-        """One character that is written by an escape."""
-        if self.text[at : at + 1] != "\\":
-            raise NotJson(*causes.in_text(self.text, start, at))
-        sign = self.text[at + 1 : at + 2]
-        if sign in ESCAPES:
-            return ESCAPES[sign], at + 2
-        found = HEX.match(self.text, at)
-        if not found:
-            raise NotJson(at, causes.escape(self.text, at))
-        code = int(found.group(1), 16)
-        if not 0xD800 <= code < 0xE000:
-            return chr(code), at + 6
-        low = HEX.match(self.text, at + 6)
-        if code >= 0xDC00 or not low or not 0xDC00 <= int(low.group(1), 16) < 0xE000:
-            raise NotJson(at, f"{found.group()} is half of a pair, and has no other half")
-        pair = 0x10000 + ((code - 0xD800) << 10) + int(low.group(1), 16) - 0xDC00
-        return chr(pair), at + 12
+        """A text, with the places of its words."""
+        place, end = self.place(at), at + 1
+        begins: List[int] = []
+        piece = PIECE.match(self.text, end)
+        while piece:
+            is_escape = piece.group().startswith("\\")
+            begins += [end] if is_escape else range(end, piece.end())
+            end = piece.end()
+            piece = PIECE.match(self.text, end)
+        if not self.text.startswith('"', end):
+            raise NotJson(*causes.in_text(self.text, at, end))
+        value = json.loads(self.text[at : end + 1])
+        columns = [place.column + begins[it.start()] - at for it in WORD.finditer(value)]
+        return Node(value, place, columns), end + 1

@@ -68,16 +68,9 @@ class Look:
     def of(cls, place: int, answers: Sequence[replies.Reply]) -> "Look":
         """The look that the replies to `Names.lines` make, at a place that is known. Raises
         `Unreadable` where one of them is none of these."""
-        tasks: Dict[str, replies.Task] = {}
-        objects: Dict[Key, Object] = {}
-        cores: Optional[replies.Cores] = None
-        for answer in answers:
-            if isinstance(answer, replies.Task):
-                tasks[answer.name] = answer
-            elif isinstance(answer, OBJECTS):
-                objects[KINDS[type(answer)], answer.name] = answer
-            elif isinstance(answer, replies.Cores):
-                cores = answer
+        tasks = {it.name: it for it in answers if isinstance(it, replies.Task)}
+        objects = {key_of(it): it for it in answers if isinstance(it, OBJECTS)}
+        cores = next((it for it in answers if isinstance(it, replies.Cores)), None)
         if cores is None:
             raise replies.Unreadable(str(answers))
         return cls(place, cores, tasks, objects)
@@ -89,30 +82,25 @@ def hexadecimal(content: bytes) -> str:
     return f"{shown}.. ({len(content)} bytes)" if len(content) > BYTES_SHOWN else shown
 
 
+# What each object holds, whoever waits at it, and how that is said.
+HELD: Dict[type, Tuple[Tuple[str, ...], str]] = {
+    replies.Queue: (("items", "member_of"), "{it.count}/{it.length}"),
+    replies.QueueSet: (("handles",), "{it.count}/{it.length} handles"),
+    replies.Stream: (("content", "trigger"), "{it.held}/{it.size} bytes"),
+    replies.Messages: (("messages",), "{messages}, {it.held}/{it.size} bytes"),
+    replies.Group: (("bits",), "bits {it.bits}"),
+}
+
+
 def holding(it: Object) -> str:
     """What an object holds, in a word or two."""
-    if isinstance(it, replies.Queue):
-        return f"{it.count}/{it.length}"
-    if isinstance(it, replies.QueueSet):
-        return f"{it.count}/{it.length} handles"
-    if isinstance(it, replies.Stream):
-        return f"{it.held}/{it.size} bytes"
-    if isinstance(it, replies.Messages):
-        return f"{counted(len(it.messages), 'message')}, {it.held}/{it.size} bytes"
-    return f"bits {it.bits}"
+    messages = counted(len(it.messages), "message") if isinstance(it, replies.Messages) else ""
+    return HELD[type(it)][1].format(it=it, messages=messages)
 
 
 def content_of(it: Object) -> Tuple[object, ...]:
     """What an object holds, whoever waits at it."""
-    if isinstance(it, replies.Queue):
-        return (it.items, it.member_of)
-    if isinstance(it, replies.QueueSet):
-        return (it.handles,)
-    if isinstance(it, replies.Stream):
-        return (it.content, it.trigger)
-    if isinstance(it, replies.Messages):
-        return (it.messages,)
-    return (it.bits,)
+    return tuple(getattr(it, name) for name in HELD[type(it)][0])
 
 
 def time_of(deadline: Optional[int]) -> str:

@@ -1,16 +1,18 @@
 """The replies of rdbg as values: one table of their forms, and one reader over it.
 
 A form is written as in docs/FORMATS.md: words in small letters stand as they are, words in capitals
-are fields. A refusal is no value, but an exception with its name."""
+are fields, which are read by their types. A refusal is no value, but an exception with its name."""
 import dataclasses
 import re
-from typing import Any, Callable, Dict, List, NamedTuple, Optional, Tuple, Union
+import typing
+from typing import Any, Callable, Dict, List, Literal, NamedTuple, Optional, Tuple, Union
 
 from rdbg.digits import MOST_DIGITS, is_digits
 from rdbg.failure import Failure
 
 NOBODY = "-"
 MAX = "max"
+How = Literal["", "met", "limit", "start"]
 IS_NAME = re.compile(r"[a-z][a-z0-9_]{0,15}")
 
 
@@ -29,13 +31,12 @@ class Unreadable(Failure):
         super().__init__(f"rdbg answered what no reply looks like: '{line[:200]}'")
 
 
-@dataclasses.dataclass(frozen=True)
-class Moved:
-    """So many moves are done. `how` is `met`, `limit` or `start` after a run or a way back to a
-    condition, else empty. `answer` is that of an interrupt, 0 or 1, and none behind other moves."""
+class Moved(NamedTuple):
+    """So many moves are done. `how` is said after a run or a way back to a condition, else it is
+    empty. `answer` is that of an interrupt, 0 or 1, and none behind other moves."""
 
     at: int
-    how: str = ""
+    how: How = ""
     answer: Optional[int] = None
 
 
@@ -44,8 +45,7 @@ class WheelDone:
     """The wheel was taken, or given back."""
 
 
-@dataclasses.dataclass(frozen=True)
-class WatchDone:
+class WatchDone(NamedTuple):
     """A watch was kept, or dropped."""
 
     number: int
@@ -75,8 +75,7 @@ class QueueSet:
     waiters: Tuple[str, ...]
 
 
-@dataclasses.dataclass(frozen=True)
-class Stream:
+class Stream(NamedTuple):
     """A stream buffer, and whom its places name."""
 
     name: str
@@ -88,8 +87,7 @@ class Stream:
     writer: Optional[str]
 
 
-@dataclasses.dataclass(frozen=True)
-class Messages:
+class Messages(NamedTuple):
     """A message buffer. `held` counts four bytes more for each message."""
 
     name: str
@@ -100,8 +98,7 @@ class Messages:
     writer: Optional[str]
 
 
-@dataclasses.dataclass(frozen=True)
-class Wish:
+class Wish(NamedTuple):
     """A task that waits for bits: for all of them or any, which are cleared then or kept."""
 
     task: str
@@ -110,8 +107,7 @@ class Wish:
     clears: bool
 
 
-@dataclasses.dataclass(frozen=True)
-class Group:
+class Group(NamedTuple):
     """An event group, and who waits, in the order of arrival."""
 
     name: str
@@ -119,8 +115,7 @@ class Group:
     waiters: Tuple[Wish, ...]
 
 
-@dataclasses.dataclass(frozen=True)
-class Phase:
+class Phase(NamedTuple):
     """A task's phase: `word` is `run`, `again`, `given`, `wait`, `ended` or `failed`; `place` is
     where it waits, as `recv:jobs`; `deadline` a tick, or none for `max`."""
 
@@ -132,16 +127,14 @@ class Phase:
     cause: Optional[str] = None
 
 
-@dataclasses.dataclass(frozen=True)
-class Note:
+class Note(NamedTuple):
     """A notification entry; its state is `idle`, `waiting` or `received`."""
 
     value: int
     state: str
 
 
-@dataclasses.dataclass(frozen=True)
-class Task:
+class Task(NamedTuple):
     """A task; `core` is none where it is on no core."""
 
     name: str
@@ -162,8 +155,7 @@ class Task:
         return self.phase.word if self.phase.word in ("ended", "failed") else "ready"
 
 
-@dataclasses.dataclass(frozen=True)
-class Cores:
+class Cores(NamedTuple):
     """Who is on each core, who is ready in which order, the tick, and the turn."""
 
     running: Tuple[Optional[str], ...]
@@ -172,8 +164,7 @@ class Cores:
     turn: int
 
 
-@dataclasses.dataclass(frozen=True)
-class Moves:
+class Moves(NamedTuple):
     """How many moves are done, how many `redo` can make again, and of how many of those done a
     record is kept, by which `back` takes them back."""
 
@@ -182,15 +173,13 @@ class Moves:
     kept: int
 
 
-@dataclasses.dataclass(frozen=True)
-class WheelHolder:
+class WheelHolder(NamedTuple):
     """The number of the session that has the wheel."""
 
     session: Optional[int]
 
 
-@dataclasses.dataclass(frozen=True)
-class Watches:
+class Watches(NamedTuple):
     """The numbers of a session's watches, and which of them hold."""
 
     holds: Tuple[Tuple[int, bool], ...]
@@ -283,56 +272,47 @@ def holds(text: str) -> Tuple[int, bool]:
     return number(which), chosen(state, "holds", "fails") == "holds"
 
 
-class Form(NamedTuple):
-    """A form of replies: how it is written, what it makes, and how each of its fields is read."""
-
-    text: str
-    make: Callable[..., Reply]
-    fields: Tuple[Callable[[str], Any], ...] = ()
+def interrupted(at: int, answer: bool) -> Moved:
+    """An interrupt was made, and answered so."""
+    return Moved(at, "", int(answer))
 
 
-NAMES = listed(name)
-SOMEBODY = or_nobody(name)
-FORMS: Tuple[Form, ...] = (
-    Form("ok at N", Moved, (number,)),
-    Form("ok at N isr A", lambda at, it: Moved(at, "", int(chosen(it, "0", "1"))), (number, str)),
-    Form("ok at N met", lambda at: Moved(at, "met"), (number,)),
-    Form("ok at N limit", lambda at: Moved(at, "limit"), (number,)),
-    Form("ok at N start", lambda at: Moved(at, "start"), (number,)),
-    Form("ok wheel", WheelDone),
-    Form("ok watch N", WatchDone, (number,)),
-    Form(
-        "queue NAME COUNT/LENGTH items ITEMS recv TASKS send TASKS set NAME",
-        Queue,
-        (name, number, number, listed(bytes.fromhex), NAMES, NAMES, SOMEBODY),
-    ),
-    Form(
-        "set NAME COUNT/LENGTH handles QUEUES wait TASKS",
-        QueueSet,
-        (name, number, number, NAMES, NAMES),
-    ),
-    Form(
-        "stream NAME HELD/SIZE trigger N bytes BYTES reader TASK writer TASK",
-        Stream,
-        (name, number, number, number, content, SOMEBODY, SOMEBODY),
-    ),
-    Form(
-        "message NAME HELD/SIZE messages LIST reader TASK writer TASK",
-        Messages,
-        (name, number, number, listed(bytes.fromhex), SOMEBODY, SOMEBODY),
-    ),
-    Form("group NAME bits N wait LIST", Group, (name, number, listed(wish))),
-    Form(
-        "task NAME core N pc N phase PHASE regs LIST data BYTES notes LIST",
-        Task,
-        (name, or_nobody(number), number, phase, listed(number), content, listed(note)),
-    ),
-    Form("cores TASKS ready TASKS tick N turn N", Cores, (running, NAMES, number, number)),
-    Form("moves N undone N kept N", Moves, (number, number, number)),
-    Form("wheel N", WheelHolder, (number,)),
-    Form("wheel -", lambda: WheelHolder(None)),
-    Form("watches LIST", Watches, (listed(holds),)),
-)
+# How a field is read, by what it is.
+READERS: Dict[Any, Callable[[str], Any]] = {
+    int: number,
+    str: name,
+    bytes: content,
+    bool: lambda text: chosen(text, "0", "1") == "1",
+    How: lambda text: chosen(text, "met", "limit", "start"),
+    Phase: phase,
+    Optional[int]: or_nobody(number),
+    Optional[str]: or_nobody(name),
+    Tuple[int, ...]: listed(number),
+    Tuple[str, ...]: listed(name),
+    Tuple[bytes, ...]: listed(bytes.fromhex),
+    Tuple[Note, ...]: listed(note),
+    Tuple[Wish, ...]: listed(wish),
+    Tuple[Tuple[int, bool], ...]: listed(holds),
+    Tuple[Optional[str], ...]: running,
+}
+# Each form, and what is made of its fields.
+FORMS: Dict[str, Callable[..., Reply]] = {
+    "ok at N": Moved,
+    "ok at N HOW": Moved,
+    "ok at N isr A": interrupted,
+    "ok wheel": WheelDone,
+    "ok watch N": WatchDone,
+    "queue NAME COUNT/LENGTH items ITEMS recv TASKS send TASKS set NAME": Queue,
+    "set NAME COUNT/LENGTH handles QUEUES wait TASKS": QueueSet,
+    "stream NAME HELD/SIZE trigger N bytes BYTES reader TASK writer TASK": Stream,
+    "message NAME HELD/SIZE messages LIST reader TASK writer TASK": Messages,
+    "group NAME bits N wait LIST": Group,
+    "task NAME core N pc N phase PHASE regs LIST data BYTES notes LIST": Task,
+    "cores TASKS ready TASKS tick N turn N": Cores,
+    "moves N undone N kept N": Moves,
+    "wheel N": WheelHolder,
+    "watches LIST": Watches,
+}
 
 # Each refusal, and whether a number stands behind it.
 REFUSALS: Dict[str, bool] = {
@@ -342,11 +322,12 @@ REFUSALS: Dict[str, bool] = {
         " NoWatch NotHolder HistoryFull NoMemory Full Syntax LineTooLong Broken"
     ).split()
 }
-# The forms by their first word, each with what its lines look like.
-BY_WORD: Dict[str, List[Tuple[Form, "re.Pattern[str]"]]] = {}
-for _form in FORMS:
-    _pattern = re.compile(re.sub(r"[A-Z]+", r"([^ /]+)", _form.text))
-    BY_WORD.setdefault(_form.text.split(" ")[0], []).append((_form, _pattern))
+# By the first word: what lines look like, what is made of their fields, and how each is read.
+BY_WORD: Dict[str, List[Tuple["re.Pattern[str]", Callable[..., Reply], List[Any]]]] = {}
+for _text, _make in FORMS.items():
+    _readers = [READERS.get(it) for it in typing.get_type_hints(_make).values()]
+    _pattern = re.compile(re.sub(r"[A-Z]+", r"([^ /]+)", _text))
+    BY_WORD.setdefault(_text.split(" ")[0], []).append((_pattern, _make, _readers))
 
 
 def refusal(line: str) -> Refused:
@@ -365,11 +346,11 @@ def read(line: str) -> Reply:
     first = line.split(" ", 1)[0]
     if first == "no":
         raise refusal(line)
-    for form, pattern in BY_WORD.get(first, ()):
+    for pattern, make, readers in BY_WORD.get(first, ()):
         found = pattern.fullmatch(line)
         if found:
             try:
-                return form.make(*[it(text) for it, text in zip(form.fields, found.groups())])
+                return make(*[it(text) for it, text in zip(readers, found.groups())])
             except ValueError:
                 continue
     raise Unreadable(line)

@@ -4,9 +4,8 @@ import json
 from typing import Any, Dict, List
 
 from rdbg.instructions import FORMS, InstructionForm
-from rdbg.json_layout import DEFAULTS
 from rdbg.operands import NAME, PATTERN_OF
-from rdbg.shapes import FILE, Key, Shape
+from rdbg.shapes import DEFAULTS, FILE, Key, Shape
 
 Schema = Dict[str, Any]
 ABOUT = (

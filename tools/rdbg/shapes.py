@@ -1,5 +1,5 @@
 """The shape of an application file: one table of the keys of each of its objects."""
-from typing import NamedTuple, Optional, Tuple
+from typing import Dict, NamedTuple, Optional, Tuple
 
 from rdbg import kinds
 from rdbg.wording import by_word
@@ -51,42 +51,40 @@ def of_kind(kind: kinds.Kind, freertos: str, *keys: Key) -> Shape:
     return Shape(kind.noun, f"{kind.noun}s", kind.symbol, (name, *keys), freertos)
 
 
-def number(
-    name: str, text: str, least: int, most: int, freertos: str = "", is_needed: bool = True
-) -> Key:
+def number(name: str, text: str, least: int, most: int, freertos: str = "") -> Key:
     """A key whose value is a number."""
+    is_needed = name not in DEFAULTS
     return Key(name, text, "number", least, most, is_needed, freertos=freertos)
 
 
-def objects(name: str, of: Shape, least: int = 0) -> Key:
+def objects(of: Shape, least: int = 0) -> Key:
     """A key whose value is a list of objects."""
-    text = f"the {of.plural}"
+    name, text = kinds.OF_SYMBOL[of.symbol].key, f"the {of.plural}"
     return Key(name, text, "objects", least, 32, least > 0, of, freertos=of.freertos)
 
 
-ITEMS, ITEM = "how many items there is room for", "how many bytes an item has"
-HANDLES = "how many handles there is room for"
+# Keys that are left out where they have this value.
+DEFAULTS: Dict[str, int] = {"notes": 1, "tick": 0}
+BOOT = "the tick at boot; 0 if it is left out"
 MEMBERS = "the names of the queues that are its members at boot"
 BYTES = "how many bytes there is room for"
+BYTES_OF_MESSAGES = f"{BYTES}; each message takes four more than it has"
 TRIGGER = "how many bytes wake a reader that waits; 0 is taken as 1"
-PRIORITY = "the priority; a higher number is a higher one"
 CODE = "the script: instructions, counted from 0, the last one end or jump"
 ENTRIES = "how many notification entries each task has; 1 if it is left out"
 CORES = "how many cores there are; more than 8 in profile 2 alone"
 CORES_OF_C = "configNUMBER_OF_CORES"
-PROFILE = "the profile, which says what an application may have"
-BOOT = "the tick at boot; 0 if it is left out"
 
 QUEUE = of_kind(
     kinds.QUEUE,
     "xQueueCreate",
-    number("length", ITEMS, 1, 64, "uxQueueLength"),
-    number("item", ITEM, 1, 64, "uxItemSize"),
+    number("length", "how many items there is room for", 1, 64, "uxQueueLength"),
+    number("item", "how many bytes an item has", 1, 64, "uxItemSize"),
 )
 QUEUE_SET = of_kind(
     kinds.QUEUE_SET,
     "xQueueCreateSet",
-    number("length", HANDLES, 1, 2048, "uxEventQueueLength"),
+    number("length", "how many handles there is room for", 1, 2048, "uxEventQueueLength"),
     Key("members", MEMBERS, "members", freertos="xQueueAddToSet"),
 )
 STREAM = of_kind(
@@ -98,15 +96,13 @@ STREAM = of_kind(
 MESSAGE = of_kind(
     kinds.MESSAGE,
     "xMessageBufferCreate",
-    number(
-        "size", f"{BYTES}; each message takes four more than it has", 5, 1024, "xBufferSizeBytes"
-    ),
+    number("size", BYTES_OF_MESSAGES, 5, 1024, "xBufferSizeBytes"),
 )
 GROUP = of_kind(kinds.GROUP, "xEventGroupCreate")
 TASK = of_kind(
     kinds.TASK,
     "xTaskCreate",
-    number("priority", PRIORITY, 0, 31, "uxPriority"),
+    number("priority", "the priority; a higher number is a higher one", 0, 31, "uxPriority"),
     Key("code", CODE, "code", 1, MOST_INSTRUCTIONS, freertos="pxTaskCode"),
 )
 FILE = Shape(
@@ -114,16 +110,12 @@ FILE = Shape(
     "applications",
     "",
     (
-        number("profile", PROFILE, 1, 2),
+        number("profile", "the profile, which says what an application may have", 1, 2),
         Key("cores", CORES, "number", 1, 16, most_by_profile=(8, 16), freertos=CORES_OF_C),
-        number("notes", ENTRIES, 1, 4, "configTASK_NOTIFICATION_ARRAY_ENTRIES", is_needed=False),
-        number("tick", BOOT, 0, MOST_TICK, "configINITIAL_TICK_COUNT", is_needed=False),
-        objects(kinds.QUEUE.key, QUEUE),
-        objects(kinds.QUEUE_SET.key, QUEUE_SET),
-        objects(kinds.STREAM.key, STREAM),
-        objects(kinds.MESSAGE.key, MESSAGE),
-        objects(kinds.GROUP.key, GROUP),
-        objects(kinds.TASK.key, TASK, 1),
+        number("notes", ENTRIES, 1, 4, "configTASK_NOTIFICATION_ARRAY_ENTRIES"),
+        number("tick", BOOT, 0, MOST_TICK, "configINITIAL_TICK_COUNT"),
+        *map(objects, (QUEUE, QUEUE_SET, STREAM, MESSAGE, GROUP)),
+        objects(TASK, least=1),
     ),
 )
 

@@ -80,8 +80,8 @@ class Part:
 
 @dataclasses.dataclass(frozen=True)
 class Node:
-    """A value and its place. Of a text, `columns` are those of its characters in its line, if they
-    are known. `written` is what stands there where it differs, as an instruction with a label, and
+    """A value and its place. Of a text, `columns` are those at which its words begin in its line,
+    if they are known. `written` is what stands there where it differs, as an instruction with a label, and
     `spelled` each of its words; `part` is given where the line isn't the instruction itself."""
 
     value: Value
@@ -91,18 +91,11 @@ class Node:
     spelled: Tuple[str, ...] = ()
     part: Optional[Part] = None
 
-    def place_of(self, index: int) -> Place:
-        """The place of a character of a text, or of the text where that isn't known."""
-        known = self.columns[index : index + 1]
-        return Place(self.place.line, known[0]) if known else self.place
-
     def words(self) -> Iterator[Tuple[str, Place]]:
         """The words of a text, separated by spaces, each with its place."""
-        text, at = str(self.value), 0
-        for word in text.split(" "):
-            if word:
-                yield word, self.place_of(at)
-            at += len(word) + 1
+        words = [word for word in str(self.value).split(" ") if word]
+        columns = self.columns or [self.place.column] * len(words)
+        return ((word, Place(self.place.line, at)) for word, at in zip(words, columns))
 
 
 def kind_of(value: Value) -> str:

@@ -4,7 +4,7 @@ import unittest
 from typing import Dict, List, Set
 
 from rdbg.checking.freertos import BY_NAME, sentence
-from rdbg.instructions import FORM_OF, FORMS, form_of, is_final
+from rdbg.instructions import FINAL, FORM_OF, FORMS, form_of
 from rdbg.operands import KINDS, NAMED, Scope
 from rdbg.checking.reading import read
 from rdbg.tree import Node, Place
@@ -94,7 +94,7 @@ class Table(unittest.TestCase):
         self.assertIsNone(form_of("RECV"))
         self.assertEqual(("take I clear T", "take I dec T"), FORM_OF["take"].texts())
         self.assertEqual("recv Q T", BY_NAME["xqueuereceive"])
-        self.assertEqual(["end", "jump"], sorted(it.word for it in FORMS if is_final(it.word)))
+        self.assertEqual(["end", "jump"], sorted(it.word for it in FORMS if it.word in FINAL))
 
     def test_what_is_no_name_of_freertos_has_no_sentence(self) -> None:
         self.assertEqual([None] * 3, [sentence(word) for word in ("recv", "jobs", "-")])
@@ -145,7 +145,7 @@ class Reading(unittest.TestCase):
             self.assertTrue(faults(text)[0].endswith(f" has a word too many: {word}"), faults(text))
 
     def test_operands_have_places(self) -> None:
-        reading = read(Node("recv jobs 10", Place(3, 5), range(6, 18)), SCOPE)
+        reading = read(Node("recv jobs 10", Place(3, 5), (6, 11, 16)), SCOPE)
         self.assertEqual([Place(3, 11), Place(3, 16)], [it.place for it in reading.operands])
 
     def test_numbers_that_only_break_a_limit_are_no_matter_of_order(self) -> None:

@@ -40,7 +40,7 @@ class Program(unittest.TestCase):
         with Session.run() as session:
             told = []
             session.on_line = lambda line, reply: told.append((line, reply))
-            session.ask_all(["step 0", "show moves"])
+            list(session.tell_all(["step 0", "show moves"]))
             self.assertEqual(
                 told, [("step 0", "ok at 1"), ("show moves", "moves 1 undone 0 kept 1")]
             )

@@ -14,7 +14,7 @@ from rdbg.adapter.sources import Text
 from rdbg.companions import check, make, trace
 from rdbg.failure import Failure
 from rdbg.files.source import load, source
-from rdbg.from_c.calls import CALLS, TEMPLATES
+from rdbg.from_c.calls import TEMPLATES
 from rdbg.from_c.drift import drifts
 from rdbg.from_c.lines import in_lines
 from tests.paths import COMPANION, EXAMPLES
@@ -212,7 +212,7 @@ class Calls(unittest.TestCase):
         for title in ("Notifications", "Event groups"):
             for row in rows(section("CALLS.md", title), "| FreeRTOS | Instruction | r0 |"):
                 named |= codes(row[:1])
-        self.assertEqual(named - set(CALLS), set())
+        self.assertEqual(named - set(TEMPLATES), set())
 
     def test_templates_are_instructions(self) -> None:
         in_lines_alone = {"give", "wait"}

@@ -60,11 +60,9 @@ class Trees(unittest.TestCase):
         self.assertEqual([Place(2, 9), Place(2, 12), Place(2, 20)], [it.place for it in items])
         self.assertEqual([Place(2, 3), Place(3, 3)], [it.place for it in root.value.members])
 
-    def test_characters_of_a_text_have_places_behind_escapes_too(self) -> None:
+    def test_words_of_a_text_have_places_behind_escapes_too(self) -> None:
         node = member(member(tree(SAMPLE), "b"), "c\u00e9")
         self.assertEqual(Place(3, 20), node.place)
-        columns = [node.place_of(at).column for at in range(5)]
-        self.assertEqual([21, 22, 24, 25, 26], columns)
         self.assertEqual([("x\ty", Place(3, 21)), ("z", Place(3, 26))], list(node.words()))
 
     def test_columns_count_characters_and_not_bytes(self) -> None:

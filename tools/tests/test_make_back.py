@@ -164,6 +164,12 @@ class Text(unittest.TestCase):
         )
         self.assertEqual(wanted, back_and_made(values)[0])
 
+    def test_more_spaces_than_one(self) -> None:
+        code = [" add  r0 1 ", "end"]
+        tasks = [{"name": "t", "priority": 1, "code": code}]
+        text = back_and_made({"profile": 1, "cores": 1, "tasks": tasks})[0]
+        self.assertEqual("cores 1\n\ntask t priority 1\n    add r0 1\n    end\n", text)
+
     def test_a_profile_that_is_not_1(self) -> None:
         values = {
             "profile": 2,

@@ -145,6 +145,10 @@ class Structure(unittest.TestCase):
             lines = [f"set r1 {value}", "if r1 == 7", "set r2 1", "else", "set r2 2", "end", "end"]
             self.assertEqual(wanted, ran("\n".join([HEAD, *lines])).registers[2])
 
+    def test_a_line_of_no_script_stands_in_a_block(self) -> None:
+        found = code("if r1", "queue more length 1 item 1", "end", "end")
+        self.assertEqual(["jumpz r1 1", "end"], found)
+
     def test_blocks_in_blocks(self) -> None:
         lines = ["set r1 3", "while r1", "add r1 -1", "set r2 3", "loop", "add r2 -1", "add r3 1"]
         lines += ["if r2 = 0", "break", "end", "if r1 = 1", "break", "else", "add r4 1", "end end"]

@@ -331,7 +331,8 @@ class Waits(unittest.TestCase):
         code = [it.text for it in found.tasks[1].code]
         self.assertEqual(["recv never 3", "take 1 clear 3", "move r7 r0"], code[:3])
         self.assertEqual(["notify t1 0 r0 set", "recv never 2"], [code[3], code[-2]])
-        self.assertEqual([("never", 1, 1)], [(it.name, it.length, it.item) for it in found.queues])
+        never = ("never", (("length", 1), ("item", 1)))
+        self.assertEqual([never], [(it.name, it.numbers) for it in found.queues])
         self.assertEqual(2, found.profile)
         calls = [(it.name, it.calls, it.times) for it in found.interrupts]
         wanted = [(f"t{at}_wait", (f"notify t{at} 1 1 set",), ANY) for at in range(2)]

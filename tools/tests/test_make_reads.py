@@ -2,7 +2,6 @@
 import unittest
 from typing import Any, Dict, List, Tuple
 
-from rdbg.application import listed
 from rdbg.files.source import Source, source
 from rdbg.tree import Node, Object, objects
 from tests.test_make_faults import faults
@@ -182,6 +181,9 @@ class Reads(unittest.TestCase):
             told = f'4:6: task t, instruction 0: "data {name}": {said}'
             self.assertEqual([told], faults(wrong.encode()))
 
+    def test_a_semicolon_alone_says_nothing(self) -> None:
+        self.assertEqual([], faults(b"cores 1\n;\ntask t priority 1\nend;\n;\n"))
+
     def test_comments(self) -> None:
         lines = ["// one", "# two", "/* three", "recv jobs 5", "*/ recv jobs 0 /**/ // four"]
         lines += ["count jobs# five /*"]
@@ -226,7 +228,9 @@ class Places(unittest.TestCase):
         """The instructions."""
         root = read(self.TEXT).root
         assert root is not None and isinstance(root.value, Object)
-        return listed(objects(root.value.get("tasks"))[0], "code")
+        code = objects(root.value.get("tasks"))[0].get("code")
+        assert code is not None and isinstance(code.value, tuple)
+        return code.value
 
     def test_of_an_application(self) -> None:
         app = read(self.TEXT).application
@@ -252,9 +256,9 @@ class Places(unittest.TestCase):
         ]
         self.assertEqual(wanted, found)
 
-    def test_each_character_has_one(self) -> None:
+    def test_each_word_has_one(self) -> None:
         for node in self.code():
-            self.assertEqual(len(str(node.value)), len(node.columns))
+            self.assertEqual(len(str(node.value).split(" ")), len(node.columns))
 
 
 if __name__ == "__main__":

@@ -308,7 +308,7 @@ class Back(unittest.TestCase):
 
     def test_where_it_may_have_been_written_otherwise_is_said(self) -> None:
         text = "cores 1\ntask t priority 1\nloop\nif r1 = 3 break\nadd r1 1\nend\nend\n"
-        self.assertEqual(["t 4"], jumps_of(application(text)))
+        self.assertEqual(["t 4"], [*jumps_of(application(text))])
         self.assertIn("if r1 = 3 goto L5", self.back(text))
 
     def test_names_that_are_no_row(self) -> None:

@@ -15,7 +15,9 @@ class Table(unittest.TestCase):
         written: Set[str] = set()
         for _, *cells in rows(section("FORMATS.md", "Replies"), "| Reply | Text |"):
             written.update(it for it in codes(cells) if " " in it and not it.startswith("no "))
-        self.assertEqual(written, {form.text for form in FORMS})
+        ends = ("met", "limit", "start")
+        forms = {it.replace("HOW", end) for it in FORMS for end in ends}
+        self.assertEqual(written - {"wheel -"}, forms)
 
     def test_refusals(self) -> None:
         written = {}

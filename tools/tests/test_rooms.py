@@ -29,7 +29,7 @@ ROOMS: Tuple[Tuple[str, str], ...] = (
     ("goals", "driving files"),
     ("driving", "files"),
     ("files", "from_c firmware checking"),
-    ("from_c", "firmware"),
+    ("from_c", "firmware checking"),
     ("firmware", "checking"),
     ("checking", ""),
     (BASE, ""),

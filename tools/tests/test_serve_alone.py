@@ -39,7 +39,7 @@ class Serve(unittest.TestCase):
     def test_numbers(self) -> None:
         with served(4) as (port, _):
             one, two = attached(port), attached(port)
-            one.ask_all(["wheel take", "watch tick = 0"])
+            list(one.tell_all(["wheel take", "watch tick = 0"]))
             self.assertEqual(two.tell("show wheel"), "wheel 1")
             one.close()
             three = attached(port)

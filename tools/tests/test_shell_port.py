@@ -104,7 +104,7 @@ class Attached(unittest.TestCase):
     def test_moves_by_others_are_told(self) -> None:
         moved = "# the target moved meanwhile: {} -> {}"
         with two() as (shell, other):
-            other.ask_all(["step 0", "step 1", "tick"])
+            list(other.tell_all(["step 0", "step 1", "tick"]))
             self.assertEqual(said(shell, "step 0"), [moved.format(0, 3), "ok at 4"])
             self.assertEqual(said(shell, "step 1"), ["ok at 5"])
             other.tell("back 2")
@@ -143,7 +143,7 @@ class Attached(unittest.TestCase):
     def test_names_are_learnt(self) -> None:
         with two(None) as (shell, other):
             self.assertEqual(len(said(shell, "info tasks")), 4)
-            other.ask_all(["step 0", "step 1"])
+            list(other.tell_all(["step 0", "step 1"]))
             rows = said(shell, "info objects")
             self.assertEqual(rows[0], "# the target moved meanwhile: 0 -> 2")
             self.assertEqual(rows[2].split()[:3], ["#", "queue", "jobs"])
@@ -183,7 +183,7 @@ class Attached(unittest.TestCase):
         with two() as (shell, other), tempfile.TemporaryDirectory() as folder:
             file = pathlib.Path(folder) / "x.commands"
             said(shell, "step 1", "step 1")
-            other.ask_all(["poke reg poller 3 7", "poke item jobs 0 42", "tick"])
+            list(other.tell_all(["poke reg poller 3 7", "poke item jobs 0 42", "tick"]))
             answers = said(shell, f"save {file}")
             self.assertIn("replays them", answers[-1])
             self.assertEqual(answers[0], "# the target moved meanwhile: 2 -> 5")

@@ -10,7 +10,7 @@ from typing import Dict, Iterator, List, Optional, Set, Tuple
 from rdbg.checking.reading import NAME_RULE, read
 from rdbg.checking.slips import as_bytes, is_binary
 from rdbg.digits import is_digits
-from rdbg.instructions import FORM_OF, is_final
+from rdbg.instructions import FINAL, FORM_OF
 from rdbg.operands import NAMED, PATTERN_OF, Scope, is_name, to_text
 from rdbg.shapes import FILE, NOT_THERE, OTHER_NAMES, Key, Shape
 from rdbg.tree import Fault, Node, Number, Object, Place, kind_of, objects
@@ -239,7 +239,7 @@ class Finder:
             if isinstance(node.value, str):
                 self.instruction(f"{label}, instruction {index}: {written(node)}", node, scope)
         word = next((word for word, _ in code[-1].words()), "") if code else ""
-        if word in FORM_OF and not is_final(word):
+        if word in FORM_OF and word not in FINAL:
             what = f"{label}, instruction {len(code) - 1}: {written(code[-1])}"
             message = f"{what}: the script goes on behind it; its last instruction is end or jump"
             self.fault(INSTR, code[-1].place, message)

@@ -2,21 +2,15 @@
 import re
 from typing import Dict, Optional
 
-from rdbg.instructions import FORMS
+from rdbg.instructions import FORMS, GIVEN
 from rdbg.wording import by_word
 
 # Calls that an instruction stands for with some of its operands given, or in place of another.
 WRITTEN: Dict[str, str] = {
-    "xTaskNotify": "notify K 0 V ACTION",
-    "xTaskNotifyGive": "notify K 0 0 inc",
-    "xTaskNotifyGiveIndexed": "notify K I 0 inc",
+    **{call.split("(")[0]: re.sub("[A-Z]+=", "", text) for call, text in GIVEN.items()},
+    "ulTaskNotifyTake": "take 0 clear T or take 0 dec T",
     "vTaskNotifyGive": "notify K 0 0 inc",
     "vTaskNotifyGiveIndexed": "notify K I 0 inc",
-    "xTaskNotifyAndQuery": "query K 0 V ACTION",
-    "ulTaskNotifyTake": "take 0 clear T or take 0 dec T",
-    "xTaskNotifyWait": "nwait 0 V V T",
-    "xTaskNotifyStateClear": "nclear K 0",
-    "ulTaskNotifyValueClear": "vclear K 0 V",
     "vTaskDelay": "recv never T, with a queue never that nobody fills",
     "xSemaphoreTake": "recv Q T, with a queue in which an item is what can be taken",
     "xSemaphoreGive": "send Q 0, with a queue in which an item is what can be taken",

@@ -183,20 +183,17 @@ class Reader:
         if order is not None:
             first = min(word for _, word in self.unfit())
             return refused(self.form, self.another_order(order), self.words[first][1])
-        operands: List[Operand] = []
-        for operand in self.aligned():
-            operands.append(operand)
+        operands = tuple(self.aligned())
+        for operand in operands:
             self.look_at(operand)
         # (of one instruction a fault of form comes before a name that nothing has)
         self.faults.sort(key=lambda fault: fault.kind, reverse=True)
-        return Reading(self.form, tuple(operands), tuple(self.faults))
+        return Reading(self.form, operands, tuple(self.faults))
 
     def another_order(self, order: Dict[int, int]) -> str:
         """What to say of words that stand in another order, of which some may be missing."""
-        parts = [
-            self.spelled[order[at]] if at in order else symbol
-            for at, symbol in enumerate(self.symbols)
-        ]
+        symbols = enumerate(self.symbols)
+        parts = [self.spelled[order[at]] if at in order else symbol for at, symbol in symbols]
         line = " ".join([self.form.word, *parts])
         missing = [self.described(at) for at in range(len(parts)) if at not in order]
         if not missing:

@@ -7,13 +7,12 @@ from typing import Any, Dict, List, Sequence
 
 from rdbg import kinds
 from rdbg.checking.faults import MOST_FAULTS, remarks_of
-from rdbg.digits import number
 from rdbg.failure import Failure
 from rdbg.files.definitions import take_definitions
 from rdbg.files.source import Source, load, source, standard_input
-from rdbg.options import Parser
+from rdbg.options import Parser, bounded
 from rdbg.tree import Fault
-from rdbg.wording import counted, shown
+from rdbg.wording import counted
 
 SUMMARY = "says of application files where they are wrong, and what would be right"
 STANDARD_INPUT, NOTE = "-", "note: "
@@ -30,14 +29,6 @@ EPILOG = (
 )
 
 
-def natural(word: str) -> int:
-    """A number of faults."""
-    found = number(word, LARGEST)
-    if found is None:
-        raise argparse.ArgumentTypeError(f"{shown(word)} is no number")
-    return found
-
-
 def parser() -> Parser:
     """The words of the command line."""
     made = Parser("rdbg check", description=SUMMARY, epilog=EPILOG)
@@ -45,7 +36,9 @@ def parser() -> Parser:
     made.word("files", "FILE", files, nargs="+")
     made.flag("--first", "prints the first fault of each file, and nothing else")
     made.flag("--json", "prints it as JSON (docs/check.schema.json)")
-    made.word("--most", "N", f"so many faults a file, else {MOST}", type=natural, default=MOST)
+    made.word(
+        "--most", "N", f"so many faults a file, else {MOST}", type=bounded(0, LARGEST), default=MOST
+    )
     made.word("--name", "FILE", "what standard input is called, and so how it is read")
     take_definitions(made)
     return made

@@ -141,7 +141,7 @@ def back(path: str, output: Optional[str]) -> int:
         text = text_of(application, is_plain=True)
     with written(chosen) as file:
         file.write(text)
-    jumps = jumps_of(application)
+    jumps = [*jumps_of(application)]
     if jumps:
         said = "jumps with labels, where the text may have had loop, while or an if of lines"
         print(f"rdbg make: {said}: {'; '.join(jumps)}", file=sys.stderr)

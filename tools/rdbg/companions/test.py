@@ -61,9 +61,7 @@ class Shown:
     """Shows at a terminal which case is waited for, in a line that goes with its answer."""
 
     def __init__(self, stream: IO[str], count: int) -> None:
-        self._stream, self._count = stream, count
-        self._is_shown = stream.isatty()
-        self._done = self._drawn = 0
+        self._stream, self._count, self._done = stream, count, 0
 
     def show(self, name: str) -> None:
         """Shows that a case is waited for."""
@@ -76,9 +74,8 @@ class Shown:
 
     def _draw(self, text: str) -> None:
         """Draws a line in place of the one that is there."""
-        if self._is_shown:
-            print(f"\r{text.ljust(self._drawn)}\r{text}", end="", file=self._stream, flush=True)
-            self._drawn = len(text)
+        if self._stream.isatty():
+            print(f"\r\x1b[K{text}", end="", file=self._stream, flush=True)
 
 
 def results_of(folder: str, found: Sequence[Case], jobs: int) -> Iterator[Tuple[Case, Result]]:

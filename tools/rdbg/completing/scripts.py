@@ -8,27 +8,11 @@ NONE = "-"
 FILE = "FILE"
 BASH = """\
 # Completes the words of rdbg in bash; `rdbg completion bash` prints it.
-_rdbg_words() {{
-    echo {words}
-}}
-
-_rdbg_options() {{
+# What stands behind a word, behind an option of one, or, of `- WORD`, where an option can: FILE,
+# words, or - for what nobody can complete.
+_rdbg_known() {{
     case $1 in
-{options}
-    esac
-}}
-
-# What stands behind an option of a word: FILE, words, or - for what nobody can complete.
-_rdbg_behind() {{
-    case "$1 $2" in
-{values}
-    esac
-}}
-
-# What stands behind a word.
-_rdbg_placed() {{
-    case $1 in
-{placed}
+{cases}
     esac
 }}
 
@@ -37,15 +21,15 @@ _rdbg() {{
     COMPREPLY=()
     [ "${{COMP_WORDS[1]}}" != --unproved ] || at=2
     if ((COMP_CWORD <= at)); then
-        mapfile -t COMPREPLY < <(compgen -W "$(_rdbg_words)" -- "$begun")
+        mapfile -t COMPREPLY < <(compgen -W {words} -- "$begun")
         return
     fi
     word=${{COMP_WORDS[at]}}
-    found=$(_rdbg_behind "$word" "$before")
+    found=$(_rdbg_known "$word $before")
     if [ -z "$found" ]; then
         case $begun in
-            -*) found=$(_rdbg_options "$word") ;;
-            *) found=$(_rdbg_placed "$word") ;;
+            -*) found=$(_rdbg_known "- $word") ;;
+            *) found=$(_rdbg_known "$word") ;;
         esac
     fi
     case $found in
@@ -96,21 +80,17 @@ def behind(is_file: bool, choices: Sequence[str]) -> str:
 
 def bash(words: Sequence[Word]) -> str:
     """The script for bash."""
-    options, values, placed = [], [], []
+    known: Dict[str, str] = {}
     for word in words:
-        names = " ".join(name for it in word.options for name in it.names)
-        options.append(f"        {word.name}) echo {shlex.quote(names)} ;;")
-        there = shlex.quote(behind(word.has_files, word.choices))
-        placed.append(f"        {word.name}) echo {there} ;;")
-        for it in word.options:
-            if it.value:
-                which = " | ".join(shlex.quote(f"{word.name} {name}") for name in it.names)
-                said = shlex.quote(behind(it.value in FILES, it.choices))
-                values.append(f"        {which}) echo {said} ;;")
+        known[f"- {word.name}"] = " ".join(name for it in word.options for name in it.names)
+        known[word.name] = behind(word.has_files, word.choices)
+        for it in (it for it in word.options if it.value):
+            for name in it.names:
+                known[f"{word.name} {name}"] = behind(it.value in FILES, it.choices)
     first = [it.name for it in words] + [name for it in own() for name in it.names]
-    lists = {"options": options, "values": values, "placed": placed}
-    texts = {name: "\n".join(lines) for name, lines in lists.items()}
-    return BASH.format(words=shlex.quote(" ".join(first)), **texts)
+    pairs = (map(shlex.quote, pair) for pair in known.items())
+    cases = "\n".join(f"        {word}) echo {said} ;;" for word, said in pairs)
+    return BASH.format(words=shlex.quote(" ".join(first)), cases=cases)
 
 
 def told(text: str) -> str:

@@ -116,9 +116,8 @@ def source(path: str, content: bytes, given: Optional[Given] = None) -> Source:
     said = application(value) if isinstance(value, Object) else None
     if said is not None and (text.comments or text.interrupts):
         below = code_below(shown) if path.endswith(ENDING) else {}
-        scripts = ((it, tuple(put(it, text.comments, below))) for it in said.tasks)
-        tasks = tuple(task._replace(code=code) for task, code in scripts)
-        said = said._replace(tasks=tasks, interrupts=text.interrupts)
+        tasks = (it._replace(code=tuple(put(it, text.comments, below))) for it in said.tasks)
+        said = said._replace(tasks=tuple(tasks), interrupts=text.interrupts)
     faults, remarks, made = tuple(text.faults), tuple(text.remarks), tuple(text.made)
     return Source(path, shown, text.root, faults, said, remarks, made, consts)
 

@@ -39,14 +39,14 @@ class Mark:
 @dataclasses.dataclass
 class Block:
     """A block that is open: its first word, the number of its first instruction, where it goes on
-    behind its end, and, of an `if`, where it does where the test fails. `has_lines` says whether
-    anything stands in it, `is_refused` whether its line is refused."""
+    behind its end, and, of an `if`, where it does where the test fails. The instructions of what
+    stands in it begin at `inner`; `is_refused` says whether its line is refused."""
 
     word: Token
     head: int
-    behind: Mark
+    behind: Mark = dataclasses.field(default_factory=Mark)
     otherwise: Optional[Mark] = None
-    has_lines: bool = False
+    inner: int = 0
     is_refused: bool = False
 
     @property
@@ -72,23 +72,24 @@ class Blocks:
 
     def reads(self, tokens: Sequence[Token]) -> bool:
         """Whether a line is of a block; then it is read. Raises `Refusal` where it is wrong."""
-        word, known = tokens[0].text, self._script.length
-        is_end_of_task = tuple(token.text for token in tokens) == TASK_ENDS
-        if is_end_of_task or word not in READERS or (word == END and not self._open):
-            if self._open:
-                self._open[-1].has_lines = True
-            if is_end_of_task:
-                self._script.add(tokens, ("end",))
-            return is_end_of_task
+        word = tokens[0].text
+        if tuple(token.text for token in tokens) == TASK_ENDS:
+            self._script.add(tokens, ("end",))
+            return True
+        if word not in READERS or (word == END and not self._open):
+            return False
         try:
             READERS[word](self, tokens)
         except Refusal:
             if self._open and self._open[-1].word is tokens[0]:
                 self._open[-1].is_refused = True
-            if self._script.length == known and word != LOOP:
-                self._script.placeholder(tokens)
             raise
         return True
+
+    def fill(self) -> None:
+        """Takes note of a line that stands in a block, and is of no script."""
+        for block in self._open[-1:]:
+            block.inner = -1
 
     def close_all(self) -> None:
         """Refuses blocks that are open at the end, and those behind which nothing stands."""
@@ -114,38 +115,31 @@ class Blocks:
         """Refuses what stands behind a word that stands alone."""
         self._end_of_line(tokens[0].text, tokens[1:])
 
-    def _begin(self, word: Token, behind: Mark, otherwise: Optional[Mark] = None) -> None:
-        """Opens a block."""
-        if self._open:
-            self._open[-1].has_lines = True
-        self._open.append(Block(word, self._script.length, behind, otherwise))
-
     def _loop(self, tokens: Sequence[Token]) -> None:
-        self._begin(tokens[0], Mark())
+        self._open.append(Block(tokens[0], self._script.length))
         self._alone(tokens)
 
     def _while(self, tokens: Sequence[Token]) -> None:
-        behind = Mark()
-        self._begin(tokens[0], behind)
+        block = Block(tokens[0], self._script.length)
+        self._open.append(block)
         test, rest = self._test(tokens)
         self._end_of_line(WHILE, rest)
-        self._script.jump(tokens, test.turned(), behind)
+        self._script.add(tokens, *test.turned().jump(), block.behind)
 
     def _if(self, tokens: Sequence[Token]) -> None:
         words = [token.text for token in tokens]
         is_block = not any(it in words for it in (*GOTO, BREAK, CONTINUE))
         otherwise = Mark()
         if is_block:
-            self._begin(tokens[0], Mark(), otherwise)
-        elif self._open:
-            self._open[-1].has_lines = True
+            self._open.append(Block(tokens[0], self._script.length, otherwise=otherwise))
         test, rest = self._test(tokens)
         if not rest and is_block:
-            self._script.jump(tokens, test.turned(), otherwise)
+            self._script.add(tokens, *test.turned().jump(), otherwise)
+            self._open[-1].inner = self._script.length
         elif rest and rest[0].text in GOTO and len(rest) == 2 and rest[1].is_word():
-            self._script.jump(tokens, test, rest[1])
+            self._script.add(tokens, *test.jump(), rest[1])
         elif rest and rest[0].text in (BREAK, CONTINUE) and len(rest) == 1:
-            self._script.jump(tokens, test, self._of_loop(rest[0]))
+            self._script.add(tokens, *test.jump(), self._of_loop(rest[0]))
         else:
             self._end_of_line(IF, (rest or tokens)[-1:], "has no place here")
 
@@ -153,7 +147,7 @@ class Blocks:
         """The test behind the first word of a line, and what stands behind it."""
         if len(tokens) < 2:
             raise Refusal(tokens[0].place, f"{FORMS[tokens[0].text]}: there is no test")
-        tests = Tests(split(tokens[1:]), self._script.kept)
+        tests = Tests([*split(tokens[1:])], self._script.kept)
         return tests.test(), tests.tokens[tests.at :]
 
     def _of_loop(self, word: Token) -> Mark:
@@ -165,9 +159,7 @@ class Blocks:
 
     def _leave(self, tokens: Sequence[Token]) -> None:
         self._alone(tokens)
-        target = self._of_loop(tokens[0])
-        self._open[-1].has_lines = True
-        self._script.add(tokens, JUMP, target=target)
+        self._script.add(tokens, JUMP, target=self._of_loop(tokens[0]))
 
     def _else(self, tokens: Sequence[Token]) -> None:
         if tokens[1:] and tokens[1].text == IF:
@@ -179,8 +171,8 @@ class Blocks:
             raise Refusal(tokens[0].place, "this else belongs to no if")
         self._check_lines(block, tokens[0])
         self._script.add(tokens, JUMP, target=block.behind)
-        block.otherwise.at, block.otherwise = self._script.length, None
-        block.has_lines = False
+        block.inner = block.otherwise.at = self._script.length
+        block.otherwise = None
 
     def _end(self, tokens: Sequence[Token]) -> None:
         block = self._open[-1]
@@ -197,7 +189,7 @@ class Blocks:
 
     def _check_lines(self, block: Block, end: Token) -> None:
         """Refuses an `if` without a line in it, whose `end` was meant to end the task."""
-        if not block.has_lines and not block.is_loop:
+        if block.inner == self._script.length and not block.is_loop:
             message = f"nothing stands in the if of line {block.word.place.line}"
             raise Refusal(end.place, f"{message}; the task ends by: end task")
 

@@ -6,7 +6,7 @@ value is put there, all other bits are cleared, and what is left is taken. The t
 have `{spare}` for a register and `{entry}` for an entry that the task doesn't use, `{own}` for the
 task itself, `{target}` for where they jump, and `{here[N]}` for the Nth of them."""
 import re
-from typing import List, NamedTuple, Optional, Sequence, Tuple
+from typing import Iterator, NamedTuple, Optional, Sequence, Tuple
 
 from rdbg.firmware.numbers import LARGEST, Numbers
 from rdbg.firmware.tokens import Refusal, Token, shown
@@ -80,15 +80,13 @@ class Test(NamedTuple):
         return (*looked, same, back, past, back, "jump {target}"), cost(count + 3, count + 3)
 
 
-def split(tokens: Sequence[Token]) -> List[Token]:
+def split(tokens: Sequence[Token]) -> Iterator[Token]:
     """The tokens of a test, parted at its signs: `r0&STOP` is three."""
-    found: List[Token] = []
     for token in tokens:
         pieces = re.finditer(PIECE if token.is_word() else ".+", token.text, re.DOTALL)
         for it in pieces:
             gap = "" if it.start() else token.gap
-            found.append(Token(it[0], token.place_of(it.start()), gap))
-    return found
+            yield Token(it[0], token.place_of(it.start()), gap)
 
 
 class Tests(Numbers):

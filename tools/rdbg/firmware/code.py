@@ -1,20 +1,20 @@
 """The scripts of a text in lines: each instruction as rdbg reads it, with numbers for labels. And
 the registers that a task leaves free."""
+import contextlib
 import dataclasses
 import re
 from typing import Dict, Iterator, List, Mapping, NamedTuple, Optional, Sequence, Set, Tuple, Union
 
 from rdbg.digits import is_digits
 from rdbg.firmware import waits
-from rdbg.firmware.blocks import WORDS, Blocks, Mark
-from rdbg.firmware.branches import Test
+from rdbg.firmware.blocks import LOOP, WORDS, Blocks, Mark
 from rdbg.firmware.numbers import NAME, Kept, near_to
-from rdbg.firmware.operands import Operand, Operands, as_written, made
-from rdbg.firmware.semaphores import Semaphore, why_not
-from rdbg.firmware.tokens import Refusal, Stop, Token, shown, written
+from rdbg.firmware.operands import Operand, Operands, as_written
+from rdbg.firmware.semaphores import Semaphore, instruction, why_not
+from rdbg.firmware.tokens import Refusal, Stop, Token, shown, without_parentheses, written
 from rdbg.instructions import FORM_OF, WRITES_R1
 from rdbg.operands import PATTERN_OF
-from rdbg.tree import Fault, Member, Node, Object, Part, Place
+from rdbg.tree import Fault, Member, Node, Object, Part
 from rdbg.wording import quoted
 
 # The registers that a line can have, the first one first.
@@ -79,62 +79,17 @@ MOST_READ = 1000
 LIKE_REGISTER = re.compile("[rR][0-9]+")
 
 
-def without_parentheses(tokens: Sequence[Token]) -> Sequence[Token]:
-    """The operands of `recv(jobs, max)`. Raises `Refusal` where a parenthesis isn't closed."""
-    depth = 0
-    for index, token in enumerate(tokens if tokens and tokens[0].text == "(" else ()):
-        depth += (token.text == "(") - (token.text == ")")
-        if depth == 0:
-            return tokens[1:index] if index + 1 == len(tokens) else tokens
-    if depth:
-        raise Refusal(tokens[0].place, "this ( isn't closed")
-    return tokens
-
-
 @dataclasses.dataclass(frozen=True)
-class Draft:
-    """An instruction. Labels among its operands are numbers once its script is closed."""
-
-    parts: Tuple[Operand, ...]
-    tokens: Tuple[Token, ...]
-    length = 1
-
-    def uses(self, uses: Uses) -> None:
-        """Takes note of what it uses."""
-        uses.add([part.text for part in self.parts])
-
-    def needs_label(self, labels: Mapping[str, object]) -> bool:
-        """Whether it jumps, and no label stands in its place: then another word is one."""
-        if "L" not in FORM_OF[self.tokens[0].text].symbols:
-            return False
-        names = [part.label.text for part in self.parts if part.label is not None]
-        return not any(name in labels or not LIKE_REGISTER.fullmatch(name) for name in names)
-
-    def node(self) -> Node:
-        """The instruction. A space has the place before it."""
-        columns = [at for part in self.parts for at in (*part.columns, part.columns[-1])]
-        place, text = self.tokens[0].place, " ".join(part.text for part in self.parts)
-        spelled = tuple(part.spelled or part.text for part in self.parts)
-        return Node(text, place, columns[:-1], written(self.tokens), spelled)
-
-
-def label_out_of_place(part: Operand, line: int) -> Optional[Token]:
-    """The label that a word is which stands in the place of another."""
-    is_name = NAME.fullmatch(part.text) and not LIKE_REGISTER.fullmatch(part.text)
-    return Token(part.text, Place(line, part.columns[0])) if is_name else None
-
-
-@dataclasses.dataclass(frozen=True)
-class Several:
+class Line:
     """A line that becomes instructions, which are written as in `rdbg.firmware.branches`. They jump
     to `target`, if anywhere, a number once its script is closed; `note` is said behind the line,
     and `cost` of it."""
 
     tokens: Tuple[Token, ...]
     texts: Tuple[str, ...]
-    target: Union[None, Token, Mark, int]
-    note: str
-    cost: str
+    cost: str = "1 move"
+    target: Union[None, Token, Mark, int] = None
+    note: str = ""
 
     @property
     def length(self) -> int:
@@ -163,16 +118,42 @@ class Several:
 
     def nodes(self, own: str, spare: Spare, at: int) -> Iterator[Node]:
         """The instructions, the first of which has this number, of a task of this name."""
-        place, here = self.tokens[0].place, range(at, at + self.length + 1)
+        here = range(at, at + self.length + 1)
         free = {"spare": spare.register, "entry": spare.entry, "ending": spare.ending}
         for index, text in enumerate(self.texts):
             made = text.format(own=own, target=self.target, here=here, **free)
             part = Part(index, self.length, self.note, self.cost)
-            columns = [place.column] * len(made)
-            yield Node(made, place, columns, written(self.tokens), (), part)
+            yield Node(made, self.tokens[0].place, (), written(self.tokens), (), part)
 
 
-Line = Union[Draft, Several]
+@dataclasses.dataclass(frozen=True)
+class Draft(Line):
+    """An instruction. Labels among its operands are numbers once its script is closed."""
+
+    parts: Tuple[Operand, ...] = ()
+
+    @classmethod
+    def of(cls, tokens: Sequence[Token], parts: Sequence[Operand]) -> "Draft":
+        """The one that is written so, with these parts."""
+        text = " ".join(part.text for part in parts)
+        return cls(tuple(tokens), (text,), parts=tuple(parts))
+
+    def labels(self, known: Mapping[str, object]) -> List[Operand]:
+        """The operands that are labels. Where it jumps, and no label stands in its place, those are
+        which stand in that of another."""
+        labels = [part for part in self.parts if part.is_label]
+        is_there = any(it.text in known or not LIKE_REGISTER.fullmatch(it.text) for it in labels)
+        form = FORM_OF.get(self.tokens[0].text)
+        if is_there or form is None or "L" not in form.symbols:
+            return labels
+        names = (it for it in self.parts[1:] if NAME.fullmatch(it.text))
+        return [it for it in names if not LIKE_REGISTER.fullmatch(it.text)]
+
+    def nodes(self, own: str, spare: Spare, at: int) -> Iterator[Node]:
+        """The instruction."""
+        columns = [part.place.column for part in self.parts]
+        spelled = tuple(part.spelled or part.text for part in self.parts)
+        yield Node(self.texts[0], self.tokens[0].place, columns, written(self.tokens), spelled)
 
 
 class Script:
@@ -181,6 +162,7 @@ class Script:
     def __init__(self, task: str, kept: Kept, semaphores: Mapping[str, Semaphore]) -> None:
         self.task, self.kept, self.refusals = task, kept, kept.refusals
         self.length, self.blocks, self.semaphores = 0, Blocks(self), semaphores
+        self.spare = Spare(None, None)
         # (each line with the number of its first instruction)
         self._lines: List[Tuple[int, Line]] = []
         self._labels: Dict[str, Tuple[Token, int]] = {}
@@ -207,10 +189,6 @@ class Script:
         self._lines.append((self.length, line))
         self.length += line.length
 
-    def jump(self, tokens: Sequence[Token], test: Test, target: Union[Token, Mark]) -> None:
-        """A line that jumps where a test is met."""
-        self.add(tokens, *test.jump(), target)
-
     def add(
         self,
         tokens: Sequence[Token],
@@ -222,18 +200,47 @@ class Script:
         """A line that becomes instructions."""
         if isinstance(target, Mark):
             target.is_used = True
-        self._add(Several(tuple(tokens), texts, target, note, cost))
+        self._add(Line(tuple(tokens), texts, cost, target, note))
+
+    @contextlib.contextmanager
+    def counting(self, tokens: Sequence[Token]) -> Iterator[None]:
+        """Has a line that is refused count as an instruction, where it is no `loop`."""
+        known = self.length
+        try:
+            yield
+        except Refusal:
+            if tokens and self.length == known and tokens[0].text != LOOP:
+                self.placeholder(tokens)
+            raise
+
+    def read(self, tokens: Sequence[Token]) -> None:
+        """Reads a line of a block, of a wait or of a semaphore, or an instruction."""
+        if self.blocks.reads(tokens):
+            return
+        if tokens[0].text == waits.WORD:
+            self.add(tokens, *waits.texts_of(tokens, self.kept))
+            return
+        text = instruction(tokens, self.semaphores, self.kept)
+        if text is None:
+            self.instruction(tokens)
+        else:
+            self.add(tokens, (text,))
 
     @property
     def has_waits(self) -> bool:
         """Whether some line waits at an entry that an interrupt may end."""
-        return any(isinstance(it, Several) and it.needs("{ending}") for _, it in self._lines)
+        return any(it.needs("{ending}") for _, it in self._lines)
+
+    def waits(self) -> Iterator[Token]:
+        """The first words of lines that wait."""
+        firsts = (line.tokens[0] for _, line in self._lines)
+        return (it for it in firsts if it.text == waits.WORD)
 
     def fillers(self, queue: str) -> Iterator[Token]:
         """The lines that put something into a queue."""
-        for _, line in self._lines:
-            if isinstance(line, Draft) and [it.text for it in line.parts[1:2]] == [queue]:
-                yield from [line.tokens[0]] if line.tokens[0].text in waits.FILLS else []
+        filling = tuple(f"{word} {queue} " for word in waits.FILLS)
+        lines = (line for _, line in self._lines if f"{line.texts[0]} ".startswith(filling))
+        return (line.tokens[0] for line in lines)
 
     def instruction(self, tokens: Sequence[Token]) -> None:
         """Reads an instruction; where it is refused its word counts. Raises `Stop` at the most."""
@@ -244,12 +251,12 @@ class Script:
         why = why_not(tokens[0].text, parts[1].text, self.semaphores) if parts[1:] else ""
         if why:
             kept.refuse(tokens[0].place, why)
-        self._add(Draft(tuple(parts), tuple(tokens)))
+        self._add(Draft.of(tokens, parts))
         self.refusals += [self._told(refusal, index, tokens) for refusal in kept.refusals]
 
     def placeholder(self, tokens: Sequence[Token]) -> None:
         """Keeps the place of an instruction that is refused."""
-        self._add(Draft((as_written(tokens[0]),), tuple(tokens)))
+        self._add(Draft.of(tokens, [as_written(tokens[0])]))
 
     def _told(self, refusal: Refusal, index: int, tokens: Sequence[Token]) -> Refusal:
         """What is refused of an instruction, with the words that say of which one."""
@@ -292,67 +299,57 @@ class Script:
                 self.refuse(token, f"no instruction stands behind label {shown(token.text)}")
         self._lines = [(at, self._with_numbers(line, at)) for at, line in self._lines]
 
-    def check_spare(self, spare: Spare) -> None:
+    def check_spare(self) -> None:
         """Refuses lines that need what their task has none of."""
         for at, line in self._lines:
-            lacks = line.lacks(spare) if isinstance(line, Several) else ""
+            lacks = line.lacks(self.spare)
             if lacks:
                 refusal = Refusal(line.tokens[0].place, f"it needs {lacks}")
                 self.refusals.append(self._told(refusal, at, line.tokens))
 
-    def remarks(self, spare: Spare, names: Sequence[str]) -> Iterator[Fault]:
+    def remarks(self, names: Sequence[str]) -> Iterator[Fault]:
         """What there is to say of lines that look at bits or wait, and aren't refused."""
         for _, line in self._lines:
-            if not isinstance(line, Several) or line.lacks(spare):
+            if line.lacks(self.spare):
                 continue
             if line.needs("{ending}"):
                 ends = [f"{name}{waits.NAME_END}" for name in names]
                 yield Fault(line.tokens[0].place, "", waits.remark(line.cost, ends))
             if line.needs("{entry}"):
-                by = f"entry {spare.entry} and {spare.register}"
+                by = f"entry {self.spare.entry} and {self.spare.register}"
                 text = f"note: {line.cost}, by {by}; r0 is another in between, and then as before"
                 yield Fault(line.tokens[0].place, "", text)
 
-    def nodes(self, own: str, spare: Spare) -> Iterator[Node]:
+    def nodes(self, own: str) -> Iterator[Node]:
         """The instructions of a task of this name, when the script is closed."""
         for at, line in self._lines:
-            yield from [line.node()] if isinstance(line, Draft) else line.nodes(own, spare, at)
+            yield from line.nodes(own, self.spare, at)
 
     def _with_numbers(self, line: Line, index: int) -> Line:
         """A line with the number of an instruction in place of each label."""
-        if isinstance(line, Several):
-            number = 0
-            if isinstance(line.target, Mark):
-                # (what is refused of its block is told there)
-                number = min(line.target.at or 0, self.length - 1)
-            elif isinstance(line.target, Token):
-                part = self._target(as_written(line.target), line.target, index, line.tokens)
-                number = int(part.text) if part.text.isdigit() else 0
-            return dataclasses.replace(line, target=number)
-        first, *operands = line.parts
-        labels = [part.label for part in operands]
-        if line.tokens[0].text in FORM_OF and line.needs_label(self._labels):
-            row = line.tokens[0].place.line
-            labels = [label_out_of_place(part, row) for part in operands]
-        pairs = zip(operands, labels)
-        parts = (self._target(part, it, index, line.tokens) for part, it in pairs)
-        return dataclasses.replace(line, parts=(first, *parts))
+        if isinstance(line, Draft):
+            labels = line.labels(self._labels)
+            known = {it: self._target(it, index, line.tokens) for it in labels}
+            return Draft.of(line.tokens, [known.get(part, part) for part in line.parts])
+        number = 0
+        if isinstance(line.target, Mark):
+            # (what is refused of its block is told there)
+            number = min(line.target.at or 0, self.length - 1)
+        elif isinstance(line.target, Token):
+            found = self._target(as_written(line.target), index, line.tokens).text
+            number = int(found) if found.isdigit() else 0
+        return dataclasses.replace(line, target=number)
 
-    def _target(
-        self, part: Operand, label: Optional[Token], index: int, tokens: Sequence[Token]
-    ) -> Operand:
-        """A part of an instruction, where it is a label as the number of its instruction."""
-        if label is None:
-            return part
+    def _target(self, label: Operand, index: int, tokens: Sequence[Token]) -> Operand:
+        """The number of the instruction for a label; the label itself where it names none."""
         name = label.text
         if name in self._labels:
-            number = made(str(self._labels[name][1]), label.place)
-            return number._replace(spelled=name)
+            return Operand(str(self._labels[name][1]), label.place, spelled=name)
         near = near_to(name, self._labels)
         hint = f"; a label has a colon: {name}:" if name in WORDS else near
         message = f"there is no label {shown(name)}{hint}"
         self.refusals.append(self._told(Refusal(label.place, message, "L5 Instr"), index, tokens))
-        return part
+        return label
 
 
 @dataclasses.dataclass(frozen=True)
@@ -373,17 +370,14 @@ class Thing:
         numbers = [""] if self.count is None else [str(it) for it in range(self.count)]
         return tuple(self.name() + number for number in numbers)
 
-    def nodes(self, spare: Spare) -> Iterator[Node]:
-        """The thing, or the tasks that it is, as parts of the tree, by what its script leaves."""
+    def nodes(self) -> Iterator[Node]:
+        """The thing, or the tasks that it is, as parts of the tree."""
         for name in self.names():
-            members = [it if it.key != "name" else renamed(it, name) for it in self.members]
+            members = [
+                it._replace(node=Node(name, it.node.place)) if it.key == "name" else it
+                for it in self.members
+            ]
             if self.script is not None:
-                code = Node(tuple(self.script.nodes(name, spare)), self.word.place)
+                code = Node(tuple(self.script.nodes(name)), self.word.place)
                 members.append(Member("code", self.word.place, code))
             yield Node(Object(tuple(members)), self.word.place)
-
-
-def renamed(member: Member, name: str) -> Member:
-    """The name of a thing, or of one of several tasks."""
-    is_own, place = member.node.value == name, member.node.place
-    return member if is_own else member._replace(node=Node(name, place, [place.column] * len(name)))

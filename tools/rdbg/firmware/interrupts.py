@@ -6,7 +6,7 @@ from rdbg.checking.freertos import FROM_ISR, called
 from rdbg.firmware.numbers import NAME, Kept, near_to
 from rdbg.firmware.operands import Operand, Operands
 from rdbg.firmware.semaphores import GIVE, Semaphore
-from rdbg.firmware.tokens import Refusal, Token, shown
+from rdbg.firmware.tokens import Refusal, Token, shown, without_parentheses
 from rdbg.instructions import FORM_OF
 from rdbg.operands import KIND_OF
 
@@ -40,10 +40,10 @@ class Read(NamedTuple):
     """An interrupt as it was read: its name, what is said of when it comes, and its calls."""
 
     name: Token
-    times: int
-    after: Optional[Token]
-    apart: int
-    calls: Tuple[Call, ...]
+    times: int = 1
+    after: Optional[Token] = None
+    apart: int = 0
+    calls: Tuple[Call, ...] = ()
 
     def interrupt(self) -> Interrupt:
         """It without the places of its words."""
@@ -59,8 +59,6 @@ class InterruptLine:
         self, tokens: Sequence[Token], kept: Kept, semaphores: Mapping[str, Semaphore]
     ) -> None:
         self._tokens, self._kept, self._semaphores = tokens, kept, semaphores
-        self._after: Optional[Token] = None
-        self._apart, self._times = 0, 1
 
     def read(self) -> Read:
         """All of it. Raises `Refusal` where it is wrong."""
@@ -75,13 +73,11 @@ class InterruptLine:
             raise Refusal(head[0].place, message)
         if not head or not NAME.fullmatch(head[0].text):
             raise Refusal(self._tokens[0].place, f"{FORM}: there is no name")
-        self._keys(head[1:])
-        calls = tuple(self._calls(self._tokens[colon:]))
-        return Read(head[0], self._times, self._after, self._apart, calls)
+        found = self._keys(Read(head[0]), Operands(head[1:], self._kept))
+        return found._replace(calls=tuple(self._calls(self._tokens[colon:])))
 
-    def _keys(self, tokens: Sequence[Token]) -> None:
-        """What is said of when it comes."""
-        reader = Operands(tokens, self._kept)
+    def _keys(self, it: Read, reader: Operands) -> Read:
+        """It with what is said of when it comes."""
         for token in reader.each():
             if token.text not in KEYS:
                 raise Refusal(token.place, f"{shown(token.text)} is no key: {FORM}")
@@ -89,13 +85,14 @@ class InterruptLine:
                 raise Refusal(token.place, f"{FORM}: nothing stands behind {token.text}")
             if token.text == AFTER:
                 reader.word()
-                self._after = reader.tokens[reader.at - 1]
+                it = it._replace(after=reader.tokens[reader.at - 1])
             elif token.text == APART:
-                self._apart = self._bounded(reader, APART, 0, MOST_APART)
+                it = it._replace(apart=self._bounded(reader, APART, 0, MOST_APART))
             elif reader.is_next(ANY_TIMES):
-                self._times = ANY
+                it = it._replace(times=ANY)
             else:
-                self._times = self._bounded(reader, TIMES, 1, MOST_TIMES)
+                it = it._replace(times=self._bounded(reader, TIMES, 1, MOST_TIMES))
+        return it
 
     def _bounded(self, reader: Operands, key: str, least: int, most: int) -> int:
         token, value = reader.next(), reader.number()
@@ -114,14 +111,13 @@ class InterruptLine:
                 continue
             if not part:
                 raise Refusal(tokens[0].place, f"{FORM}: a call is missing: {CALLS}")
-            yield Call(tuple(self._call(part)), tuple(part))
+            plain = [part[0], *without_parentheses(part[1:])]
+            yield Call(tuple(self._call(plain)), tuple(plain))
             part = []
 
     def _call(self, tokens: Sequence[Token]) -> List[str]:
         """The words of a call. Raises `Refusal` where an interrupt makes no such call."""
         word = tokens[0].text
-        if tokens[1:] and tokens[1].text == "(" and tokens[-1].text == ")":
-            tokens = [tokens[0], *tokens[2:-1]]
         reader = Operands(tokens[1:], self._kept)
         if word == GIVE:
             return self._give(tokens)
@@ -191,9 +187,8 @@ class Names(NamedTuple):
             yield from self._of_call(call)
 
     def _of_call(self, call: Call) -> Iterator[Refusal]:
-        word, name = call.words[:2]
+        (word, name), place = call.words[:2], call.tokens[1].place
         noun, names = ("task", self.tasks) if word == NOTIFY else ("queue", self.queues)
-        place = call.tokens[1].place if call.tokens[1].text != "(" else call.tokens[2].place
         if name not in names:
             yield Refusal(place, f"{noun} {shown(name)} isn't there{near_to(name, names)}")
         if word == NOTIFY:

@@ -34,11 +34,6 @@ def next_number(reader: Numbers) -> Node:
     return Node(Number(str(value)), token.place)
 
 
-def name_node(token: Token) -> Node:
-    """A name."""
-    return Node(token.text, token.place, token.columns())
-
-
 def queue(name: Node, length: Node, item: Node) -> Tuple[Member, ...]:
     """The members of a queue for which a line of another thing stands."""
     values = (("name", name), ("length", length), ("item", item))
@@ -46,7 +41,7 @@ def queue(name: Node, length: Node, item: Node) -> Tuple[Member, ...]:
 
 
 class ObjectLine:
-    """Reads a line of an object or of a task. What is refused of it is kept in `refusals`."""
+    """A line of an object or of a task, read as far as it can be. What is refused of it is kept."""
 
     def __init__(self, tokens: Sequence[Token], kept: Kept) -> None:
         self._word, self._shape = tokens[0], OBJECTS[tokens[0].text]
@@ -55,10 +50,7 @@ class ObjectLine:
         self.members: List[Member] = []
         # How many tasks have the script, where they are several.
         self.count: Optional[int] = None
-
-    def read(self) -> None:
-        """Reads all of it, as far as it can be read."""
-        with self._kept.keeping():
+        with kept.keeping():
             self._name()
             for token in self._reader.each():
                 self._key(token)
@@ -76,7 +68,7 @@ class ObjectLine:
         if self._word.text == "task":
             token = self._without_count(token)
         self.name = token.text
-        self.members.append(Member("name", token.place, name_node(token)))
+        self.members.append(Member("name", token.place, Node(token.text, token.place)))
 
     def _without_count(self, token: Token) -> Token:
         """The name of a task; that of several, `worker[3]`, without how many they are."""
@@ -108,4 +100,4 @@ class ObjectLine:
         for token in self._reader.each():
             if not token.is_word():
                 raise Refusal(token.place, f"{shown(token.text)} is no name")
-            yield name_node(token)
+            yield Node(token.text, token.place)

@@ -1,6 +1,6 @@
 """The operands of instructions in a text in lines, as rdbg reads them, from what is written."""
 import re
-from typing import Callable, Dict, List, NamedTuple, Optional, Sequence
+from typing import Callable, Dict, List, NamedTuple
 
 from rdbg.firmware.numbers import FOREVER, NAME, NOTHING_NAMED, NUMBER, Numbers
 from rdbg.firmware.tokens import Refusal, Token, shown, written
@@ -22,28 +22,22 @@ JOINING = ("|", "<<")
 
 
 class Operand(NamedTuple):
-    """An operand as rdbg reads it, its characters' columns, its label, and as it is `spelled`."""
+    """An operand as rdbg reads it, where it stands, whether it is a label, and as `spelled`."""
 
     text: str
-    columns: Sequence[int]
-    label: Optional[Token] = None
+    place: Place
+    is_label: bool = False
     spelled: str = ""
 
 
 def as_written(token: Token) -> Operand:
     """An operand that stands there as rdbg reads it."""
-    return Operand(token.text, token.columns())
+    return Operand(token.text, token.place)
 
 
-def made(text: str, place: Place) -> Operand:
-    """An operand that is written in another way."""
-    return Operand(text, [place.column] * len(text))
-
-
-def bytes_of(token: Token) -> Operand:
+def bytes_of(token: Token) -> str:
     """The bytes of a text in quotes. Raises `Refusal` for an escape that there isn't."""
     parts: List[str] = []
-    columns: List[int] = []
     at = 1
     while at < len(token.text) - 1:
         found = CHARACTER.match(token.text, at)
@@ -51,12 +45,11 @@ def bytes_of(token: Token) -> Operand:
             message = r"the escapes are \n, \r, \t, \0, \\, \" and two digits behind \x"
             raise Refusal(token.place_of(at), message)
         parts.append(found[1] or ESCAPES.get(found[2], found[0]).encode().hex())
-        columns += [token.place.column + at] * len(parts[-1])
         at = found.end()
-    return Operand("".join(parts), columns)
+    return "".join(parts)
 
 
-def byte_of(token: Token, value: int) -> Operand:
+def byte_of(token: Token, value: int) -> str:
     """The byte that a const is. Raises `Refusal` where it is none, or its name could be bytes."""
     name = shown(token.text)
     if BYTES.fullmatch(token.text):
@@ -64,7 +57,7 @@ def byte_of(token: Token, value: int) -> Operand:
         raise Refusal(token.place, f"{name} is a const, and could be bytes: {either}")
     if value > 0xFF:
         raise Refusal(token.place, f"{name} is {value}, and a byte is 0 to 255")
-    return made(f"{value:02x}", token.place)._replace(spelled=name)
+    return f"{value:02x}"
 
 
 class Operands(Numbers):
@@ -109,7 +102,7 @@ class Operands(Numbers):
         at = token.place_of(found.start(2))
         number = Numbers([Token(found[2], at)], self.kept).number()
         self.at += 1
-        return made(f"{found[1]}{number}", token.place)
+        return Operand(f"{found[1]}{number}", token.place)
 
     def word(self) -> Operand:
         """The next word, as it is written."""
@@ -123,12 +116,12 @@ class Operands(Numbers):
         """The next number, in decimal digits."""
         first = self.tokens[self.at]
         text = str(self.number())
-        return as_written(first) if first.text == text else made(text, first.place)
+        return Operand(text, first.place)
 
     def signed(self) -> Operand:
         """The next number; one below 0 as the number that 32 bits make of it."""
         place, number = self.tokens[self.at].place, self.below_0()
-        return self.value() if number is None else made(str(number), place)
+        return self.value() if number is None else Operand(str(number), place)
 
     def register_or_value(self) -> Operand:
         """The next register or number."""
@@ -142,23 +135,21 @@ class Operands(Numbers):
         behind = self.tokens[self.at + 1 : self.at + 2]
         if token.text == FOREVER and not (behind and behind[0].text in JOINING):
             self.at += 1
-            return made("max", token.place)
+            return Operand("max", token.place)
         return self.register_or_value()
 
     def target(self) -> Operand:
         """The next label, or number of an instruction."""
         operand = self.word()
-        label = self.tokens[self.at - 1] if NAME.fullmatch(operand.text) else None
-        return operand._replace(label=label)
+        return operand._replace(is_label=NAME.fullmatch(operand.text) is not None)
 
     def data(self) -> Operand:
         """All bytes that come: digits, a text in quotes, or consts of a byte each."""
-        pieces = [self._piece(token) for token in self.each()]
-        text = "".join(piece.text for piece in pieces)
-        columns = [column for piece in pieces for column in piece.columns]
-        return Operand(text, columns) if text else made("-", self.tokens[0].place)
+        place = self.tokens[self.at].place
+        text = "".join(map(self._piece, self.each()))
+        return Operand(text or "-", place)
 
-    def _piece(self, token: Token) -> Operand:
+    def _piece(self, token: Token) -> str:
         if token.is_quoted():
             return bytes_of(token)
         value = self.constants.value(token)
@@ -166,9 +157,9 @@ class Operands(Numbers):
             return byte_of(token, value)
         found = None if is_binary(token.text) else BYTES.fullmatch(token.text)
         if found:
-            return Operand(found[1], token.columns()[found.start(1) :])
+            return found[1]
         if token.text == "-" and len(self.tokens) == 1:
-            return as_written(token)
+            return token.text
         near = self.constants.near(token.text)
         why = "each byte has two digits" if ODD.fullmatch(token.text) else f"{BYTES_ARE}{near}"
         if is_binary(token.text):

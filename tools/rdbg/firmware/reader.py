@@ -4,13 +4,13 @@ docs/FORMATS.md has the grammar. What it refuses is a fault of its own; what els
 found in the tree, as in that of a JSON (`rdbg.checking.faults`)."""
 import itertools
 import re
-from typing import Dict, List, Mapping, Optional, Sequence, Set, Tuple
+from typing import Callable, Dict, List, Mapping, Optional, Sequence, Set, Tuple
 
 from rdbg.application import Beside, Interrupt, Text
 from rdbg.checking.faults import faults_of
 from rdbg.failure import Failure
 from rdbg.firmware import blocks, interrupts, meant, semaphores, waits
-from rdbg.firmware.code import MOST_READ, Script, Spare, Thing, Uses, spare, without_parentheses
+from rdbg.firmware.code import MOST_READ, Script, Thing, Uses, spare
 from rdbg.firmware.numbers import Constants, Kept, Numbers, near_to
 from rdbg.firmware.objects import OBJECTS, SETTINGS, ObjectLine, form_of, next_number, queue
 from rdbg.firmware.tokens import MOST_TOKENS, Refusal, Scanner, Stop, Token, decoded, shown, written
@@ -23,13 +23,21 @@ MOST_LINES = 20_000
 MOST_REFUSALS = 500
 CONST = ("const", "#define")
 SET_KEYS = ("length", "members")
+OF_SCRIPTS = frozenset((*FORM_OF, *blocks.WORDS, semaphores.GIVE, waits.WORD))
 TOP = Place(1, 1)
-NOTHING = Spare(None, None)
 
 
 def is_const(tokens: Sequence[Token]) -> bool:
     """Whether a line names a number, or was meant to."""
     return tokens[0].text in CONST or meant.as_const(tokens) is not None
+
+
+def check(tokens: Sequence[Token]) -> None:
+    """Refuses what can't stand in any line."""
+    for token in tokens:
+        token.check()
+    if len(tokens) > MOST_TOKENS:
+        raise Refusal(tokens[MOST_TOKENS].place, "no line has so many words")
 
 
 def is_label(tokens: Sequence[Token]) -> bool:
@@ -52,9 +60,8 @@ class Reader:
         self._semaphores: Dict[str, semaphores.Semaphore] = {}
         self._interrupts: List[interrupts.Read] = []
         self._refused_interrupts: List[str] = []
-        # (those that end waits; and the first line that needs a queue that nobody fills)
+        # (those that end waits)
         self._endings: List[Interrupt] = []
-        self._waits: Optional[Token] = None
         self._numbers: Dict[str, Member] = {}
         self._things: Dict[str, List[Thing]] = {word: [] for word in OBJECTS}
         self._script: Optional[Script] = None
@@ -82,7 +89,6 @@ class Reader:
         self._check_constants()
         self._check_sets()
         self._check_never()
-        self._check_interrupts()
         return self._tree()
 
     def _lines(self, text: str) -> List[List[Token]]:
@@ -114,80 +120,40 @@ class Reader:
         at = 0
         while is_label(tokens[at : at + 2]):
             at += 2
-        self._check(tokens, at)
-        for token in tokens[:at:2]:
-            with self.kept.keeping():
-                self._script_of(token).label(token)
-        if tokens[at:]:
-            self._said(tokens[at:])
-
-    def _check(self, tokens: Sequence[Token], at: int) -> None:
-        """Refuses what can't stand in any line. An instruction counts all the same."""
-        try:
-            for token in tokens:
-                token.check()
-            if len(tokens) > MOST_TOKENS:
-                raise Refusal(tokens[MOST_TOKENS].place, "no line has so many words")
-        except Refusal:
-            if self._script is not None and tokens[at:] and tokens[at].text in FORM_OF:
-                self._script.placeholder(tokens[at:])
-            raise
-
-    def _said(self, tokens: Sequence[Token]) -> None:
-        """Reads a line without labels. Of one that is no instruction the first fault counts."""
-        word, known = tokens[0].text, len(self.refusals)
-        script = self._script_of(tokens[0]) if word in blocks.WORDS else self._script
-        # (`end task` is of no block)
-        is_of_block = script is not None and script.blocks.reads(tokens)
-        if is_of_block or self._is_of_semaphore(tokens):
+        labels, said = tokens[:at:2], tokens[at:]
+        is_of_script = self._is_of_script(said)
+        if not labels and not is_of_script:
+            check(tokens)
+            if said:
+                self._structure(said)
             return
-        if word == waits.WORD:
-            self._wait(tokens)
-            return
-        if word in FORM_OF and not (word == "set" and self._is_queue_set(tokens)):
-            self._script_of(tokens[0]).instruction(tokens)
-            return
-        with self.kept.keeping():
-            self._structure(tokens)
-        del self.refusals[known + 1 :]
-
-    def _is_of_semaphore(self, tokens: Sequence[Token]) -> bool:
-        """Whether a line takes, gives or counts a semaphore; then it is read."""
-        word = tokens[0]
-        if word.text not in (semaphores.TAKE, semaphores.GIVE, semaphores.COUNT):
-            return False
-        plain = [word, *without_parentheses(tokens[1:])]
-        try:
-            text = semaphores.instruction(plain, self._semaphores, self.kept)
-        except Refusal:
-            self._script_of(word).placeholder(tokens)
-            raise
-        if text is not None:
-            self._script_of(word).add(tokens, (text,))
-        return text is not None
-
-    def _wait(self, tokens: Sequence[Token]) -> None:
-        """A line that waits."""
         script = self._script_of(tokens[0])
-        plain = [tokens[0], *without_parentheses(tokens[1:])]
-        self._waits = self._waits or tokens[0]
-        try:
-            script.add(plain, *waits.texts_of(plain, script.kept))
-        except Refusal:
-            script.placeholder(tokens)
-            raise
+        with script.counting(said):
+            check(tokens)
+            for token in labels:
+                with self.kept.keeping():
+                    script.label(token)
+            if is_of_script:
+                script.read(said)
+            elif said:
+                self._structure(said)
+
+    def _is_of_script(self, tokens: Sequence[Token]) -> bool:
+        """Whether a line is of a script."""
+        word = tokens[0].text if tokens else ""
+        return word in OF_SCRIPTS and not (word == "set" and self._is_queue_set(tokens))
 
     def _check_never(self) -> None:
         """Makes the queue that waits receive from, if it isn't there, and refuses what fills it."""
-        if self._waits is None:
+        first = next((it for _, script in self.scripts() for it in script.waits()), None)
+        if first is None:
             return
         if waits.NEVER not in [it.name() for it in self._things["queue"]]:
-            place = self._waits.place
-            one = Node(Number("1"), place)
-            members = queue(Node(waits.NEVER, place), one, one)
-            self._things["queue"].append(Thing(self._waits, members))
-            made = f"{self._waits.text}: queue {waits.NEVER} length 1 item 1, which nobody fills"
-            self.made.append((place.line, made))
+            one = Node(Number("1"), first.place)
+            members = queue(Node(waits.NEVER, first.place), one, one)
+            self._things["queue"].append(Thing(first, members))
+            made = f"{first.text}: queue {waits.NEVER} length 1 item 1, which nobody fills"
+            self.made.append((first.place.line, made))
         fillers = [it for _, script in self.scripts() for it in script.fillers(waits.NEVER)]
         calls = [call for it in self._interrupts for call in it.calls]
         fillers += [it.tokens[0] for it in calls if it.words[:2] == ("send", waits.NEVER)]
@@ -206,25 +172,21 @@ class Reader:
         self._things["queue"].append(Thing(tokens[0], it.members))
 
     def _structure(self, tokens: Sequence[Token]) -> None:
-        """Reads a line that is no instruction."""
-        word = tokens[0].text
-        if word in CONST:
-            self._const(tokens)
-        elif word in SETTINGS:
-            self._number(tokens)
-        elif word in semaphores.FORMS:
-            self._semaphore(tokens)
-        elif word == interrupts.WORD:
-            try:
-                line = interrupts.InterruptLine(tokens, self.kept, self._semaphores)
-                self._interrupts.append(line.read())
-            except Refusal:
-                self._refused_interrupts += [token.text for token in tokens[1:2]]
-                raise
-        elif word in OBJECTS:
-            self._thing(tokens)
-        else:
-            self._unknown(tokens)
+        """Reads a line that is of no script. The first fault of it counts."""
+        known = len(self.refusals)
+        if self._script is not None:
+            self._script.blocks.fill()
+        with self.kept.keeping():
+            READERS.get(tokens[0].text, Reader._unknown)(self, tokens)
+        del self.refusals[known + 1 :]
+
+    def _interrupt(self, tokens: Sequence[Token]) -> None:
+        try:
+            line = interrupts.InterruptLine(tokens, self.kept, self._semaphores)
+            self._interrupts.append(line.read())
+        except Refusal:
+            self._refused_interrupts += [token.text for token in tokens[1:2]]
+            raise
 
     def _script_of(self, token: Token) -> Script:
         """The script that a line belongs to; where there is none yet, one that nobody has."""
@@ -271,13 +233,12 @@ class Reader:
 
     def _thing(self, tokens: Sequence[Token]) -> None:
         """A line of an object or of a task."""
-        word, line = tokens[0], ObjectLine(tokens, self.kept)
+        word = tokens[0]
         if len(self._things[word.text]) == MOST_READ:
             what = OBJECTS[word.text].plural
             message = f"there are {MOST_READ} {what} up to here; the rest isn't read"
             raise Stop(word.place, message, "L3 Limit")
-        line.read()
-        script = None
+        line, script = ObjectLine(tokens, self.kept), None
         if word.text == "task":
             name = line.name if line.count is None else f"{line.name}[{line.count}]"
             label = f"task {name or 'number ' + str(len(self._things['task']))}"
@@ -307,9 +268,8 @@ class Reader:
             if word == "task":
                 self._thing(line)
                 return
-            reader = ObjectLine(line, Kept(self.constants, []))
-            reader.read()
-            self._meant.append(Thing(first, tuple(reader.members)))
+            members = ObjectLine(line, Kept(self.constants, [])).members
+            self._meant.append(Thing(first, tuple(members)))
         elif meant.is_label(tokens, self._targets) and self._script is not None:
             self._script.label(tokens[0])
         elif self._script is not None:
@@ -334,21 +294,15 @@ class Reader:
 
     def _check_interrupts(self) -> None:
         """Refuses interrupts that name what isn't there, and a profile that has none."""
-        tasks, queues = (
-            [name for thing in self._things[word] for name in thing.names()]
-            for word in ("task", "queue")
-        )
+        tasks = [name for thing in self._things["task"] for name in thing.names()]
+        queues = [thing.name() for thing in self._things["queue"]]
         names = interrupts.Names(tasks, queues, self._entries(), self._refused_interrupts)
         for at, it in enumerate(self._interrupts):
             self.refusals += names.faults(it, self._interrupts[:at])
         profile = self._numbers.get("profile")
-        is_needed = self._interrupts or self._has_endings()
+        is_needed = self._interrupts or self._endings
         if is_needed and profile is not None and profile.node.value == Number("1"):
             self.kept.refuse(profile.node.place, "profile 1 has no interrupts: profile 2 has")
-
-    def _has_endings(self) -> bool:
-        """Whether some wait may be ended by an interrupt."""
-        return any(script.has_waits for _, script in self.scripts())
 
     def scripts(self) -> List[Tuple[Thing, Script]]:
         """The tasks, with their scripts."""
@@ -363,24 +317,22 @@ class Reader:
         those = (it for it in self.scripts() if it[0].count is not None)
         return {at for it, script in those for at in (it.word.place.line, *script.lines())}
 
-    def _spares(self) -> Dict[int, Spare]:
-        """What each task doesn't use; its script is closed."""
+    def _close(self) -> None:
+        """Closes the scripts, once it is known what each task doesn't use."""
         for _, script in self.scripts():
             script.close()
         uses = [script.uses() for _, script in self.scripts()]
         uses.append(Uses())
         for call in (call for it in self._interrupts for call in it.calls):
             uses[-1].tell(call.words)
-        found: Dict[int, Spare] = {}
         for (task, script), own in zip(self.scripts(), uses):
             names = task.names()
-            free = spare(names, own, uses, self._entries(), script.has_waits)
-            found[id(task)] = free
-            script.check_spare(free)
-            self.remarks += script.remarks(free, names)
-            if free.ending is not None:
-                self._endings += [waits.interrupt(name, free.ending) for name in names]
-        return found
+            script.spare = spare(names, own, uses, self._entries(), script.has_waits)
+            script.check_spare()
+            self.remarks += script.remarks(names)
+            ending = script.spare.ending
+            if ending is not None:
+                self._endings += [waits.interrupt(name, ending) for name in names]
 
     def _entries(self) -> int:
         """How many notification entries each task has."""
@@ -392,8 +344,9 @@ class Reader:
             others = self._things[thing.word.text]
             if thing.name() not in [other.name() for other in others]:
                 others.append(thing)
-        spares = self._spares()
-        number = Number("2" if self._interrupts or self._has_endings() else "1")
+        self._close()
+        self._check_interrupts()
+        number = Number("2" if self._interrupts or self._endings else "1")
         profile = Member("profile", TOP, Node(number, TOP))
         numbers = {"profile": profile, **self._numbers}
         members: List[Member] = []
@@ -403,10 +356,19 @@ class Reader:
                 members.append(numbers[key.name])
             elif things:
                 place = things[0].word.place
-                nodes = (it.nodes(spares.get(id(it), NOTHING)) for it in things)
-                tree = Node(tuple(itertools.chain.from_iterable(nodes)), place)
+                tree = Node(tuple(node for it in things for node in it.nodes()), place)
                 members.append(Member(key.name, place, tree))
         return Node(Object(tuple(members)), TOP)
+
+
+# By the first word: how lines are read that are of no script.
+READERS: Dict[str, Callable[[Reader, Sequence[Token]], None]] = {
+    **dict.fromkeys(CONST, Reader._const),
+    **dict.fromkeys(SETTINGS, Reader._number),
+    **dict.fromkeys(semaphores.FORMS, Reader._semaphore),
+    **dict.fromkeys(OBJECTS, Reader._thing),
+    interrupts.WORD: Reader._interrupt,
+}
 
 
 def named(text: str, given: Mapping[str, int]) -> Beside:

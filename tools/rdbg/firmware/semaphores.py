@@ -8,7 +8,7 @@ from typing import Dict, Mapping, NamedTuple, Optional, Sequence, Tuple
 from rdbg.firmware.numbers import Constants, Kept, Numbers
 from rdbg.firmware.objects import next_number, queue
 from rdbg.firmware.operands import Operands
-from rdbg.firmware.tokens import Refusal, Token, shown
+from rdbg.firmware.tokens import Refusal, Token, shown, without_parentheses
 from rdbg.operands import KIND_OF
 from rdbg.tree import Member, Node, Number
 
@@ -82,15 +82,18 @@ def instruction(
     tokens: Sequence[Token], known: Mapping[str, Semaphore], kept: Kept
 ) -> Optional[str]:
     """The instruction that a line is which takes, gives or counts one; none where it is another.
-    Raises `Refusal` where it is wrong. The tokens have no parentheses round the operands."""
+    Raises `Refusal` where it is wrong."""
     word = tokens[0].text
+    if word not in (TAKE, GIVE, COUNT):
+        return None
+    tokens = [tokens[0], *without_parentheses(tokens[1:])]
     name = tokens[1].text if len(tokens) > 1 else ""
     it = known.get(name)
     if word == GIVE and it is None:
         there = f"; there is {', '.join(known)}" if known else ""
         message = f"give NAME: {shown(name) or 'nothing'} is no semaphore and no mutex{there}"
         raise Refusal(tokens[-1].place, message)
-    if it is None or word not in (TAKE, GIVE, COUNT):
+    if it is None:
         return None
     reader = Operands(tokens[2:], kept)
     if word != TAKE:

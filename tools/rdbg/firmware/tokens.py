@@ -61,10 +61,6 @@ class Token(NamedTuple):
         """The place of a character."""
         return Place(self.place.line, self.place.column + index)
 
-    def columns(self) -> Sequence[int]:
-        """The columns of its characters, in its line."""
-        return range(self.place.column, self.place.column + len(self.text))
-
     def check(self) -> None:
         """Refuses a text that isn't closed, what is too long, and a character that no word has."""
         if self.is_quoted() and not CLOSED.fullmatch(self.text):
@@ -86,6 +82,18 @@ def shown(text: str) -> str:
 def written(tokens: Sequence[Token]) -> str:
     """The tokens as they are written, with one space wherever there is any."""
     return "".join(token.gap + token.text for token in tokens)[len(tokens[0].gap) :]
+
+
+def without_parentheses(tokens: Sequence[Token]) -> Sequence[Token]:
+    """The operands of `recv(jobs, max)`. Raises `Refusal` where a parenthesis isn't closed."""
+    depth = 0
+    for index, token in enumerate(tokens if tokens and tokens[0].text == "(" else ()):
+        depth += (token.text == "(") - (token.text == ")")
+        if depth == 0:
+            return tokens[1:index] if index + 1 == len(tokens) else tokens
+    if depth:
+        raise Refusal(tokens[0].place, "this ( isn't closed")
+    return tokens
 
 
 def decoded(content: bytes) -> str:
@@ -125,11 +133,10 @@ class Scanner:
         at, gap = 0, ""
         while at < len(line) and len(tokens) <= MOST_TOKENS:
             if self._comment is not None:
-                end = line.find("*/", at) + 2
-                self._comment = None if end > 1 else self._comment
-                end = end if end > 1 else len(line)
-                self._keep(number, line[at:end])
-                at, gap = end, " "
+                before, closed, _ = line[at:].partition("*/")
+                self._comment = None if closed else self._comment
+                self._keep(number, before + closed)
+                at, gap = at + len(before + closed), " "
                 continue
             found = PIECE.match(line, at)
             assert found is not None, "each character begins a piece"

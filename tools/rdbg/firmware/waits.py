@@ -8,7 +8,7 @@ from typing import Sequence, Tuple
 from rdbg.application import ANY, Interrupt
 from rdbg.firmware.numbers import LARGEST, Kept, Numbers
 from rdbg.firmware.operands import Operands
-from rdbg.firmware.tokens import Refusal, Token, shown
+from rdbg.firmware.tokens import Refusal, Token, shown, without_parentheses
 
 WORD, BETWEEN = "wait", ".."
 FORM = "wait N, or wait M..N, in ticks"
@@ -20,15 +20,16 @@ NAME_END = "_wait"
 
 def texts_of(tokens: Sequence[Token], kept: Kept) -> Tuple[Tuple[str, ...], str]:
     """The instructions of a line, `{ending}` as its entry, and their cost. Raises `Refusal`."""
-    if len(tokens) < 2:
+    operands = without_parentheses(tokens[1:])
+    if not operands:
         raise Refusal(tokens[0].place, f"{FORM}: there is no number")
-    if BETWEEN not in tokens[1].text:
-        reader = Operands(tokens[1:], kept)
+    if BETWEEN not in operands[0].text:
+        reader = Operands(operands, kept)
         time = reader.time().text
         reader.end(FORM)
         return (f"recv {NEVER} {time}",), "2 moves"
-    Numbers(tokens[2:], kept).end(FORM)
-    return between(tokens[1], kept)
+    Numbers(operands[1:], kept).end(FORM)
+    return between(operands[0], kept)
 
 
 def between(token: Token, kept: Kept) -> Tuple[Tuple[str, ...], str]:

@@ -1,16 +1,16 @@
 """The text in lines (`.fw`) of an application: what `rdbg.firmware` reads, written to be read."""
 import itertools
 import re
-from typing import Any, Callable, Dict, Iterator, List, NamedTuple, Optional, Sequence, Tuple
+from typing import Callable, Dict, Iterator, List, NamedTuple, Optional, Sequence, Tuple
 
-from rdbg.application import Application, Instruction, Task
+from rdbg import kinds
+from rdbg.application import Application, Instruction, Named, Task
 from rdbg.digits import is_digits
 from rdbg.firmware.branches import Test
 from rdbg.firmware.numbers import FOREVER, LARGEST
 from rdbg.firmware.objects import OBJECTS
 from rdbg.instructions import FORM_OF
 from rdbg.json_layout import pairs, settings
-from rdbg.shapes import FILE
 
 JUMPS = ("jump", "jumpz")
 # What stands for a number while instructions are compared.
@@ -110,41 +110,37 @@ def instruction_text(instruction: Instruction) -> str:
 Line = Tuple[int, str, Optional[int]]
 
 
-def lines_of(task: Task, has_ifs: bool) -> List[Line]:
+def lines_of(task: Task, has_ifs: bool) -> Iterator[Line]:
     """The lines of a script: its first instruction, its text, and where it jumps, of each."""
-    code = [it.text for it in task.code]
-    found: List[Line] = []
+    code = [" ".join(it.words()) for it in task.code]
     at = 0
     while at < len(code):
         ifs = ifs_at(code, at, task.name) if has_ifs else ()
         several = max(ifs, key=lambda it: it.length, default=None)
         if several is not None:
             text = f"if {text_of_test(several.test)} goto {label(str(several.target))}"
-            found.append((at, text, several.target))
+            yield at, text, several.target
             at += several.length
             continue
         words = code[at].split(" ")
         symbols = FORM_OF[words[0]].symbols
         jumps = [int(word) for symbol, word in zip(symbols, words[1:]) if symbol == "L"]
-        found.append((at, instruction_text(task.code[at]), jumps[0] if jumps else None))
+        yield at, instruction_text(task.code[at]), jumps[0] if jumps else None
         at += 1
-    return found
 
 
-def script_lines(task: Task, has_ifs: bool) -> List[str]:
+def script_lines(task: Task, has_ifs: bool) -> Iterator[str]:
     """The lines of a script, with labels."""
-    lines = lines_of(task, has_ifs)
+    lines = [*lines_of(task, has_ifs)]
     labelled = {target for _, _, target in lines if target is not None}
-    found: List[str] = []
     for number, text, _ in lines:
-        found += [f"{label(str(number))}:"] if number in labelled else []
-        found.append(INDENT + text)
-    return found
+        yield from [f"{label(str(number))}:"] if number in labelled else []
+        yield INDENT + text
 
 
 def task_blocks(app: Application, is_plain: bool) -> Iterator[List[str]]:
     """The lines of each task; of several with one script, whose names are counted from 0, once."""
-    left = [(it, script_lines(it, not is_plain)) for it in app.tasks]
+    left = [(it, [*script_lines(it, not is_plain)]) for it in app.tasks]
     while left:
         task, script = left[0]
         count = 0 if is_plain else counted(left)
@@ -163,7 +159,7 @@ def counted(left: Sequence[Tuple[Task, List[str]]]) -> int:
     return len([*itertools.takewhile(bool, alike)])
 
 
-def object_cells(word: str, thing: Any) -> List[str]:
+def object_cells(word: str, thing: Named) -> List[str]:
     """The parts of the line of an object; its members are one of them."""
     cells = [word, thing.name]
     for key, value in pairs(thing, OBJECTS[word])[1:]:
@@ -183,10 +179,9 @@ def aligned(rows: Sequence[List[str]], first: int) -> List[str]:
 
 def object_lines(app: Application) -> List[str]:
     """The lines of the objects, kind by kind."""
-    kinds = [key.name for key in FILE.keys if key.of is not None and key.name != "tasks"]
-    rows = {name: [object_cells(name[:-1], it) for it in getattr(app, name)] for name in kinds}
-    width = max((len(name) - 1 for name in kinds if rows[name]), default=0)
-    return [line for name in kinds for line in aligned(rows[name], width)]
+    rows = [[object_cells(kind.word, it) for it in app.of(kind)] for kind in kinds.OBJECTS]
+    width = max((len(each[0][0]) for each in rows if each), default=0)
+    return [line for each in rows for line in aligned(each, width)]
 
 
 def text_of(app: Application, is_plain: bool = False) -> str:
@@ -197,12 +192,10 @@ def text_of(app: Application, is_plain: bool = False) -> str:
     return "\n\n".join("\n".join(block) for block in blocks if block) + "\n"
 
 
-def jumps_of(app: Application) -> List[str]:
+def jumps_of(app: Application) -> Iterator[str]:
     """The tasks of which jumps come back with labels, as no JSON has blocks, with their numbers."""
-    found: List[str] = []
     for task in app.tasks:
         ends = [(at, text) for at, text, target in lines_of(task, True) if target is not None]
         numbers = [str(at) for at, text in ends if not text.startswith("if ")]
         if numbers:
-            found.append(f"{task.name} {', '.join(numbers)}")
-    return found
+            yield f"{task.name} {', '.join(numbers)}"

@@ -2,70 +2,24 @@
 and where calls are found."""
 import itertools
 import re
-from typing import Dict, List, Mapping, NamedTuple, Sequence, Tuple
+from typing import Dict, Iterator, List, Mapping, NamedTuple, Sequence, Tuple
 
+from rdbg.checking.slips import CONSTANTS
 from rdbg.from_c.lexer import WORD, Piece, joined
-from rdbg.operands import ACTIONS
+from rdbg.instructions import FORMS, GIVEN
+from rdbg.operands import NAMED
 from rdbg.tree import Place
 
-# A word of a model, then its operands: of which kind each is, and behind `:` the number of the
-# argument that has it, or behind `=` what it is.
-CALLS: Dict[str, Tuple[str, ...]] = {
-    "xQueueSend": ("send Q:0 T:2",),
-    "xQueueSendToBack": ("send Q:0 T:2",),
-    "xQueueSendToFront": ("front Q:0 T:2",),
-    "xQueueReceive": ("recv Q:0 T:2",),
-    "xQueuePeek": ("peek Q:0 T:2",),
-    "xQueueOverwrite": ("over Q:0",),
-    "xQueueReset": ("qreset Q:0",),
-    "uxQueueMessagesWaiting": ("count Q:0",),
-    "uxQueueSpacesAvailable": ("spaces Q:0",),
-    "xQueueAddToSet": ("setadd Q:0 Q:1",),
-    "xQueueRemoveFromSet": ("setdel Q:0 Q:1",),
-    "xQueueSelectFromSet": ("select Q:0 T:1",),
-    "xStreamBufferSend": ("swrite Q:0 T:3",),
-    "xStreamBufferReceive": ("sread Q:0 V:2 T:3",),
-    "xStreamBufferReset": ("sreset Q:0",),
-    "xStreamBufferSetTriggerLevel": ("strig Q:0 V:1",),
-    "xStreamBufferBytesAvailable": ("scount Q:0",),
-    "xStreamBufferSpacesAvailable": ("sspaces Q:0",),
-    "xMessageBufferSend": ("mwrite Q:0 T:3",),
-    "xMessageBufferReceive": ("mread Q:0 V:2 T:3",),
-    "xMessageBufferReset": ("mreset Q:0",),
-    "xMessageBufferSpacesAvailable": ("mspaces Q:0",),
-    "xMessageBufferNextLengthBytes": ("mnext Q:0",),
-    "xTaskNotifyIndexed": ("notify K:0 V:1 V:2 ACTION:3",),
-    "xTaskNotify": ("notify K:0 V=0 V:1 ACTION:2",),
-    "xTaskNotifyGive": ("notify K:0 V=0 V=0 ACTION=inc",),
-    "xTaskNotifyGiveIndexed": ("notify K:0 V:1 V=0 ACTION=inc",),
-    "xTaskNotifyAndQueryIndexed": ("query K:0 V:1 V:2 ACTION:3",),
-    "xTaskNotifyAndQuery": ("query K:0 V=0 V:1 ACTION:2",),
-    "ulTaskNotifyTakeIndexed": ("take V:0 TAKE:1 T:2",),
-    "ulTaskNotifyTake": ("take V=0 TAKE:0 T:1",),
-    "xTaskNotifyWaitIndexed": ("nwait V:0 V:1 V:2 T:4",),
-    "xTaskNotifyWait": ("nwait V=0 V:0 V:1 T:3",),
-    "xTaskNotifyStateClearIndexed": ("nclear K:0 V:1",),
-    "xTaskNotifyStateClear": ("nclear K:0 V=0",),
-    "ulTaskNotifyValueClearIndexed": ("vclear K:0 V:1 V:2",),
-    "ulTaskNotifyValueClear": ("vclear K:0 V=0 V:1",),
-    "xEventGroupSetBits": ("gset Q:0 V:1",),
-    "xEventGroupClearBits": ("gclear Q:0 V:1",),
-    "xEventGroupGetBits": ("gget Q:0",),
-    "xEventGroupWaitBits": ("gwait Q:0 V:1 WISH:3 CLR:2 T:4",),
-    "xEventGroupSync": ("gsync Q:0 V:1 V:2 T:3",),
-    "xSemaphoreTake": ("take Q:0 T:1", "recv Q:0 T:1"),
-    "xSemaphoreGive": ("give Q:0", "send Q:0 T=0"),
-    "uxSemaphoreGetCount": ("count Q:0",),
-    "vTaskDelay": ("wait T:0", "recv NEVER=never T:0"),
+# The lines of a model for calls that a text in lines says in a way of its own.
+IN_LINES: Dict[str, str] = {
+    "xSemaphoreTake(Q,T)": "take Q T or recv Q T",
+    "xSemaphoreGive(Q)": "give Q or send Q T=0",
+    "uxSemaphoreGetCount(Q)": "count Q",
+    "vTaskDelay(T)": "wait T or recv NEVER=never T",
 }
-# What C calls the choices of a call, and the words of a model for them.
-CHOICES: Dict[str, Dict[str, str]] = {
-    "ACTION": ACTIONS,
-    "WISH": {"pdTRUE": "all", "pdFALSE": "any"},
-    "CLR": {"pdTRUE": "clear", "pdFALSE": "keep"},
-    "TAKE": {"pdTRUE": "clear", "pdFALSE": "dec"},
-}
-VALUES, NAMES = ("V", "T"), ("Q", "K")
+# What C calls the choices of a call, in small letters, and the words of a model for them.
+CHOICES = {symbol: CONSTANTS[symbol] for symbol in ("ACTION", "WISH", "CLR", "clear|dec")}
+NAMES, VALUES = NAMED, ("V", "I", "ROOM", "T")
 # A name that is none of a part of something.
 NAME = re.compile(r"(?<![\w.>])[A-Za-z_]\w*")
 PARAMETER = re.compile(r"\(\*(\w+)\)|(\w+)[\[\]\w]*$")
@@ -88,15 +42,29 @@ class Template(NamedTuple):
     operands: Tuple[Operand, ...]
 
 
-def template(text: str) -> Template:
-    """A row of the table, read."""
-    word, *parts = text.split()
-    found = (re.fullmatch("(.+)(?::([0-9]+)|=(.+))", part) for part in parts)
-    operands = [Operand(it[1], int(it[2] or -1), it[3] or "") for it in found if it]
+def template(arguments: Sequence[str], line: str) -> Template:
+    """What a model says of a call: each operand is the first argument of its kind that is no other
+    operand, or it is given, behind `=`."""
+    word, *parts = line.split()
+    left, operands = [*arguments], []
+    for part in parts:
+        kind, _, fixed = part.partition("=")
+        at = -1 if fixed else left.index(kind)
+        if not fixed:
+            left[at] = ""
+        operands.append(Operand(kind, at, fixed))
     return Template(word, tuple(operands))
 
 
-TEMPLATES = {name: tuple(map(template, texts)) for name, texts in CALLS.items()}
+def templates() -> Iterator[Tuple[str, Tuple[Template, ...]]]:
+    """What a model says of each call, by its name, the likeliest first."""
+    plain = {call: form.text for form in FORMS for call in form.calls if "(" in call}
+    for call, text in {**plain, **GIVEN, **IN_LINES}.items():
+        name, *arguments = re.split("[(,)]", call)[:-1]
+        yield name, tuple(template(arguments, line) for line in text.split(" or "))
+
+
+TEMPLATES = dict(templates())
 # The words of a model that say that there is a call.
 WORDS = frozenset(it.word for each in TEMPLATES.values() for it in each)
 

@@ -4,7 +4,7 @@ import pathlib
 import re
 from typing import Dict, Iterator, List, Mapping, NamedTuple, Optional, Sequence, Set, Tuple
 
-from rdbg.from_c.calls import CHOICES, NAMES, TEMPLATES, Block, Call, Operand
+from rdbg.from_c.calls import CHOICES, NAMES, TEMPLATES, VALUES, Block, Call, Operand
 from rdbg.from_c.calls import blocks, calls_in, made_by
 from rdbg.from_c.lexer import DIRECTIVE, Piece, pieces
 from rdbg.from_c.lines import SKIP, Line, lines_of, rows_alone
@@ -14,7 +14,12 @@ from rdbg.operands import PATTERN_OF
 from rdbg.tree import Fault, Place
 
 DRIFT = "drift"
-NOUN = {"Q": "object", "K": "task", "T": "block time", "V": "number"}
+NOUN = {
+    **dict.fromkeys(NAMES, "object"),
+    **dict.fromkeys(VALUES, "number"),
+    "K": "task",
+    "T": "block time",
+}
 # The own task, which a script names.
 OWN = "NULL"
 HANDLE = re.compile(r"[&*()]+")
@@ -53,7 +58,7 @@ class Comparing:
         for it in form.operands:
             text = call.argument(it.argument)
             named = self._handles.get(handle(text))
-            choice = CHOICES.get(it.kind, {}).get(text)
+            choice = CHOICES.get(it.kind, {}).get(text.lower())
             plain = handle(text) if it.kind in NAMES else text
             parts.append(it.fixed or choice or (named[0] if named else plain) or it.kind)
         return " ".join(parts)
@@ -95,7 +100,7 @@ class Comparing:
         if operand.kind in NAMES:
             return self._other_thing(handle(text), value.text, noun)
         if operand.kind in CHOICES:
-            choice = operand.fixed or CHOICES[operand.kind].get(text, "")
+            choice = operand.fixed or CHOICES[operand.kind].get(text.lower(), "")
             return f"{text}, which is {choice}" if choice not in ("", value.text) else ""
         if PATTERN_OF["R"].fullmatch(value.text):
             return ""
@@ -171,9 +176,9 @@ class Function:
     def __init__(self, block: Block, source: Source, model: Model) -> None:
         self._block, self._source = block, source
         lines = [it for it in source.lines if block.begin <= it.number <= block.end]
+        # (those that are of no call yet)
         self._said = [it for it in map(said, lines) if it is not None]
         self._skips = [it for it in lines if it.text == SKIP]
-        self._used: Set[Place] = set()
         self._comparing = Comparing(model)
 
     def faults(self) -> Iterator[Fault]:
@@ -187,7 +192,7 @@ class Function:
                 yield from self._judge_several(it, naming[it.call])
             elif it.call.name in TEMPLATES:
                 yield from self._judge(it, lines[it.call] or self._fitting(it, is_any=True))
-        for left in (it for it in self._said if it.line.place not in self._used):
+        for left in self._said:
             function, line = left.line.function, shown(left)
             own = "" if function else f"; of a function that makes it: // rdbg(NAME): {line}"
             beside = f"no call of {function or like(left)} stands beside it"
@@ -208,15 +213,14 @@ class Function:
 
     def _near(self, it: Beside) -> List[Said]:
         """The lines beside a call that are of no other yet."""
-        left = (each for each in self._said if each.line.place not in self._used)
-        return [each for each in left if each.line.number in it.rows]
+        return [each for each in self._said if each.line.number in it.rows]
 
     def _naming(self, it: Beside) -> List[Said]:
         """The lines beside a call that name its function, beside those of what that calls."""
         block = self._source.functions.get(it.call.name)
         inner = {call.name for call in calls_in(block.pieces)} if block else set()
         near = [line for line in self._near(it) if line.line.function in (it.call.name, *inner)]
-        self._used.update(line.line.place for line in near)
+        self._said = [line for line in self._said if line not in near]
         return [line for line in near if line.line.function == it.call.name]
 
     def _fitting(self, it: Beside, is_any: bool) -> Optional[Said]:
@@ -226,7 +230,7 @@ class Function:
         found = [line for line in near if is_any or line.word in words]
         nearest = min(found, key=lambda one: abs(one.line.number - row), default=None)
         if nearest is not None:
-            self._used.add(nearest.line.place)
+            self._said.remove(nearest)
         return nearest
 
     def _is_skipped(self, it: Beside, function: str) -> bool:

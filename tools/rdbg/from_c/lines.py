@@ -1,9 +1,9 @@
 """The lines of a model that stand in the comments of a C source: `// rdbg: recv jobs 10`."""
 import bisect
 import re
-from typing import Dict, Iterator, List, NamedTuple, Sequence, Set
+from typing import Dict, Iterator, List, Match, NamedTuple, Sequence, Set
 
-from rdbg.from_c.lexer import COMMENT, Piece, pieces
+from rdbg.from_c.lexer import COMMENT, PIECE, Piece, pieces
 from rdbg.tree import Place
 
 ENDING = ".c"
@@ -29,8 +29,8 @@ class Line(NamedTuple):
         return self.place.line
 
 
-def bodies(piece: Piece) -> Iterator[Line]:
-    """The lines of a model in a comment, if it has any."""
+def bodies(piece: Piece, alone: Set[int]) -> Iterator[Line]:
+    """The lines of a model in a comment, if it has any, of which these rows have nothing else."""
     mark = MARK.match(piece.text)
     if mark is None:
         return
@@ -43,7 +43,7 @@ def bodies(piece: Piece) -> Iterator[Line]:
         column = begin + (piece.place.column if number == 0 else 1)
         if body.strip():
             place = Place(piece.place.line + number, column)
-            yield Line(body.strip(), place, mark[1] or "", False)
+            yield Line(body.strip(), place, mark[1] or "", place.line in alone)
 
 
 def rows_alone(found: Sequence[Piece]) -> Set[int]:
@@ -56,35 +56,30 @@ def rows_alone(found: Sequence[Piece]) -> Set[int]:
 def lines_of(found: Sequence[Piece]) -> List[Line]:
     """The lines of a model in a source."""
     alone = rows_alone(found)
-    said = [line for it in found if it.kind == COMMENT for line in bodies(it)]
-    return [it._replace(is_alone=it.number in alone) for it in said]
+    return [line for it in found if it.kind == COMMENT for line in bodies(it, alone)]
 
 
-def code_beside(text: str, found: Sequence[Piece]) -> Dict[int, str]:
+def without_model(piece: Match[str]) -> str:
+    """A piece of a source, where it is a comment with lines of a model as so much space."""
+    is_of_model = piece.lastgroup == COMMENT and MARK.match(piece[0])
+    return re.sub(r"[^\n]", " ", piece[0]) if is_of_model else piece[0]
+
+
+def code_beside(text: str) -> Dict[int, str]:
     """What each line of a source has besides lines of a model."""
-    rows = dict(enumerate(text.split("\n"), 1))
-    for piece in found:
-        if piece.kind == COMMENT and MARK.match(piece.text):
-            begin, end = piece.place.column - 1, piece.place.column - 1 + len(piece.text)
-            if piece.place.line == piece.end:
-                row = rows[piece.end]
-                rows[piece.end] = row[:begin] + " " * len(piece.text) + row[end:]
-            else:
-                for number in range(piece.place.line, piece.end + 1):
-                    rows[number] = rows[number][:begin] if number == piece.place.line else ""
-    return {number: row.strip() for number, row in rows.items()}
+    rows = PIECE.sub(without_model, text).split("\n")
+    return {number: row.strip() for number, row in enumerate(rows, 1)}
 
 
 def in_lines(text: str) -> str:
     """The model of a source as a text in lines, each where it stands, with the C as its comment."""
-    found = [*pieces(text)]
     said: Dict[int, str] = {}
-    for line in lines_of(found):
+    for line in lines_of([*pieces(text)]):
         if line.text != SKIP:
             # (two in one line are read as one, which is refused)
             said[line.number] = said.get(line.number, "").ljust(line.place.column - 1) + line.text
     made = []
-    for number, code in sorted(code_beside(text, found).items()):
+    for number, code in code_beside(text).items():
         comment = f" // {code}" if code else ""
         made.append((said.get(number, "") + comment) if number in said else comment.lstrip())
     return "\n".join(made) + "\n"
@@ -93,7 +88,7 @@ def in_lines(text: str) -> str:
 def code_below(text: str) -> Dict[int, str]:
     """For each line of a model that stands alone in its row, by number: the next row of C below."""
     found = [*pieces(text)]
-    beside = code_beside(text, found)
+    beside = code_beside(text)
     rows = sorted({it.place.line for it in found if it.is_code})
     said = {it.number: bisect.bisect(rows, it.number) for it in lines_of(found) if it.is_alone}
     return {number: beside[rows[at]] for number, at in said.items() if at < len(rows)}

@@ -2,9 +2,8 @@
 import re
 from typing import Dict, Iterable, List, Mapping, Match, NamedTuple, Optional, Sequence, Set, Tuple
 
-from rdbg.firmware.code import without_parentheses
 from rdbg.firmware.numbers import LARGEST, Constants, Kept, Numbers
-from rdbg.firmware.tokens import Refusal, Scanner, Token, written
+from rdbg.firmware.tokens import Refusal, Scanner, Token, without_parentheses, written
 from rdbg.from_c.calls import VALUES, WORDS, Template
 from rdbg.from_c.lexer import DIRECTIVE, Piece
 from rdbg.from_c.lines import Line

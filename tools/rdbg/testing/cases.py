@@ -33,8 +33,7 @@ class Wrong(Exception):
     """A value isn't one of its key: what it is to be."""
 
 
-@dataclasses.dataclass(frozen=True)
-class Case:
+class Case(NamedTuple):
     """A case: its place in the file, the application, the goal, the question, with the options of
     `reach`, what is expected, and how many seconds that may take."""
 
