@@ -72,8 +72,7 @@ impl<'a> Question<'a> {
         ensures { result ≡ manner_of self.now }
     {
         Manner {
-            most: self.moves.unwrap_or(MAX_MOVES as u32),
-            any_length: self.moves.is_none(),
+            most: self.moves,
             exact: self.exact,
         }
     }

@@ -120,7 +120,7 @@ fn search_from(
     };
     let schedule = make_schedule(alloc, sought.at_least());
     let aim = AimedGoal { goal };
-    let most = sought.most();
+    let most = Some(sought.most());
     let (logged, outcome) = reach_orders(
         alloc,
         logged,
@@ -129,7 +129,6 @@ fn search_from(
         &aim,
         Sight::Whole,
         most,
-        false,
         &ROOM,
         &mut NoWatch,
     );

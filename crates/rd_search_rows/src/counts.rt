@@ -305,8 +305,7 @@ fn ask(alloc: Global, app: &App, start: State, row: SearchRow) -> Result<SearchO
         &schedule,
         start,
         Manner {
-            most: row.most,
-            any_length: false,
+            most: Some(row.most),
             exact: true,
         },
         &room,

@@ -265,8 +265,7 @@ fn ask(alloc: Global, app: &App, row: LostRow, run: &mut Run) -> Result<LostOutc
         bytes: 100_000_000,
     };
     let manner = Manner {
-        most: row.most.unwrap_or(1_000),
-        any_length: row.most.is_none(),
+        most: row.most,
         exact: row.exact,
     };
     app.limits();
