@@ -14,8 +14,7 @@ from rdbg.failure import Failure, turned
 from rdbg.goals.claims import Goal
 from rdbg.goals.words import NOT_ASKED
 from rdbg.reaching import losing
-from rdbg.reaching.asking import LOST, REACH, Asker, Question
-from rdbg.reaching.behind import ask_behind
+from rdbg.reaching.asking import LOST, REACH, Asker, Question, ask_behind
 from rdbg.reaching.said import Answer, Kind
 from rdbg.shell import replay
 from rdbg.shell.shell import Shell
@@ -43,8 +42,8 @@ class Lines:
             self._journal.moved(command, value)
 
     def now(self) -> Tuple[str, ...]:
-        """They. (Behind a trim `back` leads less far, but the target stands where it stood.)"""
-        return tuple(it for it in self._journal.lines() if it.split(" ")[0] != record.TRIM)
+        """They."""
+        return tuple(record.untrimmed(self._journal.lines()))
 
 
 # Of each target, from its start on.

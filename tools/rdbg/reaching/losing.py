@@ -1,7 +1,9 @@
 """Where a run lost a goal for good, as an answer to `lost` says it, and how that is told."""
 import re
-from typing import Callable, Iterator, NamedTuple, Optional, Sequence, Tuple
+from typing import Iterator, NamedTuple, Optional, Sequence, Tuple
 
+from rdbg.driving.parts import move_to
+from rdbg.files.source import Source
 from rdbg.reaching.asking import Question
 from rdbg.reaching.said import Answer, Kind
 
@@ -45,15 +47,19 @@ def told(loss: Loss, move: str, way: str) -> Iterator[str]:
     yield f"`{way}` goes before it, and from there it can still come:"
 
 
-def in_one(question: Question, answer: Answer, row: Callable[[int], str]) -> str:
-    """What an answer says behind its first line, in one; `row` tells the move to a place."""
+def in_one(question: Question, answer: Answer, source: Source, lines: Sequence[str]) -> str:
+    """An answer to a question that was asked behind these lines, in one line."""
     loss = loss_of(answer)
     if loss is None:
-        if answer.kind is Kind.REACHED and not answer.order:
-            return question.here
-        return joined(answer.order) or answer.why
-    head = "; ".join(told(loss, row(loss.place) if loss.place else "", loss.back))
-    return f"{head} {joined(loss.order) or question.here}" if loss.place else head
+        is_here = answer.kind is Kind.REACHED and not answer.order
+        more = question.here if is_here else joined(answer.order) or answer.why
+    elif loss.place:
+        move = move_to(source, lines, loss.place).row()
+        way = "; ".join(told(loss, move, loss.back))
+        more = f"{way} {joined(loss.order) or question.here}"
+    else:
+        more = NOWHERE
+    return f"{answer.head()}: {more}" if more else answer.head()
 
 
 def joined(order: Sequence[str]) -> str:

@@ -19,7 +19,7 @@ def made_again(source: Source, lines: List[str]) -> Tuple[Source, List[str], Lis
     where it can't be read, or that takes too long."""
     shell = Quiet(begin(source, Limits(MOST_COUNT, MOST_COUNT)), source)
     try:
-        shell.target.tell_all(it for it in lines if it.split(" ")[0] != record.TRIM)
+        shell.target.tell_all(record.untrimmed(lines))
         replay.reload(shell, [])
         if shell.source is None or shell.source is source:
             raise Refusal("; ".join(shell.texts))

@@ -9,7 +9,6 @@ from typing import NamedTuple, Optional, Sequence
 from rdbg import commands, record
 from rdbg.driving.interrupt import Interrupted
 from rdbg.driving.opening import begin
-from rdbg.driving.parts import move_to
 from rdbg.driving.target import Limits, Unable
 from rdbg.driving.walk import Walk
 from rdbg.failure import Failure
@@ -18,8 +17,7 @@ from rdbg.goals.reading import NoGoal
 from rdbg.goals.scope import Scope
 from rdbg.goals.words import for_search
 from rdbg.reaching import handlers, losing
-from rdbg.reaching.asking import QUESTIONS, Asker
-from rdbg.reaching.behind import ask_behind
+from rdbg.reaching.asking import QUESTIONS, Asker, ask_behind
 from rdbg.replies import Refused
 from rdbg.rooms.quiet import SECONDS, Patience
 from rdbg.rooms.room import Member, Room
@@ -47,21 +45,16 @@ def answered(room: Room, words: Sequence[str]) -> str:
     if not goal:
         assert source.application is not None
         return f"no: {question.lacks_goal(source.application.tasks[0].name)}"
-    try:
-        _, asked = for_search(goal, Scope.of(source))
-    except NoGoal as wrong:
-        return f"no: {wrong}"
-    # (`back` leads no further then, but where the target stands is the same)
-    lines = [it for it in room.lines() if it.split(" ")[0] != record.TRIM]
+    lines = record.untrimmed(room.lines())
     options = ("--memory", str(MEBIBYTES))
     asker = Asker(source.path, options, time.monotonic() + SECONDS)
     try:
+        _, asked = for_search(goal, Scope.of(source))
         answer = ask_behind(source, lines, question, asked, asker=asker)
-        texts = losing.in_one(question, answer, lambda place: move_to(source, lines, place).row())
+        said = losing.in_one(question, answer, source, lines)
     except Failure as failure:
         return f"no: {failure}"
-    said = [f"{answer.head()}: {texts}" if texts else answer.head()]
-    return "; ".join([*said, *filter(None, [handlers.told((), source.application)])])
+    return "; ".join(filter(None, [said, handlers.told((), source.application)]))
 
 
 class Typed(NamedTuple):

@@ -7,8 +7,7 @@ from rdbg.driving.target import Unable
 from rdbg.failure import Failure, turned
 from rdbg.goals import words as goal_words
 from rdbg.reaching import beside, losing
-from rdbg.reaching.asking import LOST, Question
-from rdbg.reaching.behind import ask_behind
+from rdbg.reaching.asking import LOST, Question, ask_behind
 from rdbg.reaching.handlers import WORD
 from rdbg.reaching.said import Answer, Kind
 from rdbg.shell import replay

@@ -11,7 +11,7 @@ from rdbg import commands, record
 from rdbg.application import Application
 from rdbg.digits import is_digits
 from rdbg.driving.opening import attach, builtin
-from rdbg.driving.parts import AT_A_PORT, Part, Told, Trim, move_to, part_at
+from rdbg.driving.parts import AT_A_PORT, Part, Told, Trim, part_at
 from rdbg.driving.target import Limits, Unable
 from rdbg.effects import Move
 from rdbg.failure import Failure, of_words, trying, turned
@@ -23,8 +23,7 @@ from rdbg.goals.words import for_search, read
 from rdbg.looks import Names
 from rdbg.page.recorder import Recorder
 from rdbg.reaching import losing
-from rdbg.reaching.asking import LOST, QUESTIONS, REACH, Question
-from rdbg.reaching.behind import ask_behind
+from rdbg.reaching.asking import LOST, QUESTIONS, REACH, Question, ask_behind
 from rdbg.reaching.handlers import told as told_of
 from rdbg.reaching.said import Answer
 from rdbg.replies import Refused
@@ -70,8 +69,7 @@ def ask(text: str, source: Optional[Source], told: Sequence[Told]) -> Answered:
     goal = words[words[:1] == [question.word] :]
     with turned(of_words, NoGoal, of=option):
         _, words_asked = for_search(goal, Scope.of(source))
-    # (`back` leads no further behind a trim, but what is there is the same)
-    lines = [it.text for it in told if it.text.split(" ")[0] != record.TRIM]
+    lines = record.untrimmed(it.text for it in told)
     return question, " ".join(goal), ask_behind(source, lines, question, words_asked), lines
 
 
@@ -93,13 +91,10 @@ def lost_in(text: Optional[str], source: Optional[Source], told: Sequence[Told])
         return None
     _, goal, answer, lines = ask(text, source, told)
     assert source is not None
-    texts = losing.in_one(LOST, answer, lambda place: move_to(source, lines, place).row())
-    loss = losing.loss_of(answer)
-    said = f"{answer.head()}: {texts}" if texts else answer.head()
+    said, loss = losing.in_one(LOST, answer, source, lines), losing.loss_of(answer)
     beside = told_of((), source.application)
-    return Lost(
-        goal, said + (f" ({beside})" if beside else ""), loss.place or None if loss else None
-    )
+    place = loss.place or None if loss else None
+    return Lost(goal, said + (f" ({beside})" if beside else ""), place)
 
 
 STANDARD_INPUT = "-"
