@@ -12,10 +12,9 @@ from rdbg.driving.opening import begin
 from rdbg.driving.target import Limits, Unable
 from rdbg.driving.walk import Walk
 from rdbg.failure import Failure
-from rdbg.goals import sought
 from rdbg.goals.reading import NoGoal
 from rdbg.goals.scope import Scope
-from rdbg.goals.words import for_search
+from rdbg.goals.words import for_search, sought
 from rdbg.reaching import handlers, losing
 from rdbg.reaching.asking import QUESTIONS, Asker, ask_behind
 from rdbg.replies import Refused
@@ -86,7 +85,7 @@ def to_place(room: Room, member: Member, it: Typed) -> str:
             scope = dataclasses.replace(
                 Scope.of(room.app_source), watches=dict(member.seat.watches)
             )
-            way, count = sought.way(it.goal, target, scope, it.becoming)
+            way, count = sought(it.goal, target, scope, it.becoming)
             walk, most = Walk(target, Patience()), MOST if count is None else count
             place = way.next(walk, most) if it.is_forwards else way.last(walk)
         except NoGoal as wrong:
