@@ -413,16 +413,14 @@ class Shell:
 
     def next_moves(self) -> str:
         """What each busy core would do next, in words."""
-        from rdbg.shell.views import next_of
+        from rdbg.shell.views import next_moves
 
         if self.target.is_own:
             look = self.look()
         else:
             running = self.target.ask("show cores", Cores).running
             look = self._part(Names(tuple(name for name in running if name)))
-        seats = ((core, look.tasks.get(name or "")) for core, name in enumerate(look.cores.running))
-        found = [f"{it.name} {next_of(self, it)} (core {core})" for core, it in seats if it]
-        return ", ".join(found) or "no core is busy: tick"
+        return next_moves(self.target.application, look)
 
     def _warn(self) -> None:
         """Says when the history is nearly full."""
