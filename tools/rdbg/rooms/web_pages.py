@@ -26,10 +26,6 @@ NAME = "web"
 Event = Tuple[str, str]
 
 
-class TooMany(Refusal):
-    """There is no room for more."""
-
-
 class Page:
     """A page in a browser, as a member of the room."""
 
@@ -138,7 +134,7 @@ class Page:
     def ask(self, line: str) -> str:
         """The reply to a line; empty of one with `#`, which notices answer. Raises `Refusal`."""
         if not self._lines.acquire(blocking=False):
-            raise TooMany(f"{MOST_LINES} lines wait for their replies already")
+            raise Refusal(f"{MOST_LINES} lines wait for their replies already")
         try:
             with self._turn:
                 words = line.split()
@@ -213,7 +209,7 @@ class Pages:
         with self._guard:
             if len(self._open) >= MOST_PAGES:
                 page.close()
-                raise TooMany(f"{MOST_PAGES} pages are open already")
+                raise Refusal(f"{MOST_PAGES} pages are open already")
             self._open[page.key] = page
         try:
             page.member = self._join(name, page.hear)
