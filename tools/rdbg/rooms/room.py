@@ -7,7 +7,7 @@ from typing import Callable, Deque, Dict, List, Optional, Set
 from rdbg import record
 from rdbg.commands import MOST_BYTES, TARGET, Command
 from rdbg.failure import Failure
-from rdbg.rooms import reloading, remarks
+from rdbg.rooms import quiet, remarks
 from rdbg.rooms.counts import Counts
 from rdbg.rooms.doings import Doing, effect, is_single
 from rdbg.rooms.host import MOST_SESSIONS, Audit, Ended
@@ -360,7 +360,7 @@ class Room:
         """Reads the file anew behind the room's turn, and goes on with it; all are told then."""
         try:
             was = self.lines()
-            source, lines, said = reloading.made_again(self.app_source, was)
+            source, lines, said = quiet.made_again(self.app_source, was)
             with self._turns:
                 if self.is_over or not member.is_here or self.holder is not member.seat:
                     why = "the wheel was given back, or the room has ended, before it was read"
