@@ -54,7 +54,9 @@ class Order(NamedTuple):
 
 
 class Shell:
-    """A target, and how one talks with it."""
+    """A target, and how one talks with it. `ended_by` is said of what is ended by its user."""
+
+    ended_by = "stopped by Ctrl-C"
 
     def __init__(self, target: Target, source: Optional[Source], interrupt: Interrupt) -> None:
         self.interrupt = interrupt
@@ -166,12 +168,12 @@ class Shell:
         return shutil.get_terminal_size().columns - len("# ") if self.is_terminal else None
 
     def stopped(self, where: str) -> None:
-        """Says that Ctrl-C ended something, and where the target is."""
+        """Says that something was ended, and where the target is."""
         self.is_refused = self.is_stopped = True
         self._wipe()
         if self.is_terminal:
             print()  # (behind the ^C of the terminal)
-        self.say(f"stopped by Ctrl-C, {where}")
+        self.say(f"{self.ended_by}, {where}")
 
     def hint(self, text: str) -> None:
         """Prints a hint on standard error, behind what was said."""
