@@ -16,10 +16,12 @@ from rdbg.goals.reading import NoGoal
 from rdbg.goals.scope import Scope
 from rdbg.goals.words import for_search, sought
 from rdbg.reaching import handlers, losing
-from rdbg.reaching.asking import QUESTIONS, Asker, ask_behind
+from rdbg.reaching.asking import Asker, Question, ask_behind
 from rdbg.replies import Refused
 from rdbg.rooms.quiet import SECONDS, Patience
 from rdbg.rooms.room import Member, Room
+from rdbg.shell import seek
+from rdbg.shell.shell import Shell
 
 # A search ends with so many mebibytes, and as what is typed does, after so many seconds.
 MEBIBYTES = 256
@@ -28,19 +30,9 @@ MOST = 10_000
 SYNTAX = "no Syntax"
 
 
-def goal_in(line: str, reply: str) -> Sequence[str]:
-    """The goal of a run or a way back that was made, which has no COUNT behind it then."""
-    way, words = typed(line), line.split()
-    if way is not None:
-        return reply.partition(" met: ")[2].split() if reply.startswith("at ") else ()
-    behind = words[2:] if words[:2] == [record.BACK, "until"] else words[1:-1]
-    is_run = words[:1] == ["until"] or words[:2] == [record.BACK, "until"]
-    return behind if is_run and reply.startswith("ok ") else ()
-
-
-def answered(room: Room, words: Sequence[str]) -> str:
-    """What is answered to a question, in one line."""
-    question, goal, source = QUESTIONS[words[0]], words[1:], room.app_source
+def answered(room: Room, question: Question, goal: Sequence[str]) -> str:
+    """What is answered to a question about a goal, in one line."""
+    source = room.app_source
     if not goal:
         assert source.application is not None
         return f"no: {question.lacks_goal(source.application.tasks[0].name)}"
@@ -75,8 +67,9 @@ def typed(line: str) -> Optional[Typed]:
     return Typed(head[0].startswith("until"), head[0].endswith("!"), behind)
 
 
-def to_place(room: Room, member: Member, it: Typed) -> str:
-    """Goes to a goal, and answers where that is: the place is found, and gone to by one line."""
+def to_place(shell: Shell, room: Room, member: Member, it: Typed) -> str:
+    """Goes to a goal, and answers where that is: the place is found, and gone to by one line. A
+    prompt takes note of the goal."""
     target = begin(room.app_source, Limits(Limits.moves, commands.MOST_COUNT))
     with target.session:
         target.tell_all(room.lines())
@@ -97,4 +90,7 @@ def to_place(room: Room, member: Member, it: Typed) -> str:
         return f"no: '{way.text}' wasn't met {where}; at {start} still"
     line = f"forward {place - start}" if it.is_forwards else record.way(start, place)
     reply = member.ask(line)
-    return reply if reply.startswith("no ") else f"at {place} met: {way.text}"
+    if reply.startswith("no "):
+        return reply
+    seek.keep_goal(shell, way)
+    return f"at {place} met: {way.text}"

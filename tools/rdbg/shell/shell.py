@@ -293,6 +293,8 @@ class Shell:
                 self.say(f"the moves up to {self.target.place} are made")
             return False
         if command is not None and command.form.moves:
+            if command.condition is not None:
+                self.goal = " ".join(command.condition_words())
             if self.notices.is_room:
                 self._as_told(reply)
             else:
