@@ -85,11 +85,12 @@ class Loses(Begins):
         return self._known[lines]
 
     def began(self, walk: Walk, low: int) -> Optional[int]:
-        loss = losing.loss_of(self._answer(LOST, ALL[walk.target].now()))
+        answer = self._answer(LOST, ALL[walk.target].now())
+        loss = losing.loss_of(answer)
         if loss is None or not low < loss.place <= walk.place:
             return None
-        order = losing.joined(loss.order)
-        self.way = "; ".join(losing.told(loss, self.text, f"goto {loss.before}")) + f" {order}"
+        way = "; ".join(losing.told(loss, self.text, f"goto {loss.before}"))
+        self.way = f"{way} {'; '.join(losing.behind(LOST, answer, loss.order))}"
         return loss.place
 
     def _answer(self, question: Question, lines: Sequence[str]) -> Answer:
