@@ -1,4 +1,5 @@
 """The record of the moves that are done: the lines that go back by it, and forth again."""
+from typing import Iterable, List
 
 BACK, REDO, TRIM = "back", "redo", "trim"
 # Lines of these words make no move that is new.
@@ -18,6 +19,11 @@ def again(count: int = 1) -> str:
 def trim(count: int) -> str:
     """The line that keeps the records of so many, and gives up those before."""
     return f"{TRIM} {count}"
+
+
+def untrimmed(lines: Iterable[str]) -> List[str]:
+    """The lines without trims: they lead to the same place, and `back` from there to all before."""
+    return [it for it in lines if it.split(" ")[0] != TRIM]
 
 
 def way(here: int, there: int) -> str:

@@ -26,8 +26,8 @@ class Words(Held):
     def test_the_move_that_lost_it(self) -> None:
         with editor() as client:
             client.begin(LOST)
-            client.typed(RUN)
             self.assertIn("lost what? a goal, as `lost finished`", client.typed("lost"))
+            client.typed(RUN)
             said = client.typed("lost at worker 1").splitlines()
             move = "poller 0 recv jobs 0 -> 1, data 41, jobs 0/1"
             self.assertEqual(["lost at 8", f"  8  core 1  {move}"], said[:2])

@@ -91,6 +91,7 @@ class Lost(unittest.TestCase):
                 ("rc! waits worker", "waits worker"),
                 ("rc! wakes worker", "waits worker"),
                 ("until asleep 1", "asleep"),
+                ("until count jobs < 9 1", "count jobs < 9"),
                 ("reach reg poller 0 = 1", "reg poller 0 = 1"),
                 ("lost at worker 1", "at worker 1"),
                 ("reach no goal", "at worker 1"),

@@ -11,7 +11,7 @@ from rdbg.adapter.sources import Spot, Text
 from rdbg.adapter.stops import Amount, Becomes, Content, Counted, Seat, Stop, Where, becoming
 from rdbg.driving.target import Unable
 from rdbg.failure import turned
-from rdbg.goals import reading, sought, words as goal_words
+from rdbg.goals import reading, words as goal_words
 from rdbg.goals.changes import Changes
 from rdbg.goals.claims import Goal
 from rdbg.goals.computed import COMPARING
@@ -130,7 +130,7 @@ def is_call(spot: Spot, words: Sequence[str]) -> bool:
 def of_move(shell: Shell, words: Sequence[str]) -> Stop:
     """What these words say of a move. Raises `Wrong`."""
     with turned(Wrong, NoGoal):
-        way, at = sought.of_move(words, shell.target, shell.scope())
+        way, at = goal_words.of_move(words, shell.target, shell.scope())
     if at < len(words):
         raise Wrong(f"'{' '.join(words[at:])}' is too much behind {' '.join(words[:at])}")
     if isinstance(way, Changes):

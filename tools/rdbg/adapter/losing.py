@@ -14,8 +14,7 @@ from rdbg.failure import Failure, turned
 from rdbg.goals.claims import Goal
 from rdbg.goals.words import NOT_ASKED
 from rdbg.reaching import losing
-from rdbg.reaching.asking import LOST, REACH, Asker, Question
-from rdbg.reaching.behind import ask_behind
+from rdbg.reaching.asking import LOST, REACH, Asker, Question, ask_behind
 from rdbg.reaching.said import Answer, Kind
 from rdbg.shell import replay
 from rdbg.shell.shell import Shell
@@ -43,8 +42,8 @@ class Lines:
             self._journal.moved(command, value)
 
     def now(self) -> Tuple[str, ...]:
-        """They. (Behind a trim `back` leads less far, but the target stands where it stood.)"""
-        return tuple(it for it in self._journal.lines() if it.split(" ")[0] != record.TRIM)
+        """They."""
+        return tuple(record.untrimmed(self._journal.lines()))
 
 
 # Of each target, from its start on.
@@ -86,11 +85,12 @@ class Loses(Begins):
         return self._known[lines]
 
     def began(self, walk: Walk, low: int) -> Optional[int]:
-        loss = losing.loss_of(self._answer(LOST, ALL[walk.target].now()))
+        answer = self._answer(LOST, ALL[walk.target].now())
+        loss = losing.loss_of(answer)
         if loss is None or not low < loss.place <= walk.place:
             return None
-        order = losing.joined(loss.order)
-        self.way = "; ".join(losing.told(loss, self.text, f"goto {loss.before}")) + f" {order}"
+        way = "; ".join(losing.told(loss, self.text, f"goto {loss.before}"))
+        self.way = f"{way} {'; '.join(losing.behind(LOST, answer, loss.order))}"
         return loss.place
 
     def _answer(self, question: Question, lines: Sequence[str]) -> Answer:

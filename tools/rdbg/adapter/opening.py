@@ -34,17 +34,13 @@ class EditorShell(Shell):
     """A shell whose words an editor's user types. `hear` is told what a room says besides."""
 
     hear: Optional[Tell] = None
+    ended_by = "paused"
 
     def _notice(self, notice: str) -> None:
         if self.hear is None:
             print(notice)
         else:
             self.hear(notice)
-
-    def stopped(self, where: str) -> None:
-        """Says that something was paused, and where the target is."""
-        self.is_refused = self.is_stopped = True
-        self.say(f"paused, {where}")
 
 
 def file_of(given: Arguments) -> Optional[str]:
@@ -122,10 +118,8 @@ def set_pace(shell: Shell, given: Arguments) -> None:
     found = pace(text)
     if text and found is None:
         raise Wrong(f"pace: '{text}' is none: {IS}")
-    application = shell.target.application
-    there = {it.name: it for it in application.interrupts} if application else {}
     with turned(Wrong, Unable, of="interrupts"):
-        coming = paces.chosen(names, there)
+        coming = paces.chosen(shell, names)
     if names:
         paces.let_come(shell, found, coming)
     elif found:

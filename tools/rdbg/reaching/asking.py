@@ -1,12 +1,16 @@
 """Questions to the program that searches, each answered by one that is started for it."""
+import dataclasses
 import os
 import tempfile
 import time
 from typing import Dict, NamedTuple, Optional, Sequence, Tuple
 
 from rdbg.client import built_by_wrapper
+from rdbg.driving.opening import as_read
 from rdbg.failure import Failure
+from rdbg.files.source import Source
 from rdbg.reaching import running, said
+from rdbg.reaching.handlers import handlers, left
 from rdbg.reaching.said import UNTOLD, Answer, Bound
 
 # What names the program.
@@ -118,3 +122,27 @@ def answered(outcome: running.Outcome, known: Answer) -> Answer:
     if not replies or replies[-1] == [DONE]:
         raise Failure("the program ended before its answer", UNTOLD)
     return said.read(replies[-1])
+
+
+def ask_behind(
+    source: Source,
+    lines: Sequence[str],
+    question: Question,
+    asked: str,
+    names: Sequence[str] = (),
+    more: Sequence[str] = (),
+    asker: Optional[Asker] = None,
+    counts: bool = True,
+) -> Answer:
+    """The answer about a goal, as the program has it, behind these lines of a run of a file as it
+    was read, and the order behind them alone. The interrupts of these names may come, all that are
+    declared where there is none, and those that end waits: as often as is left, or as if none had
+    come yet, where `counts` isn't so, or where a run lost the goal is asked. `more` are further
+    lines of the program, and `asker` has its options. Raises `Failure`."""
+    named = handlers(names, source.application)
+    found = left(named, lines) if counts and question is not LOST else named
+    coming = [it.line() for it in found]
+    with as_read(source) as path:
+        asked_of = (asker or Asker(path))._replace(file=path)
+        answer = asked_of.ask(asked, begin=lines, more=[*coming, *more], question=question)
+    return dataclasses.replace(answer, order=answer.order[len(lines) :])

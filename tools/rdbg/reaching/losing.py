@@ -1,7 +1,9 @@
 """Where a run lost a goal for good, as an answer to `lost` says it, and how that is told."""
 import re
-from typing import Callable, Iterator, NamedTuple, Optional, Sequence, Tuple
+from typing import Iterator, List, NamedTuple, Optional, Sequence, Tuple
 
+from rdbg.driving.parts import move_to
+from rdbg.files.source import Source
 from rdbg.reaching.asking import Question
 from rdbg.reaching.said import Answer, Kind
 
@@ -45,18 +47,21 @@ def told(loss: Loss, move: str, way: str) -> Iterator[str]:
     yield f"`{way}` goes before it, and from there it can still come:"
 
 
-def in_one(question: Question, answer: Answer, row: Callable[[int], str]) -> str:
-    """What an answer says behind its first line, in one; `row` tells the move to a place."""
+def in_one(question: Question, answer: Answer, source: Source, lines: Sequence[str]) -> str:
+    """An answer to a question that was asked behind these lines, in one line."""
     loss = loss_of(answer)
-    if loss is None:
-        if answer.kind is Kind.REACHED and not answer.order:
-            return question.here
-        return joined(answer.order) or answer.why
-    head = "; ".join(told(loss, row(loss.place) if loss.place else "", loss.back))
-    return f"{head} {joined(loss.order) or question.here}" if loss.place else head
+    more = "; ".join(behind(question, answer, loss.order if loss else answer.order))
+    if loss is not None:
+        move = move_to(source, lines, loss.place).row() if loss.place else ""
+        way = "; ".join(told(loss, move, loss.back))
+        more = f"{way} {more or question.here}" if loss.place else way
+    return f"{answer.head()}: {more}" if more else answer.head()
 
 
-def joined(order: Sequence[str]) -> str:
-    """The lines of an order, the first of many."""
-    more = f"; and {len(order) - MOST_LINES} more" if len(order) > MOST_LINES else ""
-    return "; ".join(order[:MOST_LINES]) + more
+def behind(question: Question, answer: Answer, order: Sequence[str]) -> List[str]:
+    """What stands behind the first line of an answer, and the move that lost a goal: an order, the
+    first lines of a long one; that the goal holds here; or why that can't be told."""
+    if answer.kind is Kind.REACHED and not order:
+        return [question.here]
+    more = [f"and {len(order) - MOST_LINES} more"] if len(order) > MOST_LINES else []
+    return [*order[:MOST_LINES], *more, *filter(None, [answer.why])]

@@ -12,6 +12,7 @@ from rdbg.rooms.host import Audit, Ended, Host
 from rdbg.driving.journal import Journal
 from rdbg.rooms.memory import Memory
 from rdbg.rooms.seats import Seat
+from rdbg.shell import replay
 from rdbg.driving import trail
 from rdbg.driving.parts import look_through
 from rdbg.driving.target import Limits, Target, read, read_line
@@ -143,7 +144,7 @@ class Program:
             return False
         checks = [*self.target.names.lines(), "show moves", "show wheel"]
         lines = self.journal.lines()
-        watches = sum(2 * len(it.watches) + len(it.watch_lines()) for it in self._seats)
+        watches = sum(2 * max(it.watches, default=-1) + 2 for it in self._seats)
         used = 2 * len(self._seats) + watches + 1 + len(lines) + len(checks)
         is_new = False
         try:
@@ -217,11 +218,6 @@ def target_of(host: Host, source: Source, limits: Limits) -> Target:
 def watch_again(host: Host, seat: Seat) -> List[str]:
     """Has a new program keep the watches of a session, under the same numbers. Answers those that
     it refuses, which are none any more."""
-    dropped = []
-    for number, condition in sorted(seat.watches.items()):
-        reply, _ = host.tell_all(seat.number, [f"watch {condition}", "unwatch 0"])
-        if reply.startswith("no "):
-            dropped.append(f"w{number} of {seat.name}, {condition}, is dropped: {reply}")
-            del seat.watches[number]
-    host.tell_all(seat.number, seat.watch_lines())
-    return dropped
+    with host.asking(seat.number) as session:
+        dropped = replay.watch_again(session.tell, seat.watches)
+    return [f"w{it} of {seat.name}, {text}, is dropped: {reply}" for it, text, reply in dropped]

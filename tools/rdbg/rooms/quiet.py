@@ -1,10 +1,18 @@
-"""A prompt without a terminal: what it says is kept, and printed nowhere."""
+"""A prompt without a terminal: what it says is kept, and printed nowhere. By it a room's file is
+read anew."""
 import time
-from typing import List
+from typing import List, Tuple
 
+from rdbg import record
+from rdbg.commands import MOST_COUNT
 from rdbg.driving.interrupt import Interrupt, Interrupted
-from rdbg.driving.target import Target
+from rdbg.driving.opening import begin
+from rdbg.driving.target import Limits, Target, Unable
+from rdbg.failure import Failure
 from rdbg.files.source import Source
+from rdbg.replies import Refused
+from rdbg.rooms.seats import Refusal
+from rdbg.shell import replay
 from rdbg.shell.shell import Shell
 
 # So many seconds a word may take.
@@ -66,3 +74,20 @@ class Quiet(Shell):
 
     def _echo(self, line: str) -> None:
         """Lines aren't shown."""
+
+
+def made_again(source: Source, lines: List[str]) -> Tuple[Source, List[str], List[str]]:
+    """The file of a source as it is now, the lines that make those of these moves on it that are
+    the same, and what is said of them. They are made in programs of their own. Raises `Refusal`
+    where it can't be read, or that takes too long."""
+    shell = Quiet(begin(source, Limits(MOST_COUNT, MOST_COUNT)), source)
+    try:
+        shell.target.tell_all(record.untrimmed(lines))
+        replay.reload(shell, [])
+        if shell.source is None or shell.source is source:
+            raise Refusal("; ".join(shell.texts))
+        return shell.source, replay.lines_of(shell), "\n".join(shell.texts).split("\n")
+    except (Unable, Refused, Failure) as wrong:
+        raise Refusal(str(wrong)) from None
+    finally:
+        shell.target.session.kill()

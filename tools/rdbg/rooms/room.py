@@ -7,10 +7,9 @@ from typing import Callable, Deque, Dict, List, Optional, Set
 from rdbg import record
 from rdbg.commands import MOST_BYTES, TARGET, Command
 from rdbg.failure import Failure
-from rdbg.rooms import reloading, remarks
+from rdbg.rooms import quiet, remarks
 from rdbg.rooms.counts import Counts
-from rdbg.rooms.doings import Doing, effect, is_single, next_of
-
+from rdbg.rooms.doings import Doing, effect, is_single
 from rdbg.rooms.host import MOST_SESSIONS, Audit, Ended
 from rdbg.rooms.member import Hear, Member, Notice
 from rdbg.rooms.program import FULL, HISTORY, SCARCE, Program
@@ -19,6 +18,7 @@ from rdbg.rooms.talk import Talk
 from rdbg.rooms.turns import Turns
 from rdbg.driving import trail
 from rdbg.driving.target import Limits, read_line
+from rdbg.shell.views import next_moves
 from rdbg.shown import shown
 from rdbg.files.source import Source
 from rdbg.wording import counted
@@ -247,7 +247,7 @@ class Room:
             came = effect(command, trail.between(target, before, after)) if after else ""
         elif command.form.word == record.BACK:
             after = self._program.look(seat)
-            came = f"next: {next_of(target.application, after)}" if after else ""
+            came = f"next: {next_moves(target.application, after)}" if after else ""
         elif command.form.moves:
             rows = self._program.rows(seat, place, FEW)
         said = " ".join(command.words)
@@ -360,7 +360,7 @@ class Room:
         """Reads the file anew behind the room's turn, and goes on with it; all are told then."""
         try:
             was = self.lines()
-            source, lines, said = reloading.made_again(self.app_source, was)
+            source, lines, said = quiet.made_again(self.app_source, was)
             with self._turns:
                 if self.is_over or not member.is_here or self.holder is not member.seat:
                     why = "the wheel was given back, or the room has ended, before it was read"

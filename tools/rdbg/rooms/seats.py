@@ -9,8 +9,6 @@ from rdbg.shown import shown
 GUEST = "guest"
 # Words that stand at the head of what a room says.
 NOT_NAMES = ("no", "you", "here", "away", "rdbg", "room")
-# A condition that every application has.
-ANY = "tick = 0"
 NAMING = "a name is 1 to 16 of a to z, 0 to 9 and _, the first a letter"
 
 
@@ -32,12 +30,6 @@ class Seat:
         # (the watches that it keeps, by their numbers, and when who had it left)
         self.watches: Dict[int, str] = {}
         self.left = 0
-
-    def watch_lines(self) -> List[str]:
-        """The lines that keep its watches under the same numbers where there are none."""
-        numbers = range(max(self.watches, default=-1) + 1)
-        made = [f"watch {self.watches.get(number, ANY)}" for number in numbers]
-        return made + [f"unwatch {number}" for number in numbers if number not in self.watches]
 
 
 def check(name: str) -> None:

@@ -9,20 +9,19 @@ from typing import NamedTuple, Optional, Sequence
 from rdbg import commands, record
 from rdbg.driving.interrupt import Interrupted
 from rdbg.driving.opening import begin
-from rdbg.driving.parts import move_to
 from rdbg.driving.target import Limits, Unable
 from rdbg.driving.walk import Walk
 from rdbg.failure import Failure
-from rdbg.goals import sought
 from rdbg.goals.reading import NoGoal
 from rdbg.goals.scope import Scope
-from rdbg.goals.words import for_search
+from rdbg.goals.words import for_search, sought
 from rdbg.reaching import handlers, losing
-from rdbg.reaching.asking import QUESTIONS, Asker
-from rdbg.reaching.behind import ask_behind
+from rdbg.reaching.asking import Asker, Question, ask_behind
 from rdbg.replies import Refused
 from rdbg.rooms.quiet import SECONDS, Patience
 from rdbg.rooms.room import Member, Room
+from rdbg.shell import seek
+from rdbg.shell.shell import Shell
 
 # A search ends with so many mebibytes, and as what is typed does, after so many seconds.
 MEBIBYTES = 256
@@ -31,37 +30,22 @@ MOST = 10_000
 SYNTAX = "no Syntax"
 
 
-def goal_in(line: str, reply: str) -> Sequence[str]:
-    """The goal of a run or a way back that was made, which has no COUNT behind it then."""
-    way, words = typed(line), line.split()
-    if way is not None:
-        return reply.partition(" met: ")[2].split() if reply.startswith("at ") else ()
-    behind = words[2:] if words[:2] == [record.BACK, "until"] else words[1:-1]
-    is_run = words[:1] == ["until"] or words[:2] == [record.BACK, "until"]
-    return behind if is_run and reply.startswith("ok ") else ()
-
-
-def answered(room: Room, words: Sequence[str]) -> str:
-    """What is answered to a question, in one line."""
-    question, goal, source = QUESTIONS[words[0]], words[1:], room.app_source
+def answered(room: Room, question: Question, goal: Sequence[str]) -> str:
+    """What is answered to a question about a goal, in one line."""
+    source = room.app_source
     if not goal:
         assert source.application is not None
         return f"no: {question.lacks_goal(source.application.tasks[0].name)}"
-    try:
-        _, asked = for_search(goal, Scope.of(source))
-    except NoGoal as wrong:
-        return f"no: {wrong}"
-    # (`back` leads no further then, but where the target stands is the same)
-    lines = [it for it in room.lines() if it.split(" ")[0] != record.TRIM]
+    lines = record.untrimmed(room.lines())
     options = ("--memory", str(MEBIBYTES))
     asker = Asker(source.path, options, time.monotonic() + SECONDS)
     try:
+        _, asked = for_search(goal, Scope.of(source))
         answer = ask_behind(source, lines, question, asked, asker=asker)
-        texts = losing.in_one(question, answer, lambda place: move_to(source, lines, place).row())
+        said = losing.in_one(question, answer, source, lines)
     except Failure as failure:
         return f"no: {failure}"
-    said = [f"{answer.head()}: {texts}" if texts else answer.head()]
-    return "; ".join([*said, *filter(None, [handlers.told((), source.application)])])
+    return "; ".join(filter(None, [said, handlers.told((), source.application)]))
 
 
 class Typed(NamedTuple):
@@ -83,8 +67,9 @@ def typed(line: str) -> Optional[Typed]:
     return Typed(head[0].startswith("until"), head[0].endswith("!"), behind)
 
 
-def to_place(room: Room, member: Member, it: Typed) -> str:
-    """Goes to a goal, and answers where that is: the place is found, and gone to by one line."""
+def to_place(shell: Shell, room: Room, member: Member, it: Typed) -> str:
+    """Goes to a goal, and answers where that is: the place is found, and gone to by one line. A
+    prompt takes note of the goal."""
     target = begin(room.app_source, Limits(Limits.moves, commands.MOST_COUNT))
     with target.session:
         target.tell_all(room.lines())
@@ -93,7 +78,7 @@ def to_place(room: Room, member: Member, it: Typed) -> str:
             scope = dataclasses.replace(
                 Scope.of(room.app_source), watches=dict(member.seat.watches)
             )
-            way, count = sought.way(it.goal, target, scope, it.becoming)
+            way, count = sought(it.goal, target, scope, it.becoming)
             walk, most = Walk(target, Patience()), MOST if count is None else count
             place = way.next(walk, most) if it.is_forwards else way.last(walk)
         except NoGoal as wrong:
@@ -105,4 +90,7 @@ def to_place(room: Room, member: Member, it: Typed) -> str:
         return f"no: '{way.text}' wasn't met {where}; at {start} still"
     line = f"forward {place - start}" if it.is_forwards else record.way(start, place)
     reply = member.ask(line)
-    return reply if reply.startswith("no ") else f"at {place} met: {way.text}"
+    if reply.startswith("no "):
+        return reply
+    seek.keep_goal(shell, way)
+    return f"at {place} met: {way.text}"

@@ -6,10 +6,8 @@ import secrets
 import socket
 import threading
 import time
-from typing import Callable, Dict, List, Optional, Sequence, Tuple
+from typing import Callable, Dict, List, Optional, Tuple
 
-from rdbg.reaching.asking import QUESTIONS
-from rdbg.rooms import web_goals
 from rdbg.rooms.room import Member, Refusal, Room
 from rdbg.rooms.web_follower import Follower, Values
 from rdbg.rooms.web_prompt import Prompt
@@ -26,10 +24,6 @@ NAME = "web"
 Event = Tuple[str, str]
 
 
-class TooMany(Refusal):
-    """There is no room for more."""
-
-
 class Page:
     """A page in a browser, as a member of the room."""
 
@@ -43,8 +37,6 @@ class Page:
         self._notices, self._dropped = [], 0  # type: List[str], int
         self._needs_run, self._is_old = True, False
         self._who = ""
-        # The goal that was asked for or gone to last.
-        self._goal: Sequence[str] = ()
         self._prompt: Optional[Prompt] = None
         self._lines = threading.Semaphore(MOST_LINES)
         self._turn = threading.Lock()
@@ -138,35 +130,18 @@ class Page:
     def ask(self, line: str) -> str:
         """The reply to a line; empty of one with `#`, which notices answer. Raises `Refusal`."""
         if not self._lines.acquire(blocking=False):
-            raise TooMany(f"{MOST_LINES} lines wait for their replies already")
+            raise Refusal(f"{MOST_LINES} lines wait for their replies already")
         try:
             with self._turn:
-                words = line.split()
-                if words and words[0] in QUESTIONS:
-                    return self._answered(words)
-                if words == ["reload"]:
+                if line.split() == ["reload"]:
                     line = "# reload"
                 if line.lstrip(" ").startswith("#"):
                     self.member.remark(line)
                     return ""
-                return self._said(line)
+                self._prompt = self._prompt or Prompt(self._room, self.member)
+                return self._prompt.said(line)
         finally:
             self._lines.release()
-
-    def _said(self, line: str) -> str:
-        """What is said to a line of rdbg's or a word of `sh`, and behind a refusal."""
-        self._prompt = self._prompt or Prompt(self._room, self.member)
-        said = self._prompt.said(line)
-        self._goal = web_goals.goal_in(line, said) or self._goal
-        return said
-
-    def _answered(self, words: Sequence[str]) -> str:
-        """The answer to a question, of the goal before where it says none."""
-        asked = words if words[1:] else [*words, *self._goal]
-        reply = web_goals.answered(self._room, asked)
-        if not reply.startswith("no: "):
-            self._goal = asked[1:]
-        return reply
 
     def watches(self) -> str:
         """Which watches hold now, which nobody has asked for."""
@@ -213,7 +188,7 @@ class Pages:
         with self._guard:
             if len(self._open) >= MOST_PAGES:
                 page.close()
-                raise TooMany(f"{MOST_PAGES} pages are open already")
+                raise Refusal(f"{MOST_PAGES} pages are open already")
             self._open[page.key] = page
         try:
             page.member = self._join(name, page.hear)

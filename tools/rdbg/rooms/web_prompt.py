@@ -1,10 +1,11 @@
 """The words of `sh` at a room's page."""
 import io
-from typing import Dict, Iterable, Iterator
+from typing import Dict, Iterable, Iterator, Sequence
 
 from rdbg.client import Session
 from rdbg.commands import MOST_BYTES
 from rdbg.driving.target import Target
+from rdbg.reaching.asking import QUESTIONS, Question
 from rdbg.replies import Refused
 from rdbg.rooms import web_goals
 from rdbg.rooms.quiet import Quiet
@@ -61,6 +62,8 @@ class Prompt(Quiet):
 
     def said(self, line: str) -> str:
         words = line.split()
+        if words and words[0] in QUESTIONS:
+            return self._answered(QUESTIONS[words[0]], words[1:] or self.goal.split())
         word = BY_NAME.get(words[0]) if words else None
         if words and words[0] in ELSEWHERE:
             return f"no: {ELSEWHERE[words[0]]}"
@@ -74,6 +77,13 @@ class Prompt(Quiet):
         self.target.has_wheel = self._room.holder is self._member.seat
         return super().said(line)
 
+    def _answered(self, question: Question, goal: Sequence[str]) -> str:
+        """The answer to a question, which is of the goal before where none stands behind it."""
+        reply = web_goals.answered(self._room, question, goal)
+        if not reply.startswith("no: "):
+            self.goal = " ".join(goal)
+        return reply
+
     def do(self, text: str) -> None:
         """Does a line. To a goal for which rdbg has no line one goes as others are told of one."""
         way = web_goals.typed(text)
@@ -84,6 +94,6 @@ class Prompt(Quiet):
         else:
             try:
                 with self.wheel():
-                    self.say(web_goals.to_place(self._room, self._member, way))
+                    self.say(web_goals.to_place(self, self._room, self._member, way))
             except Refused as refused:
                 self.say(f"no {refused}")

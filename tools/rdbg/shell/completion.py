@@ -3,7 +3,7 @@ import glob
 from typing import Dict, Iterable, List, Sequence
 
 from rdbg import commands, kinds
-from rdbg.goals import reading, sought
+from rdbg.goals import reading, words as goal_words
 from rdbg.shell import glossary, seek, views, words
 from rdbg.shell.shell import Shell
 
@@ -35,9 +35,9 @@ def goal(behind: Sequence[str], with_conditions: bool) -> List[str]:
         return [*seek.FIRST[:-1], *(condition([]) if with_conditions or behind else [])]
     last = max(at for at, word in enumerate(behind) if at == 0 or behind[at - 1] in reading.JOINING)
     words = behind[last:]
-    if len(words) == 1 and (words[0] in reading.OF_TASKS or words[0] == sought.WAKES):
+    if len(words) == 1 and (words[0] in reading.OF_TASKS or words[0] == goal_words.WAKES):
         return ["K"]
-    if words == [sought.CHANGES]:
+    if words == [goal_words.CHANGES]:
         return ["OBJECT"]
     if words[0] == "waits" and len(words) == 2:
         return [*reading.PLACES, *reading.SIDES, reading.NOTE, reading.AND, reading.OR]

@@ -1,5 +1,5 @@
 """`pace`, `go` and `interrupts`: runs in which cores make enough moves between two ticks."""
-from typing import Dict, List, Optional, Sequence
+from typing import List, Optional, Sequence
 
 from rdbg import commands
 from rdbg.application import NO_INTERRUPT, Interrupt
@@ -45,10 +45,8 @@ def take(shell: Shell, found: Optional[TickPace], coming: Optional[Sequence[Inte
 
 def interrupts(shell: Shell, words: Sequence[str]) -> None:
     """`interrupts NAME ..`, `interrupts none`: which come by themselves in runs and searches."""
-    application = shell.target.application
-    there = {it.name: it for it in application.interrupts} if application else {}
     if words:
-        let_come(shell, shell.pace, chosen(words, there))
+        let_come(shell, shell.pace, chosen(shell, words))
     shell.say(said(shell))
 
 
@@ -57,10 +55,12 @@ def let_come(shell: Shell, found: Optional[TickPace], coming: Sequence[Interrupt
     take(shell, found or (TickPace(1) if coming else None), coming)
 
 
-def chosen(words: Sequence[str], there: Dict[str, Interrupt]) -> List[Interrupt]:
+def chosen(shell: Shell, words: Sequence[str]) -> List[Interrupt]:
     """The interrupts of these names, by `none` none. Raises `Unable` where one can't come so."""
     if [*words] == [NO_INTERRUPT]:
         return []
+    application = shell.target.application
+    there = {it.name: it for it in application.interrupts} if application else {}
     for name in words:
         if name not in there:
             near = nearest(name, there)

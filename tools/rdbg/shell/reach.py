@@ -7,10 +7,9 @@ from rdbg.driving.target import Unable
 from rdbg.failure import Failure, turned
 from rdbg.goals import words as goal_words
 from rdbg.reaching import beside, losing
-from rdbg.reaching.asking import LOST, Question
-from rdbg.reaching.behind import ask_behind
+from rdbg.reaching.asking import LOST, Question, ask_behind
 from rdbg.reaching.handlers import WORD
-from rdbg.reaching.said import Answer, Kind
+from rdbg.reaching.said import Answer
 from rdbg.shell import replay
 from rdbg.shell.shell import Order, Reached, Shell
 
@@ -86,14 +85,7 @@ def say(shell: Shell, question: Question, answer: Answer, more: List[str], place
         move = shell.lost.row() if shell.lost else ""
         told += losing.told(loss, move, f"goto {loss.before}")
     shell.order = Order(place, order)
-    told += order[: losing.MOST_LINES]
-    if len(order) > losing.MOST_LINES:
-        told.append(f"and {len(order) - losing.MOST_LINES} more")
-    if answer.kind is Kind.REACHED and not order:
-        told.append(question.here)
-    if answer.kind is not Kind.REACHED and answer.why:
-        told.append(answer.why)
-    for line in (*told, *more):
+    for line in (*told, *losing.behind(question, answer, order), *more):
         shell.say(f"  {line}")
 
 

@@ -3,7 +3,7 @@ import contextlib
 import os
 import re
 import stat
-from typing import List, Sequence, Tuple
+from typing import Callable, Dict, List, Sequence, Tuple
 
 from rdbg import commands, own_file, record, replies
 from rdbg.driving import trail
@@ -14,7 +14,6 @@ from rdbg.effects import Move
 from rdbg.failure import Failure, trying, turned
 from rdbg.files.source import Source, load
 from rdbg.looks import Names
-from rdbg.replies import Refused
 from rdbg.shell.notices import MOST_MOVES
 from rdbg.shell.shell import Shell
 from rdbg.wording import counted
@@ -29,6 +28,8 @@ CHUNK = 512
 VALUE = re.compile("[0-9]+|r[0-7]|max")
 # The instruction whose word is bytes.
 BYTES = "data"
+# A condition that every application has.
+ANY = "tick = 0"
 
 
 def check_there(shell: Shell, path: str, there: os.stat_result, is_anew: bool) -> None:
@@ -173,7 +174,8 @@ def replayed(shell: Shell, source: Source, limits: Limits) -> None:
     with staying():
         target = begin(source, limits)
     with closed_if_wrong(target.session):
-        watches(shell, target)
+        for number, text, reply in watch_again(target.tell, dict(shell.target.watches)):
+            shell.say(f"watch {number}, {text}, is dropped: {reply}")
         for answer in in_chunks(shell, target, [move.line for move in old[:same]], "made again"):
             read(answer)
         left = old[same:]
@@ -241,15 +243,16 @@ def outcome(move: Move) -> Tuple[object, ...]:
     return (move.kind, move.core, move.task, tuple(names), move.answer, tuple(effects))
 
 
-def watches(shell: Shell, target: Target) -> None:
-    """Makes the same watches, under the same numbers, where their names are still there."""
-    old = dict(shell.target.watches)
-    numbers = range(max(old, default=-1) + 1)
+def watch_again(tell: Callable[[str], str], watches: Dict[int, str]) -> List[Tuple[int, str, str]]:
+    """Makes watches where there are none, under the same numbers. Those that are refused, as their
+    names aren't there any more, are dropped, and answered, each with the reply."""
+    dropped = []
+    numbers = range(max(watches, default=-1) + 1)
     for number in numbers:
-        try:
-            target.ask(f"watch {old.get(number, 'tick = 0')}", replies.WatchDone)
-        except Refused as refused:
-            shell.say(f"watch {number}, {old.pop(number, '')}, is dropped: no {refused}")
-            target.ask("watch tick = 0", replies.WatchDone)
-    for number in sorted({*numbers} - {*old}):
-        target.ask(f"unwatch {number}", replies.WatchDone)
+        reply = tell(f"watch {watches.get(number, ANY)}")
+        if reply.startswith("no "):
+            dropped.append((number, watches.pop(number), reply))
+            tell(f"watch {ANY}")
+    for number in sorted({*numbers} - {*watches}):
+        tell(f"unwatch {number}")
+    return dropped

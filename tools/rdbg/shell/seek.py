@@ -7,7 +7,7 @@ from rdbg import commands, record
 from rdbg.driving.interrupt import Interrupted
 from rdbg.driving.target import Unable
 from rdbg.failure import turned
-from rdbg.goals import claims, conditions, reading, sought, words as goal_words
+from rdbg.goals import claims, conditions, reading, words as goal_words
 from rdbg.goals.claims import Goal, Holds, SomeFailed, Stuck
 from rdbg.goals.reading import NoGoal
 from rdbg.goals.scope import Scope
@@ -37,7 +37,7 @@ def is_goal(words: Sequence[str], scope: Scope) -> bool:
 def goal_of(shell: Shell, words: Sequence[str], becoming: bool) -> Tuple[Way, Optional[int]]:
     """The way to the goal that these words are, and its COUNT. Raises `Unable`, and `Refused`."""
     with turned(Unable, NoGoal):
-        way, count = sought.way(words, shell.target, shell.scope(), becoming)
+        way, count = goal_words.sought(words, shell.target, shell.scope(), becoming)
     if isinstance(way, To):
         check_goal(shell, way.goal)
     return way, count

@@ -54,7 +54,9 @@ class Order(NamedTuple):
 
 
 class Shell:
-    """A target, and how one talks with it."""
+    """A target, and how one talks with it. `ended_by` is said of what is ended by its user."""
+
+    ended_by = "stopped by Ctrl-C"
 
     def __init__(self, target: Target, source: Optional[Source], interrupt: Interrupt) -> None:
         self.interrupt = interrupt
@@ -166,12 +168,12 @@ class Shell:
         return shutil.get_terminal_size().columns - len("# ") if self.is_terminal else None
 
     def stopped(self, where: str) -> None:
-        """Says that Ctrl-C ended something, and where the target is."""
+        """Says that something was ended, and where the target is."""
         self.is_refused = self.is_stopped = True
         self._wipe()
         if self.is_terminal:
             print()  # (behind the ^C of the terminal)
-        self.say(f"stopped by Ctrl-C, {where}")
+        self.say(f"{self.ended_by}, {where}")
 
     def hint(self, text: str) -> None:
         """Prints a hint on standard error, behind what was said."""
@@ -291,6 +293,8 @@ class Shell:
                 self.say(f"the moves up to {self.target.place} are made")
             return False
         if command is not None and command.form.moves:
+            if command.condition is not None:
+                self.goal = " ".join(command.condition_words())
             if self.notices.is_room:
                 self._as_told(reply)
             else:
@@ -413,16 +417,14 @@ class Shell:
 
     def next_moves(self) -> str:
         """What each busy core would do next, in words."""
-        from rdbg.shell.views import next_of
+        from rdbg.shell.views import next_moves
 
         if self.target.is_own:
             look = self.look()
         else:
             running = self.target.ask("show cores", Cores).running
             look = self._part(Names(tuple(name for name in running if name)))
-        seats = ((core, look.tasks.get(name or "")) for core, name in enumerate(look.cores.running))
-        found = [f"{it.name} {next_of(self, it)} (core {core})" for core, it in seats if it]
-        return ", ".join(found) or "no core is busy: tick"
+        return next_moves(self.target.application, look)
 
     def _warn(self) -> None:
         """Says when the history is nearly full."""

@@ -4,12 +4,12 @@ import re
 from typing import Callable, Dict, Iterator, List, Optional, Sequence
 
 from rdbg import commands, kinds, replies
-from rdbg.application import Instruction
+from rdbg.application import Application, Instruction
 from rdbg.driving.target import Unable
 from rdbg.failure import turned
 from rdbg.goals import computed
 from rdbg.goals.reading import NoGoal
-from rdbg.looks import Key, Object, hexadecimal, holding, time_of
+from rdbg.looks import Key, Look, Object, hexadecimal, holding, time_of
 from rdbg.operands import to_text
 from rdbg.replies import Refused
 from rdbg.shell.shell import Shell
@@ -50,34 +50,42 @@ def fitted(cells: Sequence[Sequence[str]], width: Optional[int], long: Sequence[
     return table([list(map(fits, row, widths)) for row in rows])
 
 
-def script_of(shell: Shell, name: str) -> Sequence[Instruction]:
+def script_of(application: Optional[Application], name: str) -> Sequence[Instruction]:
     """The script of a task; empty where it isn't known."""
-    task = shell.target.application.task(name) if shell.target.application else None
+    task = application.task(name) if application else None
     return task.code if task else ()
 
 
 def check_instruction(shell: Shell, name: str, number: int) -> None:
     """Raises `Unable` where a script is known, and has no instruction of this number."""
-    script = script_of(shell, name)
+    script = script_of(shell.target.application, name)
     if script and number >= len(script):
         has = to_text(0, len(script) - 1)
         raise Unable(f"there is no instruction {number}: {name} has {has}")
 
 
-def written(shell: Shell, task: replies.Task) -> str:
+def written(application: Optional[Application], task: replies.Task) -> str:
     """The next instruction of a task as it is written; empty where it isn't known."""
-    return "".join(it.told for it in script_of(shell, task.name)[task.pc : task.pc + 1])
+    return "".join(it.told for it in script_of(application, task.name)[task.pc : task.pc + 1])
 
 
-def next_of(shell: Shell, task: replies.Task) -> str:
+def next_of(application: Optional[Application], task: replies.Task) -> str:
     """The next instruction of a task, with its number."""
-    return f"{task.pc} {written(shell, task)}".rstrip()
+    return f"{task.pc} {written(application, task)}".rstrip()
+
+
+def next_moves(application: Optional[Application], look: Look) -> str:
+    """What each busy core would do next, in words."""
+    seats = ((core, look.tasks.get(name or "")) for core, name in enumerate(look.cores.running))
+    found = [f"{it.name} {next_of(application, it)} (core {core})" for core, it in seats if it]
+    return ", ".join(found) or "no core is busy: tick"
 
 
 def place_in_file(shell: Shell, task: replies.Task) -> str:
     """The file and the line of the next instruction of a task; empty where it isn't known."""
     path = shell.source.path if shell.source else ""
-    found = script_of(shell, task.name)[task.pc : task.pc + 1] if path else ()
+    application = shell.target.application if path else None
+    found = script_of(application, task.name)[task.pc : task.pc + 1]
     return "".join(f"{path}:{it.place.line}" for it in found)
 
 
@@ -108,12 +116,13 @@ def notes(task: replies.Task) -> str:
 
 def tasks(shell: Shell) -> None:
     """All tasks, as a table."""
+    application = shell.target.application
     rows = [["task", "core", "phase", "pc", "instruction", "registers", "data", "notes"]]
     for name, it in shell.look().tasks.items():
-        here = [name, seat(it), it.phase.text, str(it.pc), written(shell, it) or "-"]
+        here = [name, seat(it), it.phase.text, str(it.pc), written(application, it) or "-"]
         there = [f"{name}={value}" for name, value in zip(REGISTERS, it.registers) if value]
         rows.append([*here, ",".join(there) or "-", hexadecimal(it.data), notes(it)])
-    if shell.target.application is None:
+    if application is None:
         rows = [[*row[:4], *row[5:]] for row in rows]
     long = [rows[0].index(name) for name in LONG if name in rows[0]]
     shell.say("\n".join(fitted(rows, shell.width(), long)))
@@ -185,7 +194,7 @@ def task(shell: Shell, name: str) -> List[str]:
     entries = " ".join(f"{at}={note.value}:{note.state}" for at, note in enumerate(it.notes))
     return [
         f"task {name}{rank}, {where}, {phase_text(it)}",
-        f"pc {it.pc}  {written(shell, it)}  {place_in_file(shell, it)}",
+        f"pc {it.pc}  {written(application, it)}  {place_in_file(shell, it)}",
         f"{values}  data {hexadecimal(it.data)}",
         f"notes {entries}",
     ]
@@ -199,7 +208,7 @@ def where(shell: Shell, words: Sequence[str]) -> None:
         it, more = look.tasks.get(name or ""), ["", "", ""]
         if it is not None:
             phase = "" if it.phase.word == "run" else f"({it.phase.text})"
-            more = [next_of(shell, it), phase, place_in_file(shell, it)]
+            more = [next_of(shell.target.application, it), phase, place_in_file(shell, it)]
         rows.append([f"core {core}", name or "idle", *more])
     ready = ",".join(look.cores.ready) or "-"
     shell.say("\n".join(fitted(rows, shell.width(), (2, 4, 3))))
@@ -214,7 +223,7 @@ def listing(shell: Shell, words: Sequence[str]) -> None:
         raise Unable(f"no core is busy: list which task? {', '.join(look.tasks)}")
     for name in names:
         check_name(shell, name, "task")
-        script = script_of(shell, name)
+        script = script_of(shell.target.application, name)
         if not script:
             raise Unable(f"the script of {name} isn't known: `rdbg sh --port P FILE` says it")
         it = look.tasks[name]

@@ -11,7 +11,7 @@ from rdbg import commands, record
 from rdbg.application import Application
 from rdbg.digits import is_digits
 from rdbg.driving.opening import attach, builtin
-from rdbg.driving.parts import AT_A_PORT, Part, Told, Trim, move_to, part_at
+from rdbg.driving.parts import AT_A_PORT, Part, Told, Trim, part_at
 from rdbg.driving.target import Limits, Unable
 from rdbg.effects import Move
 from rdbg.failure import Failure, of_words, trying, turned
@@ -23,8 +23,7 @@ from rdbg.goals.words import for_search, read
 from rdbg.looks import Names
 from rdbg.page.recorder import Recorder
 from rdbg.reaching import losing
-from rdbg.reaching.asking import LOST, QUESTIONS, REACH, Question
-from rdbg.reaching.behind import ask_behind
+from rdbg.reaching.asking import LOST, QUESTIONS, REACH, Question, ask_behind
 from rdbg.reaching.handlers import told as told_of
 from rdbg.reaching.said import Answer
 from rdbg.replies import Refused
@@ -70,15 +69,12 @@ def ask(text: str, source: Optional[Source], told: Sequence[Told]) -> Answered:
     goal = words[words[:1] == [question.word] :]
     with turned(of_words, NoGoal, of=option):
         _, words_asked = for_search(goal, Scope.of(source))
-    # (`back` leads no further behind a trim, but what is there is the same)
-    lines = [it.text for it in told if it.text.split(" ")[0] != record.TRIM]
+    lines = record.untrimmed(it.text for it in told)
     return question, " ".join(goal), ask_behind(source, lines, question, words_asked), lines
 
 
-def of_page(text: Optional[str], source: Optional[Source], told: Sequence[Told]) -> Optional[Asked]:
-    """The answer as a page has it; none where nothing is asked."""
-    if text is None:
-        return None
+def of_page(text: str, source: Optional[Source], told: Sequence[Told]) -> Asked:
+    """The answer as a page has it."""
     question, goal, answer, lines = ask(text, source, told)
     is_whole = question is LOST and answer.order
     order = (*lines, *answer.order) if is_whole else answer.order
@@ -87,19 +83,14 @@ def of_page(text: Optional[str], source: Optional[Source], told: Sequence[Told])
     return asked(question, goal, answer, place, order, beside)
 
 
-def lost_in(text: Optional[str], source: Optional[Source], told: Sequence[Told]) -> Optional[Lost]:
-    """The answer to `lost GOAL` as rows have it; none where nothing is asked."""
-    if text is None:
-        return None
+def lost_in(text: str, source: Optional[Source], told: Sequence[Told]) -> Lost:
+    """The answer to `lost GOAL` as rows have it."""
     _, goal, answer, lines = ask(text, source, told)
     assert source is not None
-    texts = losing.in_one(LOST, answer, lambda place: move_to(source, lines, place).row())
-    loss = losing.loss_of(answer)
-    said = f"{answer.head()}: {texts}" if texts else answer.head()
+    said, loss = losing.in_one(LOST, answer, source, lines), losing.loss_of(answer)
     beside = told_of((), source.application)
-    return Lost(
-        goal, said + (f" ({beside})" if beside else ""), loss.place or None if loss else None
-    )
+    place = loss.place or None if loss else None
+    return Lost(goal, said + (f" ({beside})" if beside else ""), place)
 
 
 STANDARD_INPUT = "-"
@@ -159,13 +150,13 @@ def write_page(
     found: Iterable[Part],
     trims: Sequence[Trim],
     path: str,
-    recorder: Recorder,
+    application: Optional[Application],
     way: Way,
     report: Report,
     other: Optional[Dict[str, object]] = None,
 ) -> None:
     """Writes the page of all parts, of which there is one at the least, and of another run."""
-    seen: Optional[int] = None
+    recorder, seen = Recorder(application), None  # type: Recorder, Optional[int]
     with written(path) as file:
         for part in found:
             seen = report.seen_in(part) if seen is None else seen
@@ -228,8 +219,7 @@ def page_of(source: Source, told: Sequence[str], path: str, asked: Callable[[int
     way = ways.of_run(source, whole.told, None, whole.base)
     text = Text("", "".join(f"{line}\n" for line in told))
     report = Report(asked=asked(whole.done), source=source, lines=text)
-    recorder, seen = Recorder(source.application), looked(run, whole)
-    write_page(seen, whole.trims, path, recorder, lambda _: way, report)
+    write_page(looked(run, whole), whole.trims, path, source.application, lambda _: way, report)
 
 
 def looked(run: Run, plan: Plan, has_end: bool = True) -> Iterable[Part]:
@@ -273,14 +263,13 @@ def trace_run(given: argparse.Namespace, source: Optional[Source]) -> None:
         return
     if given.page:
         way = ways.of_run(source, whole.told, given.moves, whole.base)
-        asked = of_page(given.ask, source, whole.told)
+        asked = None if given.ask is None else of_page(given.ask, source, whole.told)
         beside = None if given.against is None else text_of(given.against)
         other = other_run(given, run, beside, application) if beside else None
         report = dataclasses.replace(report, asked=asked, source=source, lines=text, other=beside)
-        recorder = Recorder(application)
-        write_page(seen, found.trims, given.page, recorder, lambda _: way, report, other)
+        write_page(seen, found.trims, given.page, application, lambda _: way, report, other)
         return
-    lost = lost_in(given.ask, source, whole.told)
+    lost = None if given.ask is None else lost_in(given.ask, source, whole.told)
     table = Table.of(application, whole.done, whole.end.cores.tick, [it.text for it in lines])
     shown_rows = rows(moves_in(seen, goal), found.trims)
     print_rows(shown_rows if lost is None else map(lost.mark, shown_rows), table, names)
@@ -301,10 +290,10 @@ def trace_port(given: argparse.Namespace, source: Optional[Source]) -> None:
         write_events([part], (), given.events)
         return
     if given.page:
-        recorder = Recorder(source.application if source else None)
+        known = source.application if source else None
         way = functools.partial(ways.of_port, source, given.port, done)
         report = dataclasses.replace(report_of(given, scope), source=source, port=given.port)
-        write_page([part], (), given.page, recorder, way, report)
+        write_page([part], (), given.page, known, way, report)
         return
     found = list(rows(moves_in([part], goal_of("--when", given.when, scope))))
     names = wanted(given.only, target.names, len(part.before.cores.running))
