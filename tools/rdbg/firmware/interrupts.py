@@ -8,7 +8,7 @@ from rdbg.firmware.operands import Operand, Operands
 from rdbg.firmware.semaphores import GIVE, Semaphore
 from rdbg.firmware.tokens import Refusal, Token, shown, without_parentheses
 from rdbg.instructions import FORM_OF
-from rdbg.operands import KIND_OF
+from rdbg.operands import KIND_OF, Scope
 
 WORD = "interrupt"
 FORM = "interrupt NAME after NAME apart N times N: CALL; CALL"
@@ -164,9 +164,7 @@ def why_no_call(word: str) -> str:
 class Names(NamedTuple):
     """What there is that interrupts can name; of some interrupts the line is refused."""
 
-    tasks: Sequence[str]
-    queues: Sequence[str]
-    entries: int
+    scope: Scope
     refused: Sequence[str]
 
     def faults(self, it: Read, above: Sequence[Read]) -> Iterator[Refusal]:
@@ -187,15 +185,9 @@ class Names(NamedTuple):
             yield from self._of_call(call)
 
     def _of_call(self, call: Call) -> Iterator[Refusal]:
-        (word, name), place = call.words[:2], call.tokens[1].place
-        noun, names = ("task", self.tasks) if word == NOTIFY else ("queue", self.queues)
-        if name not in names:
-            yield Refusal(place, f"{noun} {shown(name)} isn't there{near_to(name, names)}")
-        if word == NOTIFY:
-            if int(call.words[2]) >= self.entries:
-                has = "1 entry" if self.entries == 1 else f"{self.entries} entries"
-                message = f"there is no entry {call.words[2]}: each task has {has}, counted from 0"
-                yield Refusal(place, message)
-            if call.words[4] not in KIND_OF["ACTION"].words():
-                said = f"{shown(call.words[4])} is no action: {KIND_OF['ACTION'].choices}"
-                yield Refusal(call.tokens[-1].place, said)
+        word, *operands = call.words
+        for missing in filter(None, map(self.scope.missing, OPERANDS[word], operands)):
+            yield Refusal(call.tokens[1].place, missing)
+        if word == NOTIFY and not self.scope.fits("ACTION", operands[-1]):
+            said = f"{shown(operands[-1])} is no action: {KIND_OF['ACTION'].choices}"
+            yield Refusal(call.tokens[-1].place, said)

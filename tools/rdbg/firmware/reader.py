@@ -15,6 +15,7 @@ from rdbg.firmware.numbers import Constants, Kept, Numbers, near_to
 from rdbg.firmware.objects import OBJECTS, SETTINGS, ObjectLine, form_of, next_number, queue
 from rdbg.firmware.tokens import MOST_TOKENS, Refusal, Scanner, Stop, Token, decoded, shown, written
 from rdbg.instructions import FORM_OF
+from rdbg.operands import Scope
 from rdbg.shapes import FILE
 from rdbg.tree import Fault, Member, Node, Number, Object, Place
 
@@ -296,7 +297,8 @@ class Reader:
         """Refuses interrupts that name what isn't there, and a profile that has none."""
         tasks = [name for thing in self._things["task"] for name in thing.names()]
         queues = [thing.name() for thing in self._things["queue"]]
-        names = interrupts.Names(tasks, queues, self._entries(), self._refused_interrupts)
+        scope = Scope({"K": tasks, "Q": queues}, self._entries())
+        names = interrupts.Names(scope, self._refused_interrupts)
         for at, it in enumerate(self._interrupts):
             self.refusals += names.faults(it, self._interrupts[:at])
         profile = self._numbers.get("profile")
