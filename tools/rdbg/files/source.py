@@ -38,12 +38,16 @@ class Source(NamedTuple):
         """Whether it is a C source."""
         return self.path.endswith(ENDING)
 
+    def refusal(self) -> str:
+        """As what rdbg refuses it; empty of a text in lines that makes no JSON, of which rdbg can
+        say nothing."""
+        kind = self.faults[0].kind
+        return f"refused as {kind}" if kind[1:2].isdigit() else ""
+
     def refused(self) -> str:
         """That it is no application, beside its faults."""
-        kind, count = self.faults[0].kind, counted(len(self.faults), "fault")
-        # (of a text in lines that makes no JSON rdbg can say nothing)
-        named = f" as {kind}" if kind[1:2].isdigit() else ""
-        return f"is refused{named}: {count}, as `./rdbg check {self.path}` says"
+        refusal, count = self.refusal() or "refused", counted(len(self.faults), "fault")
+        return f"is {refusal}: {count}, as `./rdbg check {self.path}` says"
 
     def named(self) -> Optional[Beside]:
         """What an accepted text in lines names besides tasks and objects; none of a JSON."""
