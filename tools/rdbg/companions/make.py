@@ -11,10 +11,10 @@ from rdbg.files.definitions import take_definitions
 from rdbg.files.source import Given, Source, load, source
 from rdbg.firmware.writer import jumps_of, text_of
 from rdbg.from_c.lines import in_lines
-from rdbg.json_layout import MOST_BYTES, json_of
+from rdbg.json_layout import json_of
 from rdbg.operands import to_text
 from rdbg.options import Parser
-from rdbg.tree import Place
+from rdbg.tree import MOST_BYTES, Place
 from rdbg.whole_file import STANDARD_OUTPUT, written
 from rdbg.wording import counted
 

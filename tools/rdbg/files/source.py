@@ -9,8 +9,8 @@ from rdbg.application import Application, Beside, Instruction, Task, Text, appli
 from rdbg.checking.faults import faults_of
 from rdbg.failure import Failure, trying
 from rdbg.from_c.lines import ENDING, code_below, in_lines
-from rdbg.json_layout import MOST_BYTES, json_of
-from rdbg.tree import Fault, Node, Object
+from rdbg.json_layout import json_of
+from rdbg.tree import MOST_BYTES, Fault, Node, Object
 from rdbg.wording import counted
 
 # A text in lines, or a C source in whose comments the lines stand.

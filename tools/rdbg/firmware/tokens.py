@@ -2,12 +2,10 @@
 import re
 from typing import Dict, Iterator, List, NamedTuple, Optional, Sequence
 
-from rdbg.failure import Failure
+from rdbg import tree
 from rdbg.tree import Place
 
 GRAMMAR = "grammar"
-# A text that is longer isn't read.
-MOST_BYTES = 1 << 20
 # So much of a word stands in a message. A longer word is in no line, nor are so many words.
 SHOWN = 40
 MOST_CHARACTERS = 2000
@@ -98,15 +96,10 @@ def without_parentheses(tokens: Sequence[Token]) -> Sequence[Token]:
 
 def decoded(content: bytes) -> str:
     """The text of a file. Raises `Refusal` where it isn't UTF-8, `Failure` where it is too long."""
-    if len(content) > MOST_BYTES:
-        raise Failure(f"the text has {len(content):,} bytes; {MOST_BYTES:,} is the most", 2)
     try:
-        text = content.decode("utf-8")
-    except UnicodeDecodeError as error:
-        before = content[: error.start].decode("utf-8")
-        line, column = before.count("\n") + 1, len(before.rpartition("\n")[2]) + 1
-        message = f"the byte 0x{content[error.start]:02x} isn't UTF-8"
-        raise Refusal(Place(line, column), message) from None
+        text = tree.decoded(content)
+    except tree.NotText as wrong:
+        raise Refusal(wrong.place, str(wrong)) from None
     return text[1:] if text.startswith("\ufeff") else text
 
 
