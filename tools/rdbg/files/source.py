@@ -2,7 +2,7 @@
 import contextlib
 import pathlib
 import sys
-from typing import Iterator, Mapping, NamedTuple, Optional, Tuple
+from typing import ContextManager, Iterator, Mapping, NamedTuple, Optional, Tuple
 
 from rdbg import own_file
 from rdbg.application import Application, Beside, Instruction, Task, Text, application
@@ -57,17 +57,17 @@ class Source(NamedTuple):
 
         return named(in_lines(self.text) if self.is_c else self.text, self.given)
 
-    @contextlib.contextmanager
-    def as_json(self) -> Iterator[str]:
-        """The path of a JSON of an accepted application: the file, or one made for as long."""
-        if not self.path.endswith(LINES):
-            yield self.path
-            return
+    def as_read(self) -> ContextManager[str]:
+        """The path of a JSON that is made for as long, of an accepted application as it was read,
+        even if its file was edited since."""
         assert self.application is not None
-        with own_file.folder() as folder:
-            made = folder / "application.json"
-            made.write_text(json_of(self.application))
-            yield str(made)
+        text = json_of(self.application) if self.path.endswith(LINES) else self.text
+        return own_file.kept("application.json", text, "a copy of the application")
+
+    def as_json(self) -> ContextManager[str]:
+        """The path of a JSON of an accepted application: the file, or one made for as long."""
+        is_json = not self.path.endswith(LINES)
+        return contextlib.nullcontext(self.path) if is_json else self.as_read()
 
 
 def load(path: str, given: Optional[Given] = None) -> Source:
