@@ -161,33 +161,27 @@ def why_no_call(word: str) -> str:
     return f"{shown(word)} is no call of an interrupt{near_to(word, (NOTIFY, SEND, GIVE))}: {CALLS}"
 
 
-class Names(NamedTuple):
-    """What there is that interrupts can name; of some interrupts the line is refused."""
-
-    scope: Scope
-    refused: Sequence[str]
-
-    def faults(self, it: Read, above: Sequence[Read]) -> Iterator[Refusal]:
-        """What is wrong with the names of an interrupt, where these stand above it."""
-        named = {other.name.text: other for other in reversed(above)}
-        if it.name.text in named:
-            line = named[it.name.text].name.place.line
-            yield Refusal(it.name.place, f"interrupt {it.name.text} stands in line {line} already")
-        after = it.after.text if it.after else ""
-        other = named.get(after)
-        if it.after is not None and other is None and after not in self.refused:
-            message = f"no interrupt {shown(after)} stands above{near_to(after, named)}"
-            yield Refusal(it.after.place, message)
-        if it.after is not None and other and other.times == ANY and other.after is None:
-            message = f"{after} comes any number of times: what comes after it needs times N"
-            yield Refusal(it.after.place, f"{message} in the line of {after}")
-        for call in it.calls:
-            yield from self._of_call(call)
-
-    def _of_call(self, call: Call) -> Iterator[Refusal]:
+def faults_of(
+    it: Read, above: Sequence[Read], refused: Sequence[str], scope: Scope
+) -> Iterator[Refusal]:
+    """What is wrong with the names of an interrupt, where these stand above it, and others of which
+    the line is refused."""
+    named = {other.name.text: other for other in reversed(above)}
+    if it.name.text in named:
+        line = named[it.name.text].name.place.line
+        yield Refusal(it.name.place, f"interrupt {it.name.text} stands in line {line} already")
+    after = it.after.text if it.after else ""
+    other = named.get(after)
+    if it.after is not None and other is None and after not in refused:
+        message = f"no interrupt {shown(after)} stands above{near_to(after, named)}"
+        yield Refusal(it.after.place, message)
+    if it.after is not None and other and other.times == ANY and other.after is None:
+        message = f"{after} comes any number of times: what comes after it needs times N"
+        yield Refusal(it.after.place, f"{message} in the line of {after}")
+    for call in it.calls:
         word, *operands = call.words
-        for missing in filter(None, map(self.scope.missing, OPERANDS[word], operands)):
+        for missing in filter(None, map(scope.missing, OPERANDS[word], operands)):
             yield Refusal(call.tokens[1].place, missing)
-        if word == NOTIFY and not self.scope.fits("ACTION", operands[-1]):
+        if word == NOTIFY and not scope.fits("ACTION", operands[-1]):
             said = f"{shown(operands[-1])} is no action: {KIND_OF['ACTION'].choices}"
             yield Refusal(call.tokens[-1].place, said)

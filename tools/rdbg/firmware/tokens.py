@@ -4,10 +4,10 @@ from typing import Dict, Iterator, List, NamedTuple, Optional, Sequence
 
 from rdbg import tree
 from rdbg.tree import Place
+from rdbg.wording import shown as shown
 
 GRAMMAR = "grammar"
-# So much of a word stands in a message. A longer word is in no line, nor are so many words.
-SHOWN = 40
+# A longer word is in no line, nor are so many words.
 MOST_CHARACTERS = 2000
 MOST_TOKENS = 1000
 # What a line is made of. A comma is a space.
@@ -70,11 +70,6 @@ class Token(NamedTuple):
             name = f"U+{ord(strange[0]):04X}"
             message = f"the character {name} can stand in comments and quotes alone"
             raise Refusal(self.place_of(strange.start()), message)
-
-
-def shown(text: str) -> str:
-    """A word as a message has it, cut where it is long."""
-    return text if len(text) <= SHOWN else f"{text[:SHOWN]}.."
 
 
 def written(tokens: Sequence[Token]) -> str:
