@@ -87,16 +87,19 @@ def standard_input() -> bytes:
 
 def accepted(path: Optional[str], given: Optional[Given] = None) -> Optional[Source]:
     """The application's file, if one is named. Raises `Failure` for faults, or consts alone."""
-    if path is None:
-        if given:
-            raise Failure("-D goes with a file: a text in lines (.fw)", 2)
-        return None
+    if path is None and given:
+        raise Failure("-D goes with a file: a text in lines (.fw)", 2)
+    return None if path is None else without_faults(path, given)[0]
+
+
+def without_faults(path: str, given: Optional[Given] = None) -> Tuple[Source, Application]:
+    """A file without faults, and its application. Raises `Failure` for faults, which it prints."""
     found = load(path, given)
     if found.application is None:
         for fault in found.faults:
-            print(f"{found.path}:{fault}", file=sys.stderr)
+            print(f"{path}:{fault}", file=sys.stderr)
         raise Failure(f"{path} {found.refused()}")
-    return found
+    return found, found.application
 
 
 def source(path: str, content: bytes, given: Optional[Given] = None) -> Source:
