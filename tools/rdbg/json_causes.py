@@ -17,14 +17,6 @@ VALUES = wording.by_word(
 )
 
 
-def encoding(error: UnicodeDecodeError) -> str:
-    """Why bytes are no UTF-8."""
-    content = bytes(error.object)
-    if content[:2] in (b"\xff\xfe", b"\xfe\xff"):
-        return "the file is UTF-16; rdbg reads UTF-8"
-    return f"the byte 0x{content[error.start]:02x} is no UTF-8; save the file as UTF-8"
-
-
 def shown(sign: str) -> str:
     """A character, or its number where it can't be seen."""
     return sign if sign.isprintable() and sign != " " else f"U+{ord(sign):04X}"

@@ -4,10 +4,9 @@ from typing import Any, Dict, List, Sequence, Tuple
 
 from rdbg.application import Application, Named, Task
 from rdbg.shapes import DEFAULTS, FILE, Shape
+from rdbg.tree import MOST_BYTES
 
 WIDTH = 112
-# A file that is longer isn't read by rdbg.
-MOST_BYTES = 1 << 20
 
 
 def pairs(thing: Named, shape: Shape) -> List[Tuple[str, Any]]:

@@ -7,11 +7,9 @@ import re
 from typing import Callable, List, Optional, Tuple, TypeVar
 
 from rdbg import json_causes as causes
-from rdbg.failure import Failure
-from rdbg.tree import Fault, Lines, Member, Node, Number, Object, Value
+from rdbg.tree import Fault, Lines, Member, Node, NotText, Number, Object, Value, decoded
 
 NOT_JSON = "L1 NotJson"
-MOST_BYTES = 1_048_576
 MOST_DEPTH = 127
 SPACE = re.compile(r"[ \t\n\r]*")
 WORD = re.compile(r"[^ ]+")
@@ -37,15 +35,10 @@ class NotJson(Exception):
 
 def read(content: bytes) -> Tuple[Optional[Node], List[Fault]]:
     """The tree of a content, or why there is none. Raises `Failure` where it is too long."""
-    if len(content) > MOST_BYTES:
-        most = f"rdbg reads {MOST_BYTES:,} at the most"
-        raise Failure(f"the file has {len(content):,} bytes, and {most}", 2)
     try:
-        text = content.decode("utf-8")
-    except UnicodeDecodeError as error:
-        good = content[: error.start].decode("utf-8")
-        return None, [Fault(Lines(good).place(len(good)), NOT_JSON, causes.encoding(error))]
-    reader = Reader(text)
+        reader = Reader(decoded(content))
+    except NotText as wrong:
+        return None, [Fault(wrong.place, NOT_JSON, str(wrong))]
     try:
         return reader.file(), []
     except NotJson as fault:

@@ -1,17 +1,27 @@
 """Reports in JUnit's XML, which build servers read: of cases that are tried, and of a search."""
-from typing import Sequence
+from typing import Sequence, Tuple
 from xml.etree import ElementTree
 
 from rdbg.shown import shown
 
-# What a case that isn't as expected has in such a report, one of which that isn't known, and each
-# of which there is something to tell.
-FAILURE, ERROR, OUTPUT = "failure", "error", "system-out"
+# What a case that isn't as expected has in such a report, one of which that isn't known, and one
+# that is as expected.
+FAILURE, ERROR, AS_EXPECTED = "failure", "error", ""
 
 
-def text_of(lines: Sequence[str]) -> str:
-    """Lines, of which XML takes each character."""
-    return "\n".join(map(shown, lines))
+def case(
+    file: str, name: str, wrong: Tuple[str, str], lines: Sequence[str], **more: str
+) -> ElementTree.Element:
+    """A case of a file: what it has that isn't as expected, and why, the lines that are told of it,
+    and more that is said of it. XML takes each character of them."""
+    about = {"classname": shown(file), "name": shown(name), **more}
+    made = ElementTree.Element("testcase", about)
+    what, why = wrong
+    if what != AS_EXPECTED:
+        ElementTree.SubElement(made, what, {"message": shown(why)})
+    if lines:
+        ElementTree.SubElement(made, "system-out").text = "\n".join(map(shown, lines))
+    return made
 
 
 def document(name: str, cases: Sequence[ElementTree.Element], **more: str) -> str:

@@ -4,12 +4,15 @@ from typing import Dict, Mapping, NamedTuple, Optional, Sequence, Tuple
 
 from rdbg import kinds
 from rdbg.digits import is_digits
+from rdbg.wording import nearest, quoted, with_article
 
 MOST_NUMBER = 4_294_967_295
 NAME = r"[a-z][a-z0-9_]{0,15}"
 DIGITS = r"[0-9]{1,10}"
 REGISTER = r"r[0-7]"
 BYTES = r"-|([0-9A-Fa-f]{2}){1,256}"
+# So many names are told where there are more.
+MOST_NAMED = 3
 
 
 class OperandKind(NamedTuple):
@@ -87,15 +90,37 @@ class Scope(NamedTuple):
             return True
         return limits[0] <= int(word) <= limits[1]
 
+    def missing(self, symbol: str, word: str) -> str:
+        """That the thing or the entry that a word stands for isn't there, and what is near to it;
+        empty where it is there, or the word stands for neither."""
+        if symbol == "I" and not self.fits(symbol, word):
+            has = so_many(self.entries)
+            return f"there is no entry {word}: each task has {has}, counted from 0"
+        names = self.names.get(symbol, ())
+        if symbol not in NAMED or word in names:
+            return ""
+        noun = KIND_OF[symbol].noun
+        said = f"{noun} {word if is_name(word) else quoted(word)} isn't there"
+        near = nearest(word, names)
+        if near:
+            return f"{said}; {near} is near"
+        for other in NAMED:
+            if word in self.names.get(other, ()):
+                return f"{said}; {word} is the name of {with_article(KIND_OF[other].noun)}"
+        if not names:
+            return f"{said}; there is no {noun}"
+        few = ", ".join(names[:MOST_NAMED]) + (", .." if len(names) > MOST_NAMED else "")
+        return f"{said}; there {'is' if len(names) == 1 else 'are'} {few}"
+
 
 def to_text(least: int, most: int) -> str:
     """`0 to 4`, or `0` where there is no other."""
     return str(least) if least == most else f"{least} to {most}"
 
 
-def are(entries: int) -> str:
-    """`is 1 entry`, `are 2 entries`."""
-    return "is 1 entry" if entries == 1 else f"are {entries} entries"
+def so_many(entries: int) -> str:
+    """`1 entry`, `2 entries`."""
+    return "1 entry" if entries == 1 else f"{entries} entries"
 
 
 def is_name(text: str) -> bool:

@@ -62,6 +62,6 @@ def kept(name: str, text: str, what: str) -> Iterator[str]:
         with trying(f"write {what}"):
             path = str(ends.enter_context(folder()) / name)
             number = opened(path, os.O_WRONLY | os.O_CREAT | os.O_EXCL)
-            with os.fdopen(number, "w") as file:
+            with os.fdopen(number, "w", encoding="utf-8") as file:
                 file.write(text)
         yield path

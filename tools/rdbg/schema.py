@@ -1,7 +1,7 @@
 """The JSON Schema (draft 7) of application files, for editors: made from the tables of keys and of
 instructions. `python3 -m rdbg.schema` prints it; docs/application.schema.json is what it prints."""
 import json
-from typing import Any, Dict, List
+from typing import Any, Dict, List, Sequence
 
 from rdbg.instructions import FORMS, InstructionForm
 from rdbg.operands import NAME, PATTERN_OF
@@ -37,14 +37,16 @@ def value_of(key: Key) -> Schema:
     return {**made, **bounds, "items": {"$ref": "#/definitions/instruction"}}
 
 
+def record(needed: Sequence[str], properties: Schema) -> Schema:
+    """The schema of an object with these keys, some of which each has."""
+    closed = {"type": "object", "additionalProperties": False}
+    return {**closed, "required": list(needed), "properties": properties}
+
+
 def object_of(shape: Shape) -> Schema:
     """The schema of an object."""
-    return {
-        "type": "object",
-        "additionalProperties": False,
-        "required": [key.name for key in shape.keys if key.is_needed],
-        "properties": {key.name: value_of(key) for key in shape.keys},
-    }
+    needed = [key.name for key in shape.keys if key.is_needed]
+    return record(needed, {key.name: value_of(key) for key in shape.keys})
 
 
 def bounded(key: Key) -> List[Schema]:
@@ -85,21 +87,17 @@ def instruction() -> Schema:
     }
 
 
-def schema() -> Schema:
-    """The schema of a file."""
-    return {
-        "$schema": "http://json-schema.org/draft-07/schema#",
-        "title": "rdbg application",
-        "description": ABOUT,
-        **object_of(FILE),
-        "allOf": [each for key in FILE.keys for each in bounded(key)],
-        "definitions": {"instruction": instruction()},
-    }
+def document(title: str, about: str, whole: Schema) -> str:
+    """The schema of a file, as a text."""
+    head = {"$schema": "http://json-schema.org/draft-07/schema#", "title": title}
+    return json.dumps({**head, "description": about, **whole}, indent=2) + "\n"
 
 
 def text() -> str:
-    """The schema as a text."""
-    return json.dumps(schema(), indent=2) + "\n"
+    """The schema of an application's file."""
+    bounds = [each for key in FILE.keys for each in bounded(key)]
+    more = {"allOf": bounds, "definitions": {"instruction": instruction()}}
+    return document("rdbg application", ABOUT, {**object_of(FILE), **more})
 
 
 if __name__ == "__main__":

@@ -9,6 +9,10 @@ import re
 from typing import Iterator, List, NamedTuple, Optional, Sequence, Tuple, Union
 
 from rdbg.digits import natural
+from rdbg.failure import Failure
+
+# A file that is longer isn't read.
+MOST_BYTES = 1 << 20
 
 
 class Place(NamedTuple):
@@ -31,6 +35,29 @@ class Lines:
         """The place of a character."""
         line = bisect.bisect_right(self._begins, at)
         return Place(line, at - self._begins[line - 1] + 1)
+
+
+class NotText(Exception):
+    """A file is no text: where that is seen, and why."""
+
+    def __init__(self, place: Place, message: str) -> None:
+        super().__init__(message)
+        self.place = place
+
+
+def decoded(content: bytes) -> str:
+    """The text of a file. Raises `NotText` where it isn't UTF-8, `Failure` where it is too long."""
+    if len(content) > MOST_BYTES:
+        most = f"rdbg reads {MOST_BYTES:,} at the most"
+        raise Failure(f"the file has {len(content):,} bytes, and {most}", 2)
+    try:
+        return content.decode("utf-8")
+    except UnicodeDecodeError as error:
+        good = content[: error.start].decode("utf-8")
+        message = f"the byte 0x{content[error.start]:02x} is no UTF-8; save the file as UTF-8"
+        if content[:2] in (b"\xff\xfe", b"\xfe\xff"):
+            message = "the file is UTF-16; rdbg reads UTF-8"
+        raise NotText(Lines(good).place(len(good)), message) from None
 
 
 @dataclasses.dataclass(frozen=True)

@@ -152,7 +152,7 @@ class Instructions(unittest.TestCase):
             "take 0 pdTRUE max": "write clear",
             "gwait g0 1 any pdFALSE max": "write keep",
             "notify gateway 0 1 eIncrement": "write inc",
-            "notify gateway 2 1 inc": '"notes" says that there are 2 entries',
+            "notify gateway 2 1 inc": '"notes" says that each task has 2 entries',
             "recv Jobs 0": "write jobs",
             "recv jobs, 0": "write jobs",
             "set r0 4294967296": "a number is at most 4294967295",

@@ -4,8 +4,8 @@ import unittest
 from typing import Any, Dict, List
 
 from rdbg.failure import Failure
-from rdbg.json_text import MOST_BYTES, MOST_DEPTH, NOT_JSON, read
-from rdbg.tree import Node, Object, Place
+from rdbg.json_text import MOST_DEPTH, NOT_JSON, read
+from rdbg.tree import MOST_BYTES, Node, Object, Place
 from tests.values import plain
 
 SAMPLE = """{

@@ -13,11 +13,12 @@ from typing import Any, List, Tuple
 
 from rdbg.application import Application
 from rdbg.client import program
-from rdbg.json_layout import MOST_BYTES, WIDTH, json_of
+from rdbg.json_layout import WIDTH, json_of
 from rdbg.firmware.writer import text_of
 from rdbg.instructions import FORM_OF, FORMS
 from rdbg.operands import NAMED
 from rdbg.files.source import source
+from rdbg.tree import MOST_BYTES
 from tests.broken import sources
 from tests.made import Maker
 from tests.paths import EXAMPLES

@@ -106,7 +106,7 @@ class Command(unittest.TestCase):
         wanted = [
             'wrong.fw:10:10: task echo, instruction 2: "jump agian": there is no label agian;'
             " again is near",
-            "wrong.fw has 2 faults; nothing is written",
+            "wrong.fw is refused as L4 Name: 2 faults, as `./rdbg check wrong.fw` says",
         ]
         self.assertEqual(wanted, lines[1:])
         self.assertEqual(MADE, pathlib.Path("wrong.json").read_text())
@@ -129,11 +129,12 @@ class Command(unittest.TestCase):
         self.assertEqual((2, "", [said]), self.run_on("--back", "lost.json", "-o", "out.json"))
         self.unchanged()
 
-    def test_back_says_the_first_fault(self) -> None:
-        lines = ["bad.json:3:12: ", "bad.json has 2 faults; nothing is written"]
+    def test_back_says_the_faults(self) -> None:
+        last = "bad.json is refused as L3 Limit: 2 faults, as `./rdbg check bad.json` says"
         status, output, errors = self.run_on("--back", "bad.json")
         self.assertEqual((1, ""), (status, output))
-        self.assertEqual(lines, [errors[0][:15], *errors[1:]])
+        begins = ["bad.json:3:12: ", "bad.json:6:48: ", last]
+        self.assertEqual(begins, [errors[0][:15], errors[1][:15], *errors[2:]])
 
     def test_files_that_are_not_what_is_asked_for(self) -> None:
         for words, said in (

@@ -4,10 +4,10 @@ import unittest
 from typing import List, Tuple
 
 from rdbg.failure import Failure
-from rdbg.firmware.tokens import MOST_BYTES
 from rdbg.json_layout import json_of
 from rdbg.firmware.writer import text_of
 from rdbg.files.source import source
+from rdbg.tree import MOST_BYTES
 from tests.broken import sources
 
 HEAD = "cores 1\nqueue jobs length 4 item 1\ngroup flags\ntask t priority 1\n"
@@ -156,7 +156,8 @@ class Lines(unittest.TestCase):
     def test_what_is_no_utf8(self) -> None:
         for content, wanted in ((b"\xff", "1:1"), ("// \u00e9\n\u00e9".encode() + b"\xc3(", "2:2")):
             byte = content[-2 if len(content) > 1 else 0]
-            self.assertEqual([f"{wanted}: the byte 0x{byte:02x} isn't UTF-8"], faults(content))
+            said = f"{wanted}: the byte 0x{byte:02x} is no UTF-8; save the file as UTF-8"
+            self.assertEqual([said], faults(content))
 
 
 class Instructions(unittest.TestCase):
@@ -308,7 +309,9 @@ class Junk(unittest.TestCase):
                 self.assertLess(max(map(len, found)), 400)
 
     def test_one_byte_more(self) -> None:
-        with self.assertRaisesRegex(Failure, "the text has 1,048,577 bytes; 1,048,576 is the most"):
+        with self.assertRaisesRegex(
+            Failure, "the file has 1,048,577 bytes, and rdbg reads 1,048,576"
+        ):
             faults(b" " * (MOST_BYTES + 1))
         self.assertEqual(2, len(faults(b" " * MOST_BYTES)))
 

@@ -74,7 +74,7 @@ class Reads(unittest.TestCase):
         " nothing stands behind times",
         "ping after pang: send rx 41": "no interrupt pang stands above",
         "ping: notify dps 0 1 set": "task dps isn't there; dsp is near",
-        "ping: send xr 41": "queue xr isn't there",
+        "ping: send xr 41": "queue xr isn't there; there are rx, done, lock",
         "ping: notify dsp 2 1 set": "there is no entry 2: each task has 2 entries, counted from 0",
         "ping: notify dsp 0 1 sett": "sett is no action: none, bits, inc, set or setif",
         "ping: notify dsp 0 1": "notify K I N ACTION lacks its action",

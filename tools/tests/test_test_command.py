@@ -11,7 +11,7 @@ from typing import Any, Dict, List, Tuple
 from unittest import mock
 from xml.etree import ElementTree
 
-from rdbg.companions.test import Shown
+from rdbg.companions.test import results_of
 from rdbg.testing import schema
 from rdbg.testing.cases import NAMES, Case
 from rdbg.tree import Place
@@ -356,10 +356,9 @@ class Ends(InFolder):
 
     def test_progress_is_shown_at_a_terminal_alone(self) -> None:
         for stream, is_shown in ((Terminal(), True), (io.StringIO(), False)):
-            shown = Shown(stream, 2)
-            shown.show("one.fw")
-            shown.clear()
-            shown.show("two.fw")
+            cases = [Case(Place(1, 1), it, "asleep", "never") for it in ("one.fw", "two.fw")]
+            with mock.patch("sys.stderr", stream):
+                self.assertEqual([*results_of("/none", cases, 1)][1][0], cases[1])
             text = stream.getvalue()
             self.assertEqual(is_shown, "0 of 2 done, waiting for one.fw" in text)
             self.assertEqual(is_shown, "1 of 2 done, waiting for two.fw" in text)

@@ -212,9 +212,8 @@ class Finder:
             elif name in self.names["Q"]:
                 self.members[name] = label
             elif name not in self.refused["Q"] and "Q" not in self.unsure:
-                near = nearest(name, self.names["Q"])
-                message = f"{label}: queue {name if is_name(name) else quoted(name)} isn't there"
-                self.fault(NAME, member.place, message + (f"; {near} is near" if near else ""))
+                missing = Scope({"Q": [*self.names["Q"]]}).missing("Q", name)
+                self.fault(NAME, member.place, f"{label}: {missing}")
 
     def code(self, key: Key, node: Node, label: str) -> None:
         """A script, whose instructions are read once all names are known."""

@@ -12,8 +12,6 @@ from rdbg.wording import nearest, shown, with_article
 
 # So many words at the most are too many for a look at which of them they are.
 FEW = 3
-
-
 Word = Tuple[str, Place]
 INSTR, NAME = "L5 Instr", "L4 Name"
 NAME_RULE = "a name is 1 to 16 characters of a to z, 0 to 9 and _, the first a letter"
@@ -244,8 +242,8 @@ class Reader:
             said = self.said(operand)
             message = f"{self.form.text}: {said} can't be its {operand.noun} ({rule})"
             self.fault(message + (f"; {meant}" if meant else ""), operand.place, operand)
-        elif symbol in NAMED and word not in self.scope.names.get(symbol, ()):
-            self.fault(self.nobody(symbol, word), operand.place, operand, NAME)
+        elif self.scope.missing(symbol, word):
+            self.fault(self.scope.missing(symbol, word), operand.place, operand, NAME)
 
     def said(self, operand: Operand) -> str:
         """A word as it is written, with its number where it is written by a name."""
@@ -261,21 +259,6 @@ class Reader:
             if (first, its) == (self.form.word, symbol) and pattern.fullmatch(word):
                 return text.format(*self.spelled)
         return ""
-
-    def nobody(self, symbol: str, word: str) -> str:
-        """What is near to a name that nothing of its kind has."""
-        noun, names = KIND_OF[symbol].noun, self.scope.names.get(symbol, ())
-        said = f"{noun} {word} isn't there"
-        near = nearest(word, names)
-        if near:
-            return f"{said}; {near} is near"
-        for other in NAMED:
-            if word in self.scope.names.get(other, ()):
-                return f"{said}; {word} is the name of {with_article(KIND_OF[other].noun)}"
-        if not names:
-            return f"{said}; there is no {noun}"
-        few = ", ".join(names[:FEW]) + (", .." if len(names) > FEW else "")
-        return f"{said}; there is {few}" if len(names) == 1 else f"{said}; there are {few}"
 
     def fault(
         self, message: str, place: Place, operand: Optional[Operand] = None, kind: str = INSTR

@@ -4,7 +4,7 @@ import re
 from typing import Dict, Iterator, Match, Optional, Sequence, Tuple
 
 from rdbg.digits import is_digits
-from rdbg.operands import ACTIONS, KIND_OF, MOST_NUMBER, Scope, are
+from rdbg.operands import ACTIONS, KIND_OF, MOST_NUMBER, Scope, so_many
 from rdbg.wording import by_word, nearest
 
 YES, NO = "pdtrue true 1", "pdfalse false 0"
@@ -55,7 +55,7 @@ def number_slip(symbol: str, word: str, scope: Scope) -> Optional[str]:
     if value is not None and value > MOST_NUMBER:
         return f"a number is at most {MOST_NUMBER}"
     if symbol == "I" and value is not None:
-        return f'"notes" says that there {are(scope.entries)}'
+        return f'"notes" says that each task has {so_many(scope.entries)}'
     if symbol == "L" and not scope.in_lines and re.fullmatch(r"[A-Za-z_]\w*:?", word):
         return "a jump names its instruction by number, counted from 0"
     return None

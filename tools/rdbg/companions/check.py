@@ -1,7 +1,6 @@
 """Says of application files where they are wrong, and what would be right."""
 import argparse
 import json
-import re
 import sys
 from typing import Any, Dict, List, Sequence
 
@@ -19,8 +18,6 @@ STANDARD_INPUT, NOTE = "-", "note: "
 Values = Dict[str, Any]
 MOST = 100
 LARGEST = 999_999_999
-# How rdbg names a fault, as in "L3 Limit".
-KIND = re.compile(r"L[1-7] ")
 EPILOG = (
     "Each fault is one line on standard output, FILE:LINE:COLUMN: and what would be right; the last"
     " line says what rdbg itself says of the file. The status is 0 where all files are accepted,"
@@ -115,7 +112,4 @@ def said(found: Source, most: int) -> str:
     count = len(found.faults)
     faults = counted(count, "fault") + " or more" * (count == MOST_FAULTS)
     shown = f", {most} shown" if count > most else ""
-    kind = found.faults[0].kind
-    # (of a text in lines that makes no JSON rdbg can say nothing)
-    verdict = f"refused as {kind}" if KIND.match(kind) else "makes no application"
-    return f"{verdict}; {faults}{shown}"
+    return f"{found.refusal() or 'makes no application'}; {faults}{shown}"

@@ -11,7 +11,7 @@ from rdbg.application import NO_INTERRUPT
 from rdbg.driving.target import Unable
 from rdbg.failure import Failure, trying
 from rdbg.files.definitions import take_definitions
-from rdbg.files.source import Source, accepted
+from rdbg.files.source import Source, without_faults
 from rdbg.hunting import goals, report
 from rdbg.hunting.differs import Differs
 from rdbg.hunting.goals import Goal
@@ -265,8 +265,7 @@ def main(words: Sequence[str]) -> int:
     """Hunts, and says what was found, or that nothing was."""
     given = parser().parse_args(words)
     try:
-        source = accepted(given.file, dict(given.consts))
-        assert source is not None
+        source, _ = without_faults(given.file, dict(given.consts))
         with source.as_json() as path:
             return hunt(given, source, path)
     except NoQuestion as refused:

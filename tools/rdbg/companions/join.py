@@ -8,7 +8,7 @@ from typing import List, Sequence
 from rdbg.driving.target import Unable
 from rdbg.failure import Failure, of_words, trying, turned
 from rdbg.files.definitions import take_definitions
-from rdbg.files.source import accepted
+from rdbg.files.source import without_faults
 from rdbg.hunting.interrupts import handlers
 from rdbg.hunting.stage import Stage
 from rdbg.options import APPLICATION, Parser
@@ -82,15 +82,13 @@ def joined(answers: Sequence[Answer], stage: Stage) -> Answer:
 def main(words: Sequence[str]) -> int:
     """Joins answers, and says what comes of it."""
     given = parser().parse_args(words)
-    source = accepted(given.file, dict(given.consts))
-    assert source is not None
+    source, application = without_faults(given.file, dict(given.consts))
     answers = [read(path) for path in given.answers]
     lacking = check(answers)
-    assert source.application is not None
-    stage = Stage(source, handlers(given.isr, source.application))
+    stage = Stage(source, handlers(given.isr, application))
     with turned(of_words, Unable), contextlib.closing(stage):
-        whole = joined(answers, stage)
+        answer = joined(answers, stage)
     for part in lacking:
         print(f"rdbg join: part {part} is lacking", file=sys.stderr)
-    print(*said.lines(whole), sep="\n")
-    return whole.kind.value
+    print(*said.lines(answer), sep="\n")
+    return answer.kind.value

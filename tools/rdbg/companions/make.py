@@ -8,15 +8,14 @@ from typing import Iterable, Iterator, Optional, Sequence, Set, Tuple
 from rdbg.application import Application, Instruction, Task
 from rdbg.failure import Failure
 from rdbg.files.definitions import take_definitions
-from rdbg.files.source import Given, Source, load, source
+from rdbg.files.source import Given, source, without_faults
 from rdbg.firmware.writer import jumps_of, text_of
 from rdbg.from_c.lines import in_lines
-from rdbg.json_layout import MOST_BYTES, json_of
+from rdbg.json_layout import json_of
 from rdbg.operands import to_text
 from rdbg.options import Parser
-from rdbg.tree import Place
+from rdbg.tree import MOST_BYTES, Place
 from rdbg.whole_file import STANDARD_OUTPUT, written
-from rdbg.wording import counted
 
 SUMMARY = "makes an application's JSON from a text in lines (.fw), or the text from the JSON"
 EPILOG = (
@@ -26,7 +25,6 @@ EPILOG = (
     " status is 0, 1 for faults, or 2 for a file that can't be had."
 )
 TEXT, JSON, C = ".fw", ".json", ".c"
-MOST_FAULTS = 100
 
 
 def parser() -> Parser:
@@ -95,7 +93,7 @@ def make_lines(path: str, output: str, consts: Given) -> int:
     """Makes a text in lines of a C source. One that is there stays."""
     if os.path.lexists(output):
         raise Failure(f"{output} is there already, and it would be lost", 2)
-    found, application = accepted(path, MOST_FAULTS, consts)
+    found, application = without_faults(path, consts)
     with written(output) as file:
         file.write(in_lines(found.text))
     print(f"{output}: {', '.join(application.counts())}")
@@ -110,7 +108,7 @@ def make(path: str, output: Optional[str], consts: Given) -> int:
     with contextlib.suppress(OSError):
         if os.path.samefile(path, chosen):
             raise Failure(f"{chosen} is {path} itself; it isn't written", 2)
-    found, application = accepted(path, MOST_FAULTS, consts)
+    found, application = without_faults(path, consts)
     text = json_of(application)
     if len(text) > MOST_BYTES:
         raise Failure(f"the JSON of {path} has {len(text):,} bytes; rdbg reads {MOST_BYTES:,}")
@@ -133,7 +131,7 @@ def back(path: str, output: Optional[str]) -> int:
         raise Failure(f"{chosen} doesn't end in {TEXT}; it isn't written", 2)
     if os.path.lexists(chosen) and chosen != STANDARD_OUTPUT:
         raise Failure(f"{chosen} is there already, and its comments would be lost", 2)
-    application = accepted(path, 1)[1]
+    application = without_faults(path)[1]
     text = text_of(application)
     again = source("again.fw", text.encode()).application
     if again is None or json_of(again) != json_of(application):
@@ -146,13 +144,3 @@ def back(path: str, output: Optional[str]) -> int:
         said = "jumps with labels, where the text may have had loop, while or an if of lines"
         print(f"rdbg make: {said}: {'; '.join(jumps)}", file=sys.stderr)
     return 0
-
-
-def accepted(path: str, most: int, consts: Optional[Given] = None) -> Tuple[Source, Application]:
-    """A file without faults, and its application; else at most so many are printed."""
-    found = load(path, consts)
-    if found.application is not None:
-        return found, found.application
-    for fault in found.faults[:most]:
-        print(f"{path}:{fault}", file=sys.stderr)
-    raise Failure(f"{path} has {counted(len(found.faults), 'fault')}; nothing is written")

@@ -11,7 +11,6 @@ from rdbg import client, junit, whole_file
 from rdbg.failure import Failure, of_words, turned
 from rdbg.options import Parser, bounded, part
 from rdbg.reaching import asking
-from rdbg.shown import shown
 from rdbg.testing import cases
 from rdbg.testing.cases import Case
 from rdbg.testing.trial import Result, Verdict, tried, wrong_with
@@ -57,36 +56,20 @@ def checked(path: str) -> Tuple[str, List[Case]]:
     return file, found
 
 
-class Shown:
-    """Shows at a terminal which case is waited for, in a line that goes with its answer."""
-
-    def __init__(self, stream: IO[str], count: int) -> None:
-        self._stream, self._count, self._done = stream, count, 0
-
-    def show(self, name: str) -> None:
-        """Shows that a case is waited for."""
-        self._draw(f"{self._done} of {self._count} done, waiting for {name}"[:78])
-        self._done += 1
-
-    def clear(self) -> None:
-        """Takes the line away."""
-        self._draw("")
-
-    def _draw(self, text: str) -> None:
-        """Draws a line in place of the one that is there."""
-        if self._stream.isatty():
-            print(f"\r\x1b[K{text}", end="", file=self._stream, flush=True)
+def draw(text: str, stream: IO[str]) -> None:
+    """Draws a line at a terminal, in place of the one that is there; elsewhere none."""
+    if stream.isatty():
+        print(f"\r\x1b[K{text}", end="", file=stream, flush=True)
 
 
 def results_of(folder: str, found: Sequence[Case], jobs: int) -> Iterator[Tuple[Case, Result]]:
-    """What becomes of the cases, one after the other."""
-    line = Shown(sys.stderr, len(found))
+    """What becomes of the cases, one after the other; a line says meanwhile which is waited for."""
     work = functools.partial(tried, folder)
     answers = side_by_side(lambda: contextlib.nullcontext(work), found, jobs)
-    for case in found:
-        line.show(case.file)
+    for done, case in enumerate(found):
+        draw(f"{done} of {len(found)} done, waiting for {case.file}"[:78], sys.stderr)
         result = next(answers)
-        line.clear()
+        draw("", sys.stderr)
         yield case, result
 
 
@@ -106,24 +89,20 @@ def said_of(case: Case, result: Result) -> Iterator[str]:
         yield from (f"       {line}" for line in result.told)
 
 
-# What a case that isn't as expected has in a report.
-ELEMENTS = {Verdict.WRONG: junit.FAILURE, Verdict.REFUSED: junit.ERROR}
+# What a case has in a report, and why.
+ELEMENTS = {
+    Verdict.OK: (junit.AS_EXPECTED, ""),
+    Verdict.WRONG: (junit.FAILURE, "{expect} was expected, and {came} came"),
+    Verdict.REFUSED: (junit.ERROR, "refused: {came}"),
+}
 
 
 def element(case: Case, result: Result) -> ElementTree.Element:
     """A case."""
-    name = f"{case.question} {case.goal}: {case.expect}"
-    about = {"classname": shown(case.file), "name": shown(name), "time": f"{result.seconds:.3f}"}
-    made = ElementTree.Element("testcase", about)
-    if result.verdict in ELEMENTS:
-        instead = f"{case.expect} was expected, and {result.came} came"
-        is_refused = result.verdict is Verdict.REFUSED
-        message = shown(f"refused: {result.came}" if is_refused else instead)
-        ElementTree.SubElement(made, ELEMENTS[result.verdict], {"message": message})
-    if result.told:
-        told = junit.text_of([result.came, *result.told])
-        ElementTree.SubElement(made, junit.OUTPUT).text = told
-    return made
+    name, (what, why) = f"{case.question} {case.goal}: {case.expect}", ELEMENTS[result.verdict]
+    wrong = what, why.format(expect=case.expect, came=result.came)
+    told = [result.came, *result.told] if result.told else []
+    return junit.case(case.file, name, wrong, told, time=f"{result.seconds:.3f}")
 
 
 @turned(of_words, Failure)

@@ -4,13 +4,12 @@ import sys
 import threading
 from typing import Iterator, Optional
 
-from rdbg import own_file
 from rdbg.application import Application
 from rdbg.client import Session
 from rdbg.driving.target import Limits, Target
 from rdbg.failure import Failure
 from rdbg.files import source as sources
-from rdbg.files.source import LINES, Source
+from rdbg.files.source import Source
 from rdbg.replies import Refused, Unreadable, read
 
 # The application that rdbg has without a file.
@@ -20,6 +19,8 @@ BUILTIN = b"""{"profile": 1, "cores": 1, "queues": [{"name": "q0", "length": 2, 
 # So many seconds pass before it is said that a server doesn't answer.
 PATIENCE = 3
 NOTE = "# the server doesn't answer: are as many attached as it was started for (--sessions)?"
+# What those that start programs of their own give them.
+as_read = Source.as_read
 
 
 def builtin() -> Application:
@@ -34,23 +35,10 @@ def begin(source: Optional[Source], limits: Limits, named: str = "") -> Target:
     than that of `./rdbg` where one is named. Raises `Failure` where it can't be started, or refuses
     the application."""
     with contextlib.ExitStack() as kept:
-        path = kept.enter_context(as_read(source)) if source else None
+        path = kept.enter_context(source.as_read()) if source else None
         session = Session.run(path, limits.words(), named)
         greet(session)  # (once it has answered it has read the file)
     return Target(session, source.application if source else builtin(), limits)
-
-
-@contextlib.contextmanager
-def as_read(source: Source) -> Iterator[str]:
-    """The path of a file with an application as it was read, even if it was edited since."""
-    if source.path.endswith(LINES):
-        with source.as_json() as path:
-            yield path
-        return
-    with own_file.folder() as folder:
-        made = folder / "application.json"
-        made.write_bytes(source.text.encode("utf-8", "replace"))
-        yield str(made)
 
 
 def greet(session: Session) -> None:

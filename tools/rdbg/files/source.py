@@ -2,15 +2,15 @@
 import contextlib
 import pathlib
 import sys
-from typing import Iterator, Mapping, NamedTuple, Optional, Tuple
+from typing import ContextManager, Iterator, Mapping, NamedTuple, Optional, Tuple
 
 from rdbg import own_file
 from rdbg.application import Application, Beside, Instruction, Task, Text, application
 from rdbg.checking.faults import faults_of
 from rdbg.failure import Failure, trying
 from rdbg.from_c.lines import ENDING, code_below, in_lines
-from rdbg.json_layout import MOST_BYTES, json_of
-from rdbg.tree import Fault, Node, Object
+from rdbg.json_layout import json_of
+from rdbg.tree import MOST_BYTES, Fault, Node, Object
 from rdbg.wording import counted
 
 # A text in lines, or a C source in whose comments the lines stand.
@@ -38,12 +38,16 @@ class Source(NamedTuple):
         """Whether it is a C source."""
         return self.path.endswith(ENDING)
 
+    def refusal(self) -> str:
+        """As what rdbg refuses it; empty of a text in lines that makes no JSON, of which rdbg can
+        say nothing."""
+        kind = self.faults[0].kind
+        return f"refused as {kind}" if kind[1:2].isdigit() else ""
+
     def refused(self) -> str:
         """That it is no application, beside its faults."""
-        kind, count = self.faults[0].kind, counted(len(self.faults), "fault")
-        # (of a text in lines that makes no JSON rdbg can say nothing)
-        named = f" as {kind}" if kind[1:2].isdigit() else ""
-        return f"is refused{named}: {count}, as `./rdbg check {self.path}` says"
+        refusal, count = self.refusal() or "refused", counted(len(self.faults), "fault")
+        return f"is {refusal}: {count}, as `./rdbg check {self.path}` says"
 
     def named(self) -> Optional[Beside]:
         """What an accepted text in lines names besides tasks and objects; none of a JSON."""
@@ -53,17 +57,17 @@ class Source(NamedTuple):
 
         return named(in_lines(self.text) if self.is_c else self.text, self.given)
 
-    @contextlib.contextmanager
-    def as_json(self) -> Iterator[str]:
-        """The path of a JSON of an accepted application: the file, or one made for as long."""
-        if not self.path.endswith(LINES):
-            yield self.path
-            return
+    def as_read(self) -> ContextManager[str]:
+        """The path of a JSON that is made for as long, of an accepted application as it was read,
+        even if its file was edited since."""
         assert self.application is not None
-        with own_file.folder() as folder:
-            made = folder / "application.json"
-            made.write_text(json_of(self.application))
-            yield str(made)
+        text = json_of(self.application) if self.path.endswith(LINES) else self.text
+        return own_file.kept("application.json", text, "a copy of the application")
+
+    def as_json(self) -> ContextManager[str]:
+        """The path of a JSON of an accepted application: the file, or one made for as long."""
+        is_json = not self.path.endswith(LINES)
+        return contextlib.nullcontext(self.path) if is_json else self.as_read()
 
 
 def load(path: str, given: Optional[Given] = None) -> Source:
@@ -83,16 +87,19 @@ def standard_input() -> bytes:
 
 def accepted(path: Optional[str], given: Optional[Given] = None) -> Optional[Source]:
     """The application's file, if one is named. Raises `Failure` for faults, or consts alone."""
-    if path is None:
-        if given:
-            raise Failure("-D goes with a file: a text in lines (.fw)", 2)
-        return None
+    if path is None and given:
+        raise Failure("-D goes with a file: a text in lines (.fw)", 2)
+    return None if path is None else without_faults(path, given)[0]
+
+
+def without_faults(path: str, given: Optional[Given] = None) -> Tuple[Source, Application]:
+    """A file without faults, and its application. Raises `Failure` for faults, which it prints."""
     found = load(path, given)
     if found.application is None:
         for fault in found.faults:
-            print(f"{found.path}:{fault}", file=sys.stderr)
+            print(f"{path}:{fault}", file=sys.stderr)
         raise Failure(f"{path} {found.refused()}")
-    return found
+    return found, found.application
 
 
 def source(path: str, content: bytes, given: Optional[Given] = None) -> Source:

@@ -8,7 +8,7 @@ from rdbg.firmware.operands import Operand, Operands
 from rdbg.firmware.semaphores import GIVE, Semaphore
 from rdbg.firmware.tokens import Refusal, Token, shown, without_parentheses
 from rdbg.instructions import FORM_OF
-from rdbg.operands import KIND_OF
+from rdbg.operands import KIND_OF, Scope
 
 WORD = "interrupt"
 FORM = "interrupt NAME after NAME apart N times N: CALL; CALL"
@@ -161,41 +161,27 @@ def why_no_call(word: str) -> str:
     return f"{shown(word)} is no call of an interrupt{near_to(word, (NOTIFY, SEND, GIVE))}: {CALLS}"
 
 
-class Names(NamedTuple):
-    """What there is that interrupts can name; of some interrupts the line is refused."""
-
-    tasks: Sequence[str]
-    queues: Sequence[str]
-    entries: int
-    refused: Sequence[str]
-
-    def faults(self, it: Read, above: Sequence[Read]) -> Iterator[Refusal]:
-        """What is wrong with the names of an interrupt, where these stand above it."""
-        named = {other.name.text: other for other in reversed(above)}
-        if it.name.text in named:
-            line = named[it.name.text].name.place.line
-            yield Refusal(it.name.place, f"interrupt {it.name.text} stands in line {line} already")
-        after = it.after.text if it.after else ""
-        other = named.get(after)
-        if it.after is not None and other is None and after not in self.refused:
-            message = f"no interrupt {shown(after)} stands above{near_to(after, named)}"
-            yield Refusal(it.after.place, message)
-        if it.after is not None and other and other.times == ANY and other.after is None:
-            message = f"{after} comes any number of times: what comes after it needs times N"
-            yield Refusal(it.after.place, f"{message} in the line of {after}")
-        for call in it.calls:
-            yield from self._of_call(call)
-
-    def _of_call(self, call: Call) -> Iterator[Refusal]:
-        (word, name), place = call.words[:2], call.tokens[1].place
-        noun, names = ("task", self.tasks) if word == NOTIFY else ("queue", self.queues)
-        if name not in names:
-            yield Refusal(place, f"{noun} {shown(name)} isn't there{near_to(name, names)}")
-        if word == NOTIFY:
-            if int(call.words[2]) >= self.entries:
-                has = "1 entry" if self.entries == 1 else f"{self.entries} entries"
-                message = f"there is no entry {call.words[2]}: each task has {has}, counted from 0"
-                yield Refusal(place, message)
-            if call.words[4] not in KIND_OF["ACTION"].words():
-                said = f"{shown(call.words[4])} is no action: {KIND_OF['ACTION'].choices}"
-                yield Refusal(call.tokens[-1].place, said)
+def faults_of(
+    it: Read, above: Sequence[Read], refused: Sequence[str], scope: Scope
+) -> Iterator[Refusal]:
+    """What is wrong with the names of an interrupt, where these stand above it, and others of which
+    the line is refused."""
+    named = {other.name.text: other for other in reversed(above)}
+    if it.name.text in named:
+        line = named[it.name.text].name.place.line
+        yield Refusal(it.name.place, f"interrupt {it.name.text} stands in line {line} already")
+    after = it.after.text if it.after else ""
+    other = named.get(after)
+    if it.after is not None and other is None and after not in refused:
+        message = f"no interrupt {shown(after)} stands above{near_to(after, named)}"
+        yield Refusal(it.after.place, message)
+    if it.after is not None and other and other.times == ANY and other.after is None:
+        message = f"{after} comes any number of times: what comes after it needs times N"
+        yield Refusal(it.after.place, f"{message} in the line of {after}")
+    for call in it.calls:
+        word, *operands = call.words
+        for missing in filter(None, map(scope.missing, OPERANDS[word], operands)):
+            yield Refusal(call.tokens[1].place, missing)
+        if word == NOTIFY and not scope.fits("ACTION", operands[-1]):
+            said = f"{shown(operands[-1])} is no action: {KIND_OF['ACTION'].choices}"
+            yield Refusal(call.tokens[-1].place, said)

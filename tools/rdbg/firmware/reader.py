@@ -15,6 +15,7 @@ from rdbg.firmware.numbers import Constants, Kept, Numbers, near_to
 from rdbg.firmware.objects import OBJECTS, SETTINGS, ObjectLine, form_of, next_number, queue
 from rdbg.firmware.tokens import MOST_TOKENS, Refusal, Scanner, Stop, Token, decoded, shown, written
 from rdbg.instructions import FORM_OF
+from rdbg.operands import Scope
 from rdbg.shapes import FILE
 from rdbg.tree import Fault, Member, Node, Number, Object, Place
 
@@ -121,7 +122,9 @@ class Reader:
         while is_label(tokens[at : at + 2]):
             at += 2
         labels, said = tokens[:at:2], tokens[at:]
-        is_of_script = self._is_of_script(said)
+        word = said[0].text if said else ""
+        is_set = word == "set" and self._is_queue_set(said)
+        is_of_script = word in OF_SCRIPTS and not is_set
         if not labels and not is_of_script:
             check(tokens)
             if said:
@@ -137,11 +140,6 @@ class Reader:
                 script.read(said)
             elif said:
                 self._structure(said)
-
-    def _is_of_script(self, tokens: Sequence[Token]) -> bool:
-        """Whether a line is of a script."""
-        word = tokens[0].text if tokens else ""
-        return word in OF_SCRIPTS and not (word == "set" and self._is_queue_set(tokens))
 
     def _check_never(self) -> None:
         """Makes the queue that waits receive from, if it isn't there, and refuses what fills it."""
@@ -296,9 +294,10 @@ class Reader:
         """Refuses interrupts that name what isn't there, and a profile that has none."""
         tasks = [name for thing in self._things["task"] for name in thing.names()]
         queues = [thing.name() for thing in self._things["queue"]]
-        names = interrupts.Names(tasks, queues, self._entries(), self._refused_interrupts)
-        for at, it in enumerate(self._interrupts):
-            self.refusals += names.faults(it, self._interrupts[:at])
+        scope = Scope({"K": tasks, "Q": queues}, self._entries())
+        known, refused = self._interrupts, self._refused_interrupts
+        for at, it in enumerate(known):
+            self.refusals += interrupts.faults_of(it, known[:at], refused, scope)
         profile = self._numbers.get("profile")
         is_needed = self._interrupts or self._endings
         if is_needed and profile is not None and profile.node.value == Number("1"):

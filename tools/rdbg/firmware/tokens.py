@@ -2,14 +2,12 @@
 import re
 from typing import Dict, Iterator, List, NamedTuple, Optional, Sequence
 
-from rdbg.failure import Failure
+from rdbg import tree
 from rdbg.tree import Place
+from rdbg.wording import shown as shown
 
 GRAMMAR = "grammar"
-# A text that is longer isn't read.
-MOST_BYTES = 1 << 20
-# So much of a word stands in a message. A longer word is in no line, nor are so many words.
-SHOWN = 40
+# A longer word is in no line, nor are so many words.
 MOST_CHARACTERS = 2000
 MOST_TOKENS = 1000
 # What a line is made of. A comma is a space.
@@ -74,11 +72,6 @@ class Token(NamedTuple):
             raise Refusal(self.place_of(strange.start()), message)
 
 
-def shown(text: str) -> str:
-    """A word as a message has it, cut where it is long."""
-    return text if len(text) <= SHOWN else f"{text[:SHOWN]}.."
-
-
 def written(tokens: Sequence[Token]) -> str:
     """The tokens as they are written, with one space wherever there is any."""
     return "".join(token.gap + token.text for token in tokens)[len(tokens[0].gap) :]
@@ -98,15 +91,10 @@ def without_parentheses(tokens: Sequence[Token]) -> Sequence[Token]:
 
 def decoded(content: bytes) -> str:
     """The text of a file. Raises `Refusal` where it isn't UTF-8, `Failure` where it is too long."""
-    if len(content) > MOST_BYTES:
-        raise Failure(f"the text has {len(content):,} bytes; {MOST_BYTES:,} is the most", 2)
     try:
-        text = content.decode("utf-8")
-    except UnicodeDecodeError as error:
-        before = content[: error.start].decode("utf-8")
-        line, column = before.count("\n") + 1, len(before.rpartition("\n")[2]) + 1
-        message = f"the byte 0x{content[error.start]:02x} isn't UTF-8"
-        raise Refusal(Place(line, column), message) from None
+        text = tree.decoded(content)
+    except tree.NotText as wrong:
+        raise Refusal(wrong.place, str(wrong)) from None
     return text[1:] if text.startswith("\ufeff") else text
 
 

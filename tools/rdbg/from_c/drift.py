@@ -9,9 +9,8 @@ from rdbg.from_c.calls import blocks, calls_in, made_by
 from rdbg.from_c.lexer import DIRECTIVE, Piece, pieces
 from rdbg.from_c.lines import SKIP, Line, lines_of, rows_alone
 from rdbg.from_c.said import Said, Value, defined, said, shown, tokens_of, value_of, values
-from rdbg.json_layout import MOST_BYTES
 from rdbg.operands import PATTERN_OF
-from rdbg.tree import Fault, Place
+from rdbg.tree import MOST_BYTES, Fault, Place
 
 DRIFT = "drift"
 NOUN = {

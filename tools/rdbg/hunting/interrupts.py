@@ -7,8 +7,8 @@ from typing import List, Sequence, Tuple
 from rdbg import commands, kinds
 from rdbg.application import NO_INTERRUPT, Application
 from rdbg.failure import Failure
+from rdbg.operands import Scope
 from rdbg.reaching.handlers import BETWEEN, OPTION, WORD, Handler, handlers as by_name
-from rdbg.wording import nearest
 
 SIGN = BETWEEN.strip()
 # The profile from which on there are interrupts.
@@ -42,22 +42,8 @@ def call_of(part: str, text: str, application: Application) -> str:
     command = commands.read(f"{WORD} {call}")
     if command is None:
         raise Failure(f"{OPTION} '{text}': '{part.strip()}' is no call of a handler: {FORMS}", 2)
-    for symbol, word in zip(command.symbols, command.words):
-        wrong = fault(symbol, word, application)
-        if wrong:
-            raise Failure(f"{OPTION} '{text}': {wrong}", 2)
+    names = {kind.symbol: [it.name for it in application.of(kind)] for kind in kinds.ALL}
+    scope = Scope(names, application.notes)
+    for missing in filter(None, map(scope.missing, command.symbols, command.words)):
+        raise Failure(f"{OPTION} '{text}': {missing}", 2)
     return call
-
-
-def fault(symbol: str, word: str, application: Application) -> str:
-    """Why a word can't stand where a form has this symbol; empty where it can."""
-    if symbol == "I" and int(word) >= application.notes:
-        return f"there is no entry {word}: the file has {application.notes}, counted from 0"
-    if symbol not in kinds.OF_SYMBOL:
-        return ""
-    names = [it.name for it in application.of(kinds.OF_SYMBOL[symbol])]
-    if word in names:
-        return ""
-    near = nearest(word, names)
-    hint = f"; near it is {near}" if near else ""
-    return f"{word} isn't {commands.SYMBOLS[symbol].noun}{hint}"

@@ -16,7 +16,6 @@ from rdbg.effects import Move
 from rdbg.files.source import Source
 from rdbg.hunting.stage import Stage
 from rdbg.reaching.said import Answer, Kind
-from rdbg.shown import shown
 from rdbg.tree import Place
 from rdbg.wording import counted
 
@@ -125,17 +124,11 @@ def told(result: Values) -> Iterator[str]:
 
 def case(file: str, goal: str, results: Sequence[Values], expect: str) -> ElementTree.Element:
     """A search as a case: a failure where it isn't as expected, an error where it is open."""
-    name = shown(f"{goal}: {expect}")
-    made = ElementTree.Element("testcase", {"classname": shown(file), "name": name})
     kinds = {it["kind"] for it in results}
-    message = {"message": shown(results[0]["message"]["text"])}
-    if kinds == {OPEN}:
-        ElementTree.SubElement(made, junit.ERROR, message)
-    elif (FAIL in kinds) != (expect == FOUND):
-        ElementTree.SubElement(made, junit.FAILURE, message)
+    otherwise = junit.FAILURE if (FAIL in kinds) != (expect == FOUND) else junit.AS_EXPECTED
+    what = junit.ERROR if kinds == {OPEN} else otherwise
     lines = [line for result in results for line in told(result)]
-    ElementTree.SubElement(made, junit.OUTPUT).text = junit.text_of(lines)
-    return made
+    return junit.case(file, f"{goal}: {expect}", (what, results[0]["message"]["text"]), lines)
 
 
 def write(

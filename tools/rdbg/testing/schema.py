@@ -1,15 +1,14 @@
 """The JSON Schema (draft 7) of a file of cases, for editors: made from the table of its keys.
 `python3 -m rdbg.testing.schema` prints it; docs/goals.schema.json is what it prints."""
-import json
 from typing import Any, Callable, Dict
 
 from rdbg.driving.pacing import PACE
 from rdbg.reaching.asking import QUESTIONS
+from rdbg.schema import Schema, document, record
 from rdbg.testing import cases
 from rdbg.testing.cases import CASES, FILE, KEYS, Between, Key
 from rdbg.tree import Node
 
-Schema = Dict[str, Any]
 ABOUT = (
     f"The applications of a folder with their goals, {FILE}, as rdbg test tries them"
     " (docs/COMPANIONS.md). rdbg asks for more: applications, goals and interrupts that are there."
@@ -37,30 +36,14 @@ def value_of(key: Key) -> Schema:
 
 def case() -> Schema:
     """The schema of a case."""
-    return {
-        "type": "object",
-        "additionalProperties": False,
-        "required": [key.name for key in KEYS if key.is_needed],
-        "properties": {key.name: value_of(key) for key in KEYS},
-    }
-
-
-def schema() -> Schema:
-    """The schema of a file."""
-    return {
-        "$schema": "http://json-schema.org/draft-07/schema#",
-        "title": "goals of rdbg applications",
-        "description": ABOUT,
-        "type": "object",
-        "additionalProperties": False,
-        "required": [CASES],
-        "properties": {CASES: {"type": "array", "minItems": 1, "items": case()}},
-    }
+    needed = [key.name for key in KEYS if key.is_needed]
+    return record(needed, {key.name: value_of(key) for key in KEYS})
 
 
 def text() -> str:
-    """The schema as a text."""
-    return json.dumps(schema(), indent=2) + "\n"
+    """The schema of a file of cases."""
+    cases_of = {"type": "array", "minItems": 1, "items": case()}
+    return document("goals of rdbg applications", ABOUT, record([CASES], {CASES: cases_of}))
 
 
 if __name__ == "__main__":

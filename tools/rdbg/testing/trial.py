@@ -1,7 +1,6 @@
 """A case that is tried: what the program that searches answers, and the order in it."""
 import contextlib
 import enum
-
 import io
 import os
 import time
@@ -10,13 +9,13 @@ from typing import Iterator, NamedTuple, Tuple
 from rdbg.driving.target import Unable
 from rdbg.failure import Failure
 from rdbg.files.definitions import definition
-from rdbg.files.source import Source, load
+from rdbg.files.source import load
 from rdbg.hunting import report
 from rdbg.hunting.goals import DIFFERS, Goal, read as read_goal
 from rdbg.hunting.interrupts import handlers
 from rdbg.hunting.stage import Stage
 from rdbg.reaching.asking import LOST, QUESTIONS, Asker
-from rdbg.reaching.handlers import Handler, told as told_of_interrupts
+from rdbg.reaching.handlers import told as told_of_interrupts
 from rdbg.reaching.said import Answer, Bound
 from rdbg.replies import Refused
 from rdbg.testing.cases import Case
@@ -42,16 +41,8 @@ class Result(NamedTuple):
     beside: str = ""
 
 
-class Ready(NamedTuple):
-    """A case that can be asked."""
-
-    source: Source
-    goal: Goal
-    interrupts: Tuple[Handler, ...]
-
-
-def prepared(case: Case, folder: str) -> Ready:
-    """What a case asks. Raises `Failure` where its file, its goal or an interrupt is none."""
+def prepared(case: Case, folder: str) -> Tuple[Stage, Goal]:
+    """Where orders of a case are made, and its goal. Raises `Failure` where its file, its goal or an interrupt is none."""
     path = os.path.join(folder, case.file)
     source = load(path, dict(map(definition, case.consts)))
     if source.application is None:
@@ -60,7 +51,7 @@ def prepared(case: Case, folder: str) -> Ready:
     if words == [DIFFERS]:
         raise Failure(f"{DIFFERS} is a goal of hunt alone; a case has one of places", 2)
     goal = read_goal(words, source, QUESTIONS[case.question])
-    return Ready(source, goal, handlers(case.isr, source.application))
+    return Stage(source, handlers(case.isr, source.application)), goal
 
 
 def wrong_with(case: Case, folder: str) -> str:
@@ -73,25 +64,25 @@ def wrong_with(case: Case, folder: str) -> str:
     return ""
 
 
-def asked(case: Case, folder: str, ready: Ready) -> Answer:
+def asked(case: Case, folder: str, stage: Stage, goal: Goal) -> Answer:
     """What is answered. Raises `Failure` where it is refused."""
-    with ready.source.as_json() as path:
+    with stage.source.as_json() as path:
         end = time.monotonic() + case.within
         asker = Asker(path, case.options(folder), end)
         bound = Bound(case.moves, case.surprises)
-        lines = [it.line() for it in ready.interrupts]
-        return asker.ask(ready.goal.asked, bound, (), lines, QUESTIONS[case.question])
+        lines = [it.line() for it in stage.handlers]
+        return asker.ask(goal.asked, bound, (), lines, QUESTIONS[case.question])
 
 
-def order_of(case: Case, ready: Ready, answer: Answer) -> Iterator[str]:
+def order_of(case: Case, stage: Stage, goal: Goal, answer: Answer) -> Iterator[str]:
     """The order of an answer: who did what, where it begins at boot; else its lines."""
     if case.begin or case.question == LOST.word:
         yield from answer.order
         return
-    with contextlib.closing(Stage(ready.source, ready.interrupts)) as stage:
+    with contextlib.closing(stage):
         find = stage.find(answer.order)
-        yield from report.found(ready.goal, stage, [find], False)
-        yield from ("lines:", *report.lines_of(ready.goal, [find]))
+        yield from report.found(goal, stage, [find], False)
+        yield from ("lines:", *report.lines_of(goal, [find]))
 
 
 def tried(folder: str, case: Case) -> Result:
@@ -100,14 +91,15 @@ def tried(folder: str, case: Case) -> Result:
     said = io.StringIO()
     try:
         with contextlib.redirect_stderr(said):
-            ready = prepared(case, folder)
-            answer = asked(case, folder, ready)
+            stage, goal = prepared(case, folder)
+            answer = asked(case, folder, stage, goal)
             took = time.monotonic() - began
-            told = [*order_of(case, ready, answer)] if answer.has_order else [*report.ended(answer)]
-            told = [*told, report.gone_through(answer.counts)]
+            has_order = answer.has_order
+            told = [*(order_of(case, stage, goal, answer) if has_order else report.ended(answer))]
+            told.append(report.gone_through(answer.counts))
     except (Failure, Refused, Unable) as failure:
         why = str(failure) or " ".join(said.getvalue().split())
         return Result(Verdict.REFUSED, why, time.monotonic() - began)
     verdict = Verdict.OK if case.is_met(answer.head()) else Verdict.WRONG
-    beside = told_of_interrupts(case.isr, ready.source.application)
+    beside = told_of_interrupts(case.isr, stage.application)
     return Result(verdict, answer.head(), took, tuple(told), beside)
