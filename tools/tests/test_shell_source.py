@@ -4,6 +4,7 @@ import pathlib
 import shutil
 import tempfile
 import unittest
+from types import SimpleNamespace
 from typing import List
 from unittest import mock
 
@@ -121,7 +122,8 @@ class Start(InFolder):
         why = f"# {path} isn't read: it is to be a file of yours that not all may write"
         self.assertEqual(self.begun(b"tick\n"), [why, "ok at 1"])
         os.chmod(path, 0o644)
-        with mock.patch("os.geteuid", return_value=os.geteuid() + 1):
+        another = SimpleNamespace(**{**vars(os), "geteuid": lambda: os.geteuid() + 1})
+        with mock.patch.object(sourcing, "os", another):
             self.assertEqual(self.begun(b"tick\n")[0], why)
         os.unlink(path)
         os.mkfifo(path)

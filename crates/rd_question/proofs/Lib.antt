@@ -1,4 +1,5 @@
 -- The files of lemmas of rd_question.
 pub mod AskedLaws
+pub mod LineLaws
 pub mod SaidLaws
 pub mod TextLaws

@@ -1,5 +1,6 @@
 -- The files of definitions of rd_question.
 pub mod Asked
+pub mod CommandLine
 pub mod EngineView
 pub mod Handlers
 pub mod Paces

@@ -1,5 +1,9 @@
 //! Why there is no answer.
 
+ghost use Rattle.std.specs.Prelude.{◌≡◌};
+ghost use Rattle.rd_question.specs.CommandLine.{IsFaultOfHandler};
+ghost use Rattle.rd_question.specs.declared.fault.ReachFault.TheVariants as fault;
+
 use crate::handler::NoHandler;
 use crate::pace::NoPace;
 use crate::part_word::NoPart;
@@ -18,6 +22,9 @@ pub enum ReachFault {
     Words {
         text: String,
     },
+    /// Two questions are asked at once.
+    #[error("--lost and --doomed are two questions: one is asked at a time")]
+    Both,
     /// The pace is none.
     #[error("--pace: {fault}")]
     Pace {
@@ -98,36 +105,48 @@ pub enum ReachFault {
 }
 
 impl From<AllocError> for ReachFault {
+    ghost from_gives = { λ _ cause. cause ≡ fault.NoMemory };
+
     fn from(_error: AllocError) -> ReachFault {
         ReachFault::NoMemory
     }
 }
 
 impl<T: Drop> From<AllocFailed<T>> for ReachFault {
+    ghost from_gives = { λ _ cause. cause ≡ fault.NoMemory };
+
     fn from(_failed: AllocFailed<T>) -> ReachFault {
         ReachFault::NoMemory
     }
 }
 
 impl From<no_memory::NoMemory> for ReachFault {
+    ghost from_gives = { λ _ cause. cause ≡ fault.NoMemory };
+
     fn from(_error: no_memory::NoMemory) -> ReachFault {
         ReachFault::NoMemory
     }
 }
 
 impl From<NoPace> for ReachFault {
+    ghost from_gives = { λ why cause. cause ≡ fault.Pace why };
+
     fn from(fault: NoPace) -> ReachFault {
         ReachFault::Pace { fault }
     }
 }
 
 impl From<NoPart> for ReachFault {
+    ghost from_gives = { λ why cause. cause ≡ fault.Part why };
+
     fn from(fault: NoPart) -> ReachFault {
         ReachFault::Part { fault }
     }
 }
 
 impl From<NoHandler> for ReachFault {
+    ghost from_gives = { λ why cause. IsFaultOfHandler why cause };
+
     fn from(fault: NoHandler) -> ReachFault {
         match fault {
             NoHandler::NoMemory => ReachFault::NoMemory,
@@ -147,6 +166,8 @@ impl From<NoOrigin> for ReachFault {
 
 // What was met where the answer is written.
 impl From<io::Error> for ReachFault {
+    ghost from_gives = { λ _ cause. cause ≡ fault.Unwritten };
+
     fn from(_error: io::Error) -> ReachFault {
         ReachFault::Unwritten
     }

@@ -1,6 +1,7 @@
 //! Interrupts as they are asked for.
 
-ghost use Rattle.std.specs.Prelude.{◌≡◌, ◌⊎◌, ℕ, Option, IfErr, IfOk, IfSome, IsErrOf, IsSome, None, Some, slice_get};
+ghost use Rattle.std.specs.Prelude.{◌≡◌, ◌⊎◌, ℕ, Option, None, Some, slice_get};
+ghost use Rattle.std.specs.Prelude.{IfErr, IfOk, IfSome, IsErrOf, IsSome};
 ghost use Rattle.rd_question.specs.Handlers.{IsUnlimited, IsWhyNotAfter, IsWrong};
 ghost use Rattle.rd_question.specs.Handlers.{apart_said, follows_said, small_number, times_at};
 ghost use Rattle.rd_question.specs.Handlers.{times_said};
@@ -192,9 +193,10 @@ fn apart_of(said: Option<&str>) -> Result<u8, NoHandler>
     }
 }
 
-/// The interrupt of which this is said, behind those that were said before. One that follows another
-/// comes a limited number of times, and so does that other one, which was said before it. `Times`,
-/// `After`, `Unlimited` and `Apart` where an option is wrong. Whether its calls are some isn't asked here.
+/// The interrupt of which this is said, behind those that were said before. One that follows
+/// another comes a limited number of times, and so does that other one, which was said before it.
+/// `Times`, `After`, `Unlimited` and `Apart` where an option is wrong, `NoMemory` where there is no
+/// memory for its calls. Whether these are some isn't asked here.
 pub fn handler_of(alloc: Global, said: Said<'_>, before: &[Handler]) -> Result<Handler, NoHandler>
     ensures times { IfOk result (λ handler. times_said said.entry.times ≡ Some handler.times) }
     ensures follows { IfOk result (λ handler.
@@ -206,7 +208,8 @@ pub fn handler_of(alloc: Global, said: Said<'_>, before: &[Handler]) -> Result<H
     ensures bad_times { IsErrOf result Times → times_said said.entry.times ≡ None }
     ensures bad_after { IsErrOf result After → IsWhyNotAfter said.entry.after before.now }
     ensures unlimited { IsErrOf result Unlimited → (times : Option ℕ)
-        × (times_said said.entry.times ≡ Some times) × IsUnlimited said.entry.after times before.now }
+        × (times_said said.entry.times ≡ Some times)
+        × IsUnlimited said.entry.after times before.now }
     ensures bad_apart { IsErrOf result Apart → apart_said said.entry.apart ≡ None }
     ensures causes { IfErr result IsWrong }
 {

@@ -1,6 +1,10 @@
 //! The interrupts that a command line asks for: `--isr CALLS [--times N] [--after I] [--apart T]`,
 //! several times, where each of the others belongs to the `--isr` before it.
 
+ghost use Rattle.std.specs.Prelude.{◌≡◌, codes, false};
+ghost use Rattle.clap.specs.Words.{rule_of};
+ghost use Rattle.rd_question.specs.CommandLine.{repeated};
+
 use crate::handler::{Handler, NoHandler, Said, handler_of};
 use clap::{Arg, ArgAction, ArgMatches};
 use std::alloc::Global;
@@ -28,7 +32,10 @@ const APART: Belonging = Belonging {
 };
 
 /// `--isr CALLS`.
-pub(crate) fn isr_arg<'a>(alloc: Global) -> Arg<'a> {
+pub(crate) fn isr_arg<'a>(alloc: Global) -> Arg<'a>
+    ensures rule { rule_of result ≡ repeated (codes "isr") }
+    ensures local { result.global ≡ false }
+{
     Arg::new(alloc, "isr")
         .long("isr")
         .value_name("CALLS")
@@ -37,7 +44,10 @@ pub(crate) fn isr_arg<'a>(alloc: Global) -> Arg<'a> {
 }
 
 /// `--times N`.
-pub(crate) fn times_arg<'a>(alloc: Global) -> Arg<'a> {
+pub(crate) fn times_arg<'a>(alloc: Global) -> Arg<'a>
+    ensures rule { rule_of result ≡ repeated (codes "times") }
+    ensures local { result.global ≡ false }
+{
     Arg::new(alloc, "times")
         .long("times")
         .value_name("N")
@@ -46,7 +56,10 @@ pub(crate) fn times_arg<'a>(alloc: Global) -> Arg<'a> {
 }
 
 /// `--after I`.
-pub(crate) fn after_arg<'a>(alloc: Global) -> Arg<'a> {
+pub(crate) fn after_arg<'a>(alloc: Global) -> Arg<'a>
+    ensures rule { rule_of result ≡ repeated (codes "after") }
+    ensures local { result.global ≡ false }
+{
     Arg::new(alloc, "after")
         .long("after")
         .value_name("I")
@@ -55,7 +68,10 @@ pub(crate) fn after_arg<'a>(alloc: Global) -> Arg<'a> {
 }
 
 /// `--apart T`.
-pub(crate) fn apart_arg<'a>(alloc: Global) -> Arg<'a> {
+pub(crate) fn apart_arg<'a>(alloc: Global) -> Arg<'a>
+    ensures rule { rule_of result ≡ repeated (codes "apart") }
+    ensures local { result.global ≡ false }
+{
     Arg::new(alloc, "apart")
         .long("apart")
         .value_name("T")

@@ -1,6 +1,14 @@
 //! The command line.
 
-ghost use Rattle.std.specs.Prelude.{◌≡◌, ◌≤◌, IfOk, IfSome};
+ghost use Rattle.std.specs.Prelude.{◌≡◌, ◌≤◌, IfErr, IfOk, IfSome, Some, codes, false, map};
+ghost use Rattle.std.specs.Prelude.{[], option_map, string_bytes, unwrap_or};
+ghost use Rattle.clap.specs.Words.{app_of, first_of, found_of, kind_of, rows_of, rule_of};
+ghost use Rattle.rd_question.specs.CommandLine.{IsAskedBy, IsAskedIn, IsFaultOfError, IsHelp};
+ghost use Rattle.rd_question.specs.CommandLine.{IsPaceOf};
+ghost use Rattle.rd_question.specs.CommandLine.{IsPartOf, IsRequestIn, command_line, file_word};
+ghost use Rattle.rd_question.specs.CommandLine.{goal_words, has_goal, is_on, memory_option};
+ghost use Rattle.rd_question.specs.CommandLine.{number_of, number_said, query_of, setting};
+ghost use Rattle.rd_question.specs.CommandLine.{states_option, surprises_option, switch};
 ghost use Rattle.rd_question.specs.Questions.{IsQuestion, IsRequest, manner_of};
 
 use crate::fault::ReachFault;
@@ -90,14 +98,20 @@ pub enum ReachRequest<'a> {
 }
 
 // `FILE`.
-fn file_arg<'a>(alloc: Global) -> Arg<'a> {
+fn file_arg<'a>(alloc: Global) -> Arg<'a>
+    ensures rule { rule_of result ≡ file_word }
+    ensures local { result.global ≡ false }
+{
     Arg::new(alloc, "FILE")
         .required(true)
         .help("The application file")
 }
 
 // `GOAL..`.
-fn goal_arg<'a>(alloc: Global) -> Arg<'a> {
+fn goal_arg<'a>(alloc: Global) -> Arg<'a>
+    ensures rule { rule_of result ≡ goal_words }
+    ensures local { result.global ≡ false }
+{
     Arg::new(alloc, "GOAL")
         .num_args(1..)
         .action(ArgAction::Append)
@@ -105,16 +119,21 @@ fn goal_arg<'a>(alloc: Global) -> Arg<'a> {
 }
 
 // `--lost`.
-fn lost_arg<'a>(alloc: Global) -> Result<Arg<'a>, AllocError> {
+fn lost_arg<'a>(alloc: Global) -> Arg<'a>
+    ensures rule { rule_of result ≡ switch (codes "lost") }
+    ensures local { result.global ≡ false }
+{
     Arg::new(alloc, "lost")
         .long("lost")
         .action(ArgAction::SetTrue)
         .help("Asks from which place of the run of --from on the goal can come no more")
-        .conflicts_with("doomed")
 }
 
 // `--doomed`.
-fn doomed_arg<'a>(alloc: Global) -> Arg<'a> {
+fn doomed_arg<'a>(alloc: Global) -> Arg<'a>
+    ensures rule { rule_of result ≡ switch (codes "doomed") }
+    ensures local { result.global ≡ false }
+{
     Arg::new(alloc, "doomed")
         .long("doomed")
         .action(ArgAction::SetTrue)
@@ -122,7 +141,10 @@ fn doomed_arg<'a>(alloc: Global) -> Arg<'a> {
 }
 
 // `--from COMMANDS`.
-fn from_arg<'a>(alloc: Global) -> Arg<'a> {
+fn from_arg<'a>(alloc: Global) -> Arg<'a>
+    ensures rule { rule_of result ≡ setting (codes "from") }
+    ensures local { result.global ≡ false }
+{
     Arg::new(alloc, "from")
         .long("from")
         .value_name("COMMANDS")
@@ -130,7 +152,10 @@ fn from_arg<'a>(alloc: Global) -> Arg<'a> {
 }
 
 // `--moves N`.
-fn moves_arg<'a>(alloc: Global) -> Arg<'a> {
+fn moves_arg<'a>(alloc: Global) -> Arg<'a>
+    ensures rule { rule_of result ≡ number_of 0 MAX_MOVES (codes "moves") }
+    ensures local { result.global ≡ false }
+{
     Arg::new(alloc, "moves")
         .long("moves")
         .value_name("N")
@@ -139,14 +164,20 @@ fn moves_arg<'a>(alloc: Global) -> Arg<'a> {
 }
 
 // `--pace M..N`.
-fn pace_arg<'a>(alloc: Global) -> Arg<'a> {
+fn pace_arg<'a>(alloc: Global) -> Arg<'a>
+    ensures rule { rule_of result ≡ setting (codes "pace") }
+    ensures local { result.global ≡ false }
+{
     Arg::new(alloc, "pace").long("pace").value_name("M..N").help(
         "Each busy core makes M to N moves from one tick to the next",
     )
 }
 
 // `--surprises N`.
-fn surprises_arg<'a>(alloc: Global) -> Arg<'a> {
+fn surprises_arg<'a>(alloc: Global) -> Arg<'a>
+    ensures rule { rule_of result ≡ surprises_option }
+    ensures local { result.global ≡ false }
+{
     Arg::new(alloc, "surprises")
         .long("surprises")
         .value_name("N")
@@ -155,7 +186,10 @@ fn surprises_arg<'a>(alloc: Global) -> Arg<'a> {
 }
 
 // `--states N`.
-fn states_arg<'a>(alloc: Global) -> Arg<'a> {
+fn states_arg<'a>(alloc: Global) -> Arg<'a>
+    ensures rule { rule_of result ≡ states_option }
+    ensures local { result.global ≡ false }
+{
     Arg::new(alloc, "states")
         .long("states")
         .value_name("N")
@@ -165,7 +199,10 @@ fn states_arg<'a>(alloc: Global) -> Arg<'a> {
 }
 
 // `--memory MIB`.
-fn memory_arg<'a>(alloc: Global) -> Arg<'a> {
+fn memory_arg<'a>(alloc: Global) -> Arg<'a>
+    ensures rule { rule_of result ≡ memory_option }
+    ensures local { result.global ≡ false }
+{
     Arg::new(alloc, "memory")
         .long("memory")
         .value_name("MIB")
@@ -175,7 +212,10 @@ fn memory_arg<'a>(alloc: Global) -> Arg<'a> {
 }
 
 // `--part K/N`.
-fn part_arg<'a>(alloc: Global) -> Arg<'a> {
+fn part_arg<'a>(alloc: Global) -> Arg<'a>
+    ensures rule { rule_of result ≡ setting (codes "part") }
+    ensures local { result.global ≡ false }
+{
     Arg::new(alloc, "part")
         .long("part")
         .value_name("K/N")
@@ -183,7 +223,10 @@ fn part_arg<'a>(alloc: Global) -> Arg<'a> {
 }
 
 // `--exact`.
-fn exact_arg<'a>(alloc: Global) -> Arg<'a> {
+fn exact_arg<'a>(alloc: Global) -> Arg<'a>
+    ensures rule { rule_of result ≡ switch (codes "exact") }
+    ensures local { result.global ≡ false }
+{
     Arg::new(alloc, "exact")
         .long("exact")
         .action(ArgAction::SetTrue)
@@ -191,7 +234,10 @@ fn exact_arg<'a>(alloc: Global) -> Arg<'a> {
 }
 
 // `--progress`.
-fn progress_arg<'a>(alloc: Global) -> Arg<'a> {
+fn progress_arg<'a>(alloc: Global) -> Arg<'a>
+    ensures rule { rule_of result ≡ switch (codes "progress") }
+    ensures local { result.global ≡ false }
+{
     Arg::new(alloc, "progress")
         .long("progress")
         .action(ArgAction::SetTrue)
@@ -199,7 +245,9 @@ fn progress_arg<'a>(alloc: Global) -> Arg<'a> {
 }
 
 // What the words are parsed by.
-fn command<'a>(alloc: Global) -> Result<Command<'a>, AllocError> {
+fn command<'a>(alloc: Global) -> Result<Command<'a>, AllocError>
+    ensures { IfOk result (λ command. app_of command ≡ command_line) }
+{
     Command::new(alloc, "rdreach")
         .about("Answers what can still come in a model of a FreeRTOS application")
         .after_help(AS_ENGINE)
@@ -207,7 +255,7 @@ fn command<'a>(alloc: Global) -> Result<Command<'a>, AllocError> {
         .no_binary_name(true)
         .arg(file_arg(alloc))?
         .arg(goal_arg(alloc))?
-        .arg(lost_arg(alloc)?)?
+        .arg(lost_arg(alloc))?
         .arg(doomed_arg(alloc))?
         .arg(from_arg(alloc))?
         .arg(moves_arg(alloc))?
@@ -234,86 +282,191 @@ fn goal_words<'a>(alloc: Global, texts: &[&'a str]) -> Result<Vec<&'a [u8]>, All
     Ok(words)
 }
 
-// How many choices are asked for, where some are.
-fn moves_of<'a>(matches: &ArgMatches<'a>) -> Option<u32>
-    ensures { IfSome result (λ moves. moves ≤ MAX_MOVES) }
+// The first text of an argument, where it has one.
+fn text_of<'a>(matches: &ArgMatches<'a>, name: &str) -> Option<&'a str>
+    ensures { option_map (λ text. text.now) result
+        ≡ first_of name.now (rows_of (found_of matches.now)) }
 {
-    let moves: usize = matches.get_one("moves")?;
-    Some(moves.min(MAX_MOVES) as u32)
+    matches.get_str(name)
 }
 
-// A number of these, or the most where there is none or it isn't within them.
-fn number_of<'a>(matches: &ArgMatches<'a>, id: &str, most: usize) -> usize
-    ensures { result ≤ most }
+// Whether there is a goal.
+fn has_goal(matches: &ArgMatches<'_>) -> bool
+    ensures { result ≡ has_goal (rows_of (found_of matches.now)) }
 {
-    let number: usize = matches.get_one(id).unwrap_or(most);
-    number.min(most)
+    matches.contains_id("GOAL")
+}
+
+// The number that an option says, where it is given.
+fn number_said(
+    matches: &ArgMatches<'_>,
+    option: &'static str,
+    least: usize,
+    most: usize,
+) -> Result<Option<usize>, ReachFault>
+    ensures said { IfOk result (λ number.
+        number ≡ number_said option.entry.now (rows_of (found_of matches.now))) }
+    ensures within { IfOk result (λ number. IfSome number (λ said. said ≤ most)) }
+{
+    match matches.try_get_one::<usize>(option) {
+        Ok(None) => Ok(None),
+        Ok(Some(number)) if least <= number && number <= most => Ok(Some(number)),
+        Ok(Some(_)) | Err(_) => Err(ReachFault::Number {
+            option,
+            least,
+            most,
+        }),
+    }
+}
+
+// The number that an option says.
+fn number_of(
+    matches: &ArgMatches<'_>,
+    option: &'static str,
+    least: usize,
+    most: usize,
+) -> Result<usize, ReachFault>
+    ensures said { IfOk result (λ number.
+        Some number ≡ number_said option.entry.now (rows_of (found_of matches.now))) }
+    ensures within { IfOk result (λ number. number ≤ most) }
+{
+    match number_said(matches, option, least, most)? {
+        Some(number) => Ok(number),
+        None => Err(ReachFault::Number {
+            option,
+            least,
+            most,
+        }),
+    }
+}
+
+// How many choices are asked for, where some are.
+fn moves_of(matches: &ArgMatches<'_>) -> Result<Option<u32>, ReachFault>
+    ensures said { IfOk result (λ moves.
+        moves ≡ number_said (codes "moves") (rows_of (found_of matches.now))) }
+    ensures within { IfOk result (λ moves. IfSome moves (λ most. most ≤ MAX_MOVES)) }
+{
+    match number_said(matches, "moves", 0, MAX_MOVES)? {
+        Some(moves) => Ok(Some(moves as u32)),
+        None => Ok(None),
+    }
+}
+
+// How many surprises are asked for at the most, where that is said.
+fn surprises_of(matches: &ArgMatches<'_>) -> Result<Option<u8>, ReachFault>
+    ensures said { IfOk result (λ surprises.
+        surprises ≡ number_said (codes "surprises") (rows_of (found_of matches.now))) }
+{
+    match number_said(matches, "surprises", 0, 255)? {
+        Some(surprises) => Ok(Some(surprises as u8)),
+        None => Ok(None),
+    }
+}
+
+// Whether a switch is on.
+fn is_on(matches: &ArgMatches<'_>, switch: &str) -> bool
+    ensures { result ≡ is_on switch.now (rows_of (found_of matches.now)) }
+{
+    match text_of(matches, switch) {
+        Some(text) => text == "true",
+        None => false,
+    }
 }
 
 // The part that is asked for, where one is.
-fn part_in<'a>(matches: &ArgMatches<'a>) -> Result<Option<Part>, ReachFault> {
-    match matches.get_str("part") {
+fn part_in(matches: &ArgMatches<'_>) -> Result<Option<Part>, ReachFault>
+    ensures part { IfOk result
+        (IsPartOf (first_of (codes "part") (rows_of (found_of matches.now)))) }
+{
+    match text_of(matches, "part") {
         Some(word) => Ok(Some(part_of(word)?)),
         None => Ok(None),
     }
 }
 
 // What is asked of the goal.
-fn query_in<'a>(matches: &ArgMatches<'a>) -> Query {
-    if matches.get_flag("lost") {
-        Query::Lost
-    } else if matches.get_flag("doomed") {
-        Query::Doomed
-    } else {
-        Query::Reach
+fn query_in(matches: &ArgMatches<'_>) -> Result<Query, ReachFault>
+    ensures query { IfOk result (λ query. Some query
+        ≡ query_of (is_on (codes "lost") (rows_of (found_of matches.now)))
+        (is_on (codes "doomed") (rows_of (found_of matches.now)))) }
+{
+    match (is_on(matches, "lost"), is_on(matches, "doomed")) {
+        (true, true) => Err(ReachFault::Both),
+        (true, false) => Ok(Query::Lost),
+        (false, true) => Ok(Query::Doomed),
+        (false, false) => Ok(Query::Reach),
     }
 }
 
 // The pace that is asked for, where one is.
-fn pace_in<'a>(matches: &ArgMatches<'a>) -> Result<Pace, ReachFault> {
-    match matches.get_str("pace") {
+fn pace_in(matches: &ArgMatches<'_>) -> Result<Pace, ReachFault>
+    ensures pace { IfOk result
+        (IsPaceOf (first_of (codes "pace") (rows_of (found_of matches.now)))) }
+{
+    match text_of(matches, "pace") {
         Some(word) => Ok(pace_of(word)?),
         None => Ok(NO_PACE),
     }
 }
 
+// The path of the application file.
+fn file_of<'a>(matches: &ArgMatches<'a>) -> &'a str
+    ensures { result.now ≡ unwrap_or (first_of (codes "FILE") (rows_of (found_of matches.now))) [] }
+{
+    match text_of(matches, "FILE") {
+        Some(path) => path,
+        None => "",
+    }
+}
+
 // What was asked for by the words that were found.
 fn question_of<'a>(alloc: Global, matches: &ArgMatches<'a>) -> Result<Question<'a>, ReachFault>
-    ensures { IfOk result IsQuestion }
+    ensures limits { IfOk result IsQuestion }
+    ensures asked { IfOk result (IsAskedIn (rows_of (found_of matches.now))) }
 {
     Ok(Question {
-        file: matches.get_str("FILE").unwrap_or(""),
+        file: file_of(matches),
         goal: goal_words(alloc, matches.get_strs("GOAL").unwrap_or(&[]))?,
-        query: query_in(matches),
-        from: matches.get_str("from"),
-        moves: moves_of(matches),
+        query: query_in(matches)?,
+        from: text_of(matches, "from"),
+        moves: moves_of(matches)?,
         pace: pace_in(matches)?,
         isrs: handlers_in(alloc, matches)?,
-        surprises: matches.get_one("surprises"),
-        states: number_of(matches, "states", MAX_STATES),
-        memory: number_of(matches, "memory", MAX_MEMORY),
+        surprises: surprises_of(matches)?,
+        states: number_of(matches, "states", 1, MAX_STATES)?,
+        memory: number_of(matches, "memory", 1, MAX_MEMORY)?,
         part: part_in(matches)?,
-        exact: matches.get_flag("exact"),
-        progress: matches.get_flag("progress"),
+        exact: is_on(matches, "exact"),
+        progress: is_on(matches, "progress"),
     })
 }
 
 // A question with a goal asks for its answer, and one without a goal for an engine.
 fn request_of<'a>(matches: &ArgMatches<'a>, question: Question<'a>) -> ReachRequest<'a>
-    requires { IsQuestion question }
-    ensures { IsRequest result }
+    requires limits { IsQuestion question }
+    requires asked { IsAskedIn (rows_of (found_of matches.now)) question }
+    ensures limits { IsRequest result }
+    ensures asked { IsRequestIn (rows_of (found_of matches.now)) result }
 {
-    match matches.get_strs("GOAL") {
-        Some(_) => ReachRequest::Ask { question },
-        None => ReachRequest::Engine { question },
+    if has_goal(matches) {
+        ReachRequest::Ask { question }
+    } else {
+        ReachRequest::Engine { question }
     }
 }
 
 // What becomes of words that are no question: help is one of clap's errors.
 fn without_question<'a>(alloc: Global, error: &clap::Error) -> Result<ReachRequest<'a>, ReachFault>
-    ensures { IfOk result IsRequest }
+    ensures limits { IfOk result IsRequest }
+    ensures help { IfOk result (λ request. IsHelp request
+        × (kind_of error.now ≡ ErrorKind.DisplayHelp)) }
+    ensures fault { IfErr result (IsFaultOfError (kind_of error.now)) }
 {
     let text = format!(in alloc; "{error}")?;
+    // (no error has no text, but one that there was no memory for)
+    if text.is_empty() {
+        return Err(ReachFault::NoMemory);
+    }
     match error.kind() {
         ErrorKind::DisplayHelp => Ok(ReachRequest::Help { text }),
         ErrorKind::OutOfMemory => Err(ReachFault::NoMemory),
@@ -325,10 +478,13 @@ fn without_question<'a>(alloc: Global, error: &clap::Error) -> Result<ReachReque
 /// [--lost | --doomed] [--from COMMANDS] [--moves N] [--pace M..N]
 /// [--isr CALLS [--times N] [--after I] [--apart T]] [--surprises N] [--states N] [--memory MIB]
 /// [--part K/N] [--exact] [--progress]`, an engine where no goal is said; or help. `Words` where
-/// they are no such line, `Pace` where the pace is none, `Isr` where an interrupt is none, `Part`
-/// where the part is none, `NoMemory` where there is no memory to read them or for the text of help.
+/// they are no such line, `Both` where both `--lost` and `--doomed` are said, `Pace` where the
+/// pace is none, `Isr` where an interrupt is none, `Part` where the part is none, `Number` where a
+/// number isn't within its limits, `NoMemory` where there is no memory to read them or for the text
+/// of help.
 pub fn options<'a>(alloc: Global, words: &'a [String]) -> Result<ReachRequest<'a>, ReachFault>
-    ensures { IfOk result IsRequest }
+    ensures limits { IfOk result IsRequest }
+    ensures asked { IfOk result (IsAskedBy (map string_bytes words.entry.now)) }
 {
     match command(alloc)?.try_get_matches_from(words) {
         Ok(matches) => {

@@ -1,6 +1,7 @@
 //! The pace: how time is said apart from moves.
 
-ghost use Rattle.std.specs.Prelude.{◌≡◌, ◌<◌, ◌≤◌, ℕ, IfErr, IfOk, IfSome, IsErrOf, Some, false, true};
+ghost use Rattle.std.specs.Prelude.{◌≡◌, ◌<◌, ◌≤◌, ℕ, Some, false, true};
+ghost use Rattle.std.specs.Prelude.{IfErr, IfOk, IfSome, IsErrOf};
 ghost use Rattle.rd_text.specs.Words.{number_of};
 ghost use Rattle.rd_question.specs.Paces.{CanCome, IsCrossed, IsLeast, IsMost, IsNoLeast, IsNoMost};
 ghost use Rattle.rd_question.specs.Paces.{IsNoSmall, IsOutOfForm, IsWritten};
