@@ -1,6 +1,6 @@
 //! What can still come in an application: the words that ask it, the answer, and what is told of it.
-//! Page: `docs/REACHING.md`. Definitions in reading order (`specs/`): `Asked`, `CommandLine`,
-//! `EngineView`, `Handlers`, `Paces`, `Parts`, `Questions`, `Said`.
+//! Page: `docs/REACHING.md`. Definitions in reading order (`specs/`): `Asked`, `EngineView`,
+//! `Handlers`, `Paces`, `Parts`, `CommandLine`, `Questions`, `Said`.
 #![tactic(auto)]
 
 ghost use Rattle.std.specs.Prelude.{◌≡◌, ◌≤◌, IfOk};
