@@ -108,8 +108,9 @@ class Part:
 @dataclasses.dataclass(frozen=True)
 class Node:
     """A value and its place. Of a text, `columns` are those at which its words begin in its line,
-    if they are known. `written` is what stands there where it differs, as an instruction with a label, and
-    `spelled` each of its words; `part` is given where the line isn't the instruction itself."""
+    if they are known. `written` is what stands there where it differs, as an instruction with a
+    label, and `spelled` each of its words; `part` is given where the line isn't the instruction
+    itself."""
 
     value: Value
     place: Place
