@@ -3,3 +3,5 @@ pub mod Claims
 pub mod Goals
 pub mod OnTick
 pub mod OnRegisters
+pub mod Written
+pub mod Reading

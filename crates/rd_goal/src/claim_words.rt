@@ -1,10 +1,18 @@
 //! Claims as words.
 
-ghost use Rattle.std.specs.Prelude.{◌≡◌, ◌<◌, length, IfOk};
+ghost use Rattle.std.specs.Prelude.{◌≡◌, ◌<◌, ◌∷◌, [], codes, ℕ, length, IfOk, IfSome};
+ghost use Rattle.rd_app.specs.Application.{Application};
 ghost use Rattle.rd_condition.specs.Conditions.{IsAmountOf};
 ghost use Rattle.rd_condition.specs.declared.condition.Condition.TheVariants as condition;
 ghost use Rattle.rd_goal.specs.declared.claim.Claim.TheVariants as claim;
 ghost use Rattle.rd_goal.specs.Claims.{IsClaimOf};
+ghost use Rattle.rd_goal.specs.Reading.{Reads, ReadsAbout, ReadsAmount, ReadsBehind, ReadsClaim};
+ghost use Rattle.rd_goal.specs.Reading.{ReadsPlace};
+ghost use Rattle.rd_goal.specs.Written.{IsAlone, Named, list_word, side_word};
+ghost use Rattle.rd_state.specs.declared.phase.Held.TheVariants as held;
+ghost use Rattle.rd_state.specs.declared.phase.Listed.TheVariants as listed;
+ghost use Rattle.rd_state.specs.declared.phase.Place.TheVariants as sort;
+ghost use Rattle.rd_text.specs.declared.kind.Kind.TheVariants as kind;
 
 use crate::claim::Claim;
 use crate::reading::{NoGoal, Wanted};
@@ -15,10 +23,12 @@ use rd_state::phase::{Held, Listed, Place};
 use rd_stream::side::Side;
 
 // The claim that compares this amount, of the words behind it.
+#[tactic(auto, using(crate::proofs::WordLaws::reads_more))]
 fn compared(amount: Amount, reader: &mut GoalReader<'_, '_>) -> Result<Claim, NoGoal>
-    requires { IsAmountOf reader.old.runs amount }
-    ensures claim { IfOk result (IsClaimOf reader.old.runs) }
-    ensures app { reader.new ≡ reader.old }
+    requires { IsAmountOf reader.old.app.runs amount }
+    ensures claim { IfOk result (IsClaimOf reader.old.app.runs) }
+    ensures read { IfOk result (ReadsAbout amount reader.old reader.new) }
+    ensures app { reader.new.app ≡ reader.old.app }
 {
     let comparison = reader.comparison()?;
     let bound = reader.number()?;
@@ -33,9 +43,10 @@ fn compared(amount: Amount, reader: &mut GoalReader<'_, '_>) -> Result<Claim, No
 
 // The claim that compares this amount, or some of its bits.
 fn masked(amount: Amount, reader: &mut GoalReader<'_, '_>) -> Result<Claim, NoGoal>
-    requires { IsAmountOf reader.old.runs amount }
-    ensures claim { IfOk result (IsClaimOf reader.old.runs) }
-    ensures app { reader.new ≡ reader.old }
+    requires { IsAmountOf reader.old.app.runs amount }
+    ensures claim { IfOk result (IsClaimOf reader.old.app.runs) }
+    ensures read { IfOk result (ReadsAbout amount reader.old reader.new) }
+    ensures app { reader.new.app ≡ reader.old.app }
 {
     if !reader.takes(b"&") {
         return compared(amount, reader);
@@ -51,25 +62,13 @@ fn masked(amount: Amount, reader: &mut GoalReader<'_, '_>) -> Result<Claim, NoGo
     })
 }
 
-// A register, behind `reg`.
-fn register(reader: &mut GoalReader<'_, '_>) -> Result<Amount, NoGoal>
-    ensures amount { IfOk result (IsAmountOf reader.old.runs) }
-    ensures app { reader.new ≡ reader.old }
+// The claim that compares a register with a number or with another register.
+fn against(amount: Amount, reader: &mut GoalReader<'_, '_>) -> Result<Claim, NoGoal>
+    requires { IsAmountOf reader.old.app.runs amount }
+    ensures claim { IfOk result (IsClaimOf reader.old.app.runs) }
+    ensures read { IfOk result (ReadsAbout amount reader.old reader.new) }
+    ensures app { reader.new.app ≡ reader.old.app }
 {
-    let task = reader.task()?;
-    let register = reader.register()?;
-    Ok(Amount::Register { task, register })
-}
-
-// The claim that compares a register with a number or another register, or some of its bits.
-fn register_claim(reader: &mut GoalReader<'_, '_>) -> Result<Claim, NoGoal>
-    ensures claim { IfOk result (IsClaimOf reader.old.runs) }
-    ensures app { reader.new ≡ reader.old }
-{
-    let amount = register(reader)?;
-    if reader.is_ahead(b"&") {
-        return masked(amount, reader);
-    }
     let comparison = reader.comparison()?;
     if reader.takes(b"reg") {
         let other = register(reader)?;
@@ -89,10 +88,37 @@ fn register_claim(reader: &mut GoalReader<'_, '_>) -> Result<Claim, NoGoal>
     })
 }
 
+// A register, behind `reg`.
+fn register(reader: &mut GoalReader<'_, '_>) -> Result<Amount, NoGoal>
+    ensures amount { IfOk result (IsAmountOf reader.old.app.runs) }
+    ensures read { IfOk result (ReadsAmount (codes "reg") reader.old reader.new) }
+    ensures app { reader.new.app ≡ reader.old.app }
+{
+    let task = reader.task()?;
+    let register = reader.register()?;
+    Ok(Amount::Register { task, register })
+}
+
+// The claim that compares a register, or some of its bits.
+#[tactic(auto, using(crate::proofs::ClaimLaws::about_behind))]
+fn register_claim(reader: &mut GoalReader<'_, '_>) -> Result<Claim, NoGoal>
+    ensures claim { IfOk result (IsClaimOf reader.old.app.runs) }
+    ensures read { IfOk result (ReadsBehind (codes "reg") reader.old reader.new) }
+    ensures app { reader.new.app ≡ reader.old.app }
+{
+    let amount = register(reader)?;
+    if reader.is_ahead(b"&") {
+        masked(amount, reader)
+    } else {
+        against(amount, reader)
+    }
+}
+
 // The value of a notification entry, behind `note`.
 fn value(reader: &mut GoalReader<'_, '_>) -> Result<Amount, NoGoal>
-    ensures amount { IfOk result (IsAmountOf reader.old.runs) }
-    ensures app { reader.new ≡ reader.old }
+    ensures amount { IfOk result (IsAmountOf reader.old.app.runs) }
+    ensures read { IfOk result (ReadsAmount (codes "note") reader.old reader.new) }
+    ensures app { reader.new.app ≡ reader.old.app }
 {
     let task = reader.task()?;
     let index = reader.index()?;
@@ -101,7 +127,10 @@ fn value(reader: &mut GoalReader<'_, '_>) -> Result<Amount, NoGoal>
 
 // A side of a stream buffer.
 fn of_stream(side: Side, reader: &mut GoalReader<'_, '_>) -> Result<Place, NoGoal>
-    ensures { reader.new ≡ reader.old }
+    ensures read { IfOk result (λ place. (stream : ℕ)
+        × (place ≡ sort.Held (held.Stream stream side))
+        × Reads (Named kind.Stream stream ∷ []) reader.old reader.new) }
+    ensures app { reader.new.app ≡ reader.old.app }
 {
     let stream = reader.stream()?;
     Ok(Place::Held {
@@ -111,7 +140,10 @@ fn of_stream(side: Side, reader: &mut GoalReader<'_, '_>) -> Result<Place, NoGoa
 
 // A side of a message buffer.
 fn of_message(side: Side, reader: &mut GoalReader<'_, '_>) -> Result<Place, NoGoal>
-    ensures { reader.new ≡ reader.old }
+    ensures read { IfOk result (λ place. (message : ℕ)
+        × (place ≡ sort.Held (held.Message message side))
+        × Reads (Named kind.Message message ∷ []) reader.old reader.new) }
+    ensures app { reader.new.app ≡ reader.old.app }
 {
     let message = reader.message()?;
     Ok(Place::Held {
@@ -121,7 +153,8 @@ fn of_message(side: Side, reader: &mut GoalReader<'_, '_>) -> Result<Place, NoGo
 
 // A side of the buffer of whichever kind has that name.
 fn of_buffer(side: Side, reader: &mut GoalReader<'_, '_>) -> Result<Place, NoGoal>
-    ensures { reader.new ≡ reader.old }
+    ensures read { IfOk result (ReadsPlace (side_word side) reader.old reader.new) }
+    ensures app { reader.new.app ≡ reader.old.app }
 {
     if reader.names_stream()? {
         of_stream(side, reader)
@@ -132,7 +165,8 @@ fn of_buffer(side: Side, reader: &mut GoalReader<'_, '_>) -> Result<Place, NoGoa
 
 // One of a queue's lists.
 fn of_queue(list: WaitingList, reader: &mut GoalReader<'_, '_>) -> Result<Place, NoGoal>
-    ensures { reader.new ≡ reader.old }
+    ensures read { IfOk result (ReadsPlace (list_word list) reader.old reader.new) }
+    ensures app { reader.new.app ≡ reader.old.app }
 {
     let queue = reader.queue()?;
     Ok(Place::Listed {
@@ -142,7 +176,8 @@ fn of_queue(list: WaitingList, reader: &mut GoalReader<'_, '_>) -> Result<Place,
 
 // A queue set.
 fn of_queue_set(reader: &mut GoalReader<'_, '_>) -> Result<Place, NoGoal>
-    ensures { reader.new ≡ reader.old }
+    ensures read { IfOk result (ReadsPlace (codes "select") reader.old reader.new) }
+    ensures app { reader.new.app ≡ reader.old.app }
 {
     let queue_set = reader.queue_set()?;
     Ok(Place::Listed {
@@ -152,7 +187,8 @@ fn of_queue_set(reader: &mut GoalReader<'_, '_>) -> Result<Place, NoGoal>
 
 // An event group.
 fn of_group(reader: &mut GoalReader<'_, '_>) -> Result<Place, NoGoal>
-    ensures { reader.new ≡ reader.old }
+    ensures read { IfOk result (ReadsPlace (codes "group") reader.old reader.new) }
+    ensures app { reader.new.app ≡ reader.old.app }
 {
     let group = reader.group()?;
     Ok(Place::Listed {
@@ -162,7 +198,8 @@ fn of_group(reader: &mut GoalReader<'_, '_>) -> Result<Place, NoGoal>
 
 // A notification entry.
 fn of_entry(reader: &mut GoalReader<'_, '_>) -> Result<Place, NoGoal>
-    ensures { reader.new ≡ reader.old }
+    ensures read { IfOk result (ReadsPlace (codes "note") reader.old reader.new) }
+    ensures app { reader.new.app ≡ reader.old.app }
 {
     let index = reader.index()?;
     Ok(Place::Entry { index })
@@ -170,7 +207,8 @@ fn of_entry(reader: &mut GoalReader<'_, '_>) -> Result<Place, NoGoal>
 
 // The place that begins with this word, if one does.
 fn place(word: &[u8], reader: &mut GoalReader<'_, '_>) -> Result<Place, NoGoal>
-    ensures { reader.new ≡ reader.old }
+    ensures read { IfOk result (ReadsPlace word.now reader.old reader.new) }
+    ensures app { reader.new.app ≡ reader.old.app }
 {
     match word {
         b"recv" => of_queue(WaitingList::Receiving, reader),
@@ -190,8 +228,9 @@ fn place(word: &[u8], reader: &mut GoalReader<'_, '_>) -> Result<Place, NoGoal>
 
 // The claim that a task waits, wherever or there.
 fn waits(reader: &mut GoalReader<'_, '_>) -> Result<Claim, NoGoal>
-    ensures claim { IfOk result (IsClaimOf reader.old.runs) }
-    ensures app { reader.new ≡ reader.old }
+    ensures claim { IfOk result (IsClaimOf reader.old.app.runs) }
+    ensures read { IfOk result (ReadsBehind (codes "waits") reader.old reader.new) }
+    ensures app { reader.new.app ≡ reader.old.app }
 {
     let task = reader.task()?;
     match reader.operand() {
@@ -205,8 +244,9 @@ fn waits(reader: &mut GoalReader<'_, '_>) -> Result<Claim, NoGoal>
 
 // The claim that some task's call has failed, or this one's.
 fn failed(reader: &mut GoalReader<'_, '_>) -> Result<Claim, NoGoal>
-    ensures claim { IfOk result (IsClaimOf reader.old.runs) }
-    ensures app { reader.new ≡ reader.old }
+    ensures claim { IfOk result (IsClaimOf reader.old.app.runs) }
+    ensures read { IfOk result (ReadsBehind (codes "failed") reader.old reader.new) }
+    ensures app { reader.new.app ≡ reader.old.app }
 {
     if reader.is_at_operand() {
         let task = reader.task()?;
@@ -227,75 +267,182 @@ fn in_phase(task: usize, name: PhaseName) -> Claim
 
 // The claim that a task stands at an instruction.
 fn at(reader: &mut GoalReader<'_, '_>) -> Result<Claim, NoGoal>
-    ensures claim { IfOk result (IsClaimOf reader.old.runs) }
-    ensures app { reader.new ≡ reader.old }
+    ensures claim { IfOk result (IsClaimOf reader.old.app.runs) }
+    ensures read { IfOk result (ReadsBehind (codes "at") reader.old reader.new) }
+    ensures app { reader.new.app ≡ reader.old.app }
 {
     let task = reader.task()?;
     let pc = reader.instruction(task)?;
     Ok(Claim::At { task, pc })
 }
 
-// The claim that begins with this word and compares an amount of an object, or the tick.
-fn of_amount(word: &[u8], reader: &mut GoalReader<'_, '_>) -> Result<Claim, NoGoal>
-    ensures claim { IfOk result (IsClaimOf reader.old.runs) }
-    ensures app { reader.new ≡ reader.old }
+// How many items a queue has, behind `count`.
+fn items(reader: &mut GoalReader<'_, '_>) -> Result<Amount, NoGoal>
+    ensures amount { IfOk result (IsAmountOf reader.old.app.runs) }
+    ensures read { IfOk result (ReadsAmount (codes "count") reader.old reader.new) }
+    ensures app { reader.new.app ≡ reader.old.app }
+{
+    let queue = reader.queue()?;
+    Ok(Amount::Items { queue })
+}
+
+// How many bytes a stream buffer has, behind `bytes`.
+fn bytes(reader: &mut GoalReader<'_, '_>) -> Result<Amount, NoGoal>
+    ensures amount { IfOk result (IsAmountOf reader.old.app.runs) }
+    ensures read { IfOk result (ReadsAmount (codes "bytes") reader.old reader.new) }
+    ensures app { reader.new.app ≡ reader.old.app }
+{
+    let stream = reader.stream()?;
+    Ok(Amount::Bytes { stream })
+}
+
+// How many messages a message buffer has, behind `msgs`.
+fn messages(reader: &mut GoalReader<'_, '_>) -> Result<Amount, NoGoal>
+    ensures amount { IfOk result (IsAmountOf reader.old.app.runs) }
+    ensures read { IfOk result (ReadsAmount (codes "msgs") reader.old reader.new) }
+    ensures app { reader.new.app ≡ reader.old.app }
+{
+    let message = reader.message()?;
+    Ok(Amount::Messages { message })
+}
+
+// The bits of an event group, behind `bits`.
+fn bits(reader: &mut GoalReader<'_, '_>) -> Result<Amount, NoGoal>
+    ensures amount { IfOk result (IsAmountOf reader.old.app.runs) }
+    ensures read { IfOk result (ReadsAmount (codes "bits") reader.old reader.new) }
+    ensures app { reader.new.app ≡ reader.old.app }
+{
+    let group = reader.group()?;
+    Ok(Amount::Bits { group })
+}
+
+// The instruction that a task stands at, behind `pc`.
+fn pc(reader: &mut GoalReader<'_, '_>) -> Result<Amount, NoGoal>
+    ensures amount { IfOk result (IsAmountOf reader.old.app.runs) }
+    ensures read { IfOk result (ReadsAmount (codes "pc") reader.old reader.new) }
+    ensures app { reader.new.app ≡ reader.old.app }
+{
+    let task = reader.task()?;
+    Ok(Amount::Pc { task })
+}
+
+// The amount, but for a register, that begins with this word.
+fn amount(word: &[u8], reader: &mut GoalReader<'_, '_>) -> Result<Amount, NoGoal>
+    ensures amount { IfOk result (IsAmountOf reader.old.app.runs) }
+    ensures read { IfOk result (ReadsAmount word.now reader.old reader.new) }
+    ensures app { reader.new.app ≡ reader.old.app }
 {
     match word {
-        b"count" => {
-            let queue = reader.queue()?;
-            compared(Amount::Items { queue }, reader)
-        }
-        b"bytes" => {
-            let stream = reader.stream()?;
-            compared(Amount::Bytes { stream }, reader)
-        }
-        b"msgs" => {
-            let message = reader.message()?;
-            compared(Amount::Messages { message }, reader)
-        }
-        b"bits" => {
-            let group = reader.group()?;
-            masked(Amount::Bits { group }, reader)
-        }
-        b"tick" => compared(Amount::Tick, reader),
+        b"count" => items(reader),
+        b"bytes" => bytes(reader),
+        b"msgs" => messages(reader),
+        b"bits" => bits(reader),
+        b"pc" => pc(reader),
+        b"note" => value(reader),
+        b"tick" => Ok(Amount::Tick),
         _ => Err(reader.wanted(Wanted::Claim)),
     }
 }
 
-/// The claim that the next words are.
-pub(crate) fn claim(reader: &mut GoalReader<'_, '_>) -> Result<Claim, NoGoal>
-    ensures claim { IfOk result (IsClaimOf reader.old.runs) }
-    ensures app { reader.new ≡ reader.old }
+// Whether a claim may compare some bits of the amount.
+fn has_bits(amount: Amount) -> bool {
+    match amount {
+        Amount::Bits { .. } | Amount::Value { .. } | Amount::Register { .. } => true,
+        Amount::Items { .. }
+        | Amount::Bytes { .. }
+        | Amount::Messages { .. }
+        | Amount::Pc { .. }
+        | Amount::Tick => false,
+    }
+}
+
+// The claim that begins with this word and compares an amount, but for a register.
+#[tactic(auto, using(crate::proofs::ClaimLaws::about_behind))]
+fn of_amount(word: &[u8], reader: &mut GoalReader<'_, '_>) -> Result<Claim, NoGoal>
+    ensures claim { IfOk result (IsClaimOf reader.old.app.runs) }
+    ensures read { IfOk result (ReadsBehind word.now reader.old reader.new) }
+    ensures app { reader.new.app ≡ reader.old.app }
 {
-    let word = reader.next(Wanted::Claim)?;
+    let amount = amount(word, reader)?;
+    if has_bits(amount) {
+        masked(amount, reader)
+    } else {
+        compared(amount, reader)
+    }
+}
+
+// The claim that a task's phase is called so.
+fn in_named_phase(reader: &mut GoalReader<'_, '_>) -> Result<Claim, NoGoal>
+    ensures claim { IfOk result (IsClaimOf reader.old.app.runs) }
+    ensures read { IfOk result (ReadsBehind (codes "phase") reader.old reader.new) }
+    ensures app { reader.new.app ≡ reader.old.app }
+{
+    let task = reader.task()?;
+    let name = reader.phase()?;
+    Ok(in_phase(task, name))
+}
+
+// The claim that the task's script has ended.
+fn ended(reader: &mut GoalReader<'_, '_>) -> Result<Claim, NoGoal>
+    ensures claim { IfOk result (IsClaimOf reader.old.app.runs) }
+    ensures read { IfOk result (ReadsBehind (codes "ended") reader.old reader.new) }
+    ensures app { reader.new.app ≡ reader.old.app }
+{
+    let task = reader.task()?;
+    Ok(in_phase(task, PhaseName::Ended))
+}
+
+// The claim that the task is on a core.
+fn runs(reader: &mut GoalReader<'_, '_>) -> Result<Claim, NoGoal>
+    ensures claim { IfOk result (IsClaimOf reader.old.app.runs) }
+    ensures read { IfOk result (ReadsBehind (codes "runs") reader.old reader.new) }
+    ensures app { reader.new.app ≡ reader.old.app }
+{
+    let task = reader.task()?;
+    Ok(Claim::Runs { task })
+}
+
+// The claim about all tasks that this word is, if it is one.
+fn of_all(word: &[u8]) -> Option<Claim>
+    ensures named { IfSome result (λ claim. (app : Application) → IsClaimOf app claim) }
+    ensures said { IfSome result (IsAlone word.now) }
+{
+    match word {
+        b"finished" => Some(Claim::Finished),
+        b"asleep" => Some(Claim::Asleep),
+        _ => None,
+    }
+}
+
+// The claim that begins with this word.
+#[tactic(auto, using(crate::proofs::ClaimLaws::behind_alone))]
+fn begun_by(word: &[u8], reader: &mut GoalReader<'_, '_>) -> Result<Claim, NoGoal>
+    ensures claim { IfOk result (IsClaimOf reader.old.app.runs) }
+    ensures read { IfOk result (ReadsBehind word.now reader.old reader.new) }
+    ensures app { reader.new.app ≡ reader.old.app }
+{
     match word {
         b"reg" => register_claim(reader),
-        b"note" => {
-            let amount = value(reader)?;
-            masked(amount, reader)
-        }
-        b"pc" => {
-            let task = reader.task()?;
-            compared(Amount::Pc { task }, reader)
-        }
-        b"phase" => {
-            let task = reader.task()?;
-            let name = reader.phase()?;
-            Ok(in_phase(task, name))
-        }
+        b"phase" => in_named_phase(reader),
         b"at" => at(reader),
         b"waits" => waits(reader),
-        b"ended" => {
-            let task = reader.task()?;
-            Ok(in_phase(task, PhaseName::Ended))
-        }
-        b"runs" => {
-            let task = reader.task()?;
-            Ok(Claim::Runs { task })
-        }
+        b"ended" => ended(reader),
+        b"runs" => runs(reader),
         b"failed" => failed(reader),
-        b"finished" => Ok(Claim::Finished),
-        b"asleep" => Ok(Claim::Asleep),
-        _ => of_amount(word, reader),
+        _ => match of_all(word) {
+            Some(claim) => Ok(claim),
+            None => of_amount(word, reader),
+        },
     }
+}
+
+/// The claim that the next words are.
+#[tactic(auto, using(crate::proofs::ClaimLaws::behind_first))]
+pub(crate) fn claim(reader: &mut GoalReader<'_, '_>) -> Result<Claim, NoGoal>
+    ensures claim { IfOk result (IsClaimOf reader.old.app.runs) }
+    ensures read { IfOk result (ReadsClaim reader.old reader.new) }
+    ensures app { reader.new.app ≡ reader.old.app }
+{
+    let word = reader.next(Wanted::Claim)?;
+    begun_by(word, reader)
 }

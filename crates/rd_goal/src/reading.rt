@@ -1,11 +1,15 @@
 //! Goals as words: what a goal is read from.
 
-ghost use Rattle.std.specs.Prelude.{◌≡◌, IfOk};
+ghost use Rattle.std.specs.Prelude.{◌≡◌, ◌<◌, ◌++◌, ◌∷◌, [], List, length, IfOk, OnOk};
 ghost use Rattle.rd_goal.specs.Goals.{IsGoalOf, IsRowOf};
+ghost use Rattle.rd_goal.specs.Reading.{GoesOn, HasFormula, IsAmid, IsJoined, IsRead, IsSettled};
+ghost use Rattle.rd_goal.specs.Reading.{IsTaken, IsWanting, Reads, strength_of, with_row};
+ghost use Rattle.rd_goal.specs.Written.{IsWritten, Sign, close_sign};
+ghost use Rattle.rd_text.specs.Words.{texts};
 
 use crate::claim_words::claim;
 use crate::goal::{Goal, GoalRow, MAX_ROWS};
-use crate::words::GoalReader;
+use crate::words::{GoalReader, Joining};
 use arrayvec::ArrayVec;
 use rd_bytes::no_memory::NoMemory;
 use rd_names::app::App;
@@ -107,19 +111,26 @@ struct Draft<'r, 'a> {
 }
 
 impl<'r, 'a> Model for Draft<'r, 'a> {
-    ghost use Rattle.rd_names.specs.Apps.{AppView};
     ghost use Rattle.rd_goal.specs.Goals.{IsGoalOf};
+    ghost use Rattle.rd_goal.specs.Reading.{DraftView};
 
-    ghost Value = { AppView };
+    ghost Value = { DraftView };
 
-    ghost view = { λ d. d.reader };
+    ghost view = { λ d. record {
+      words = d.reader;
+      rows = d.goal;
+      operands = d.rows.items;
+      pending = d.pending.items;
+    } };
 
-    ghost invariant = { λ d. IsGoalOf d.reader.runs d.goal };
+    ghost invariant = { λ d. IsGoalOf d.reader.app.runs d.goal };
 }
 
 impl PendingOperator {
     // How much it binds: whatever binds as much or more is joined before it.
-    fn strength(self) -> u8 {
+    fn strength(self) -> u8
+        ensures { result ≡ strength_of self }
+    {
         match self {
             PendingOperator::Open => 0,
             PendingOperator::Either => 1,
@@ -131,7 +142,12 @@ impl PendingOperator {
 
 impl<'r, 'a> Draft<'r, 'a> {
     fn new(alloc: Global, reader: GoalReader<'r, 'a>) -> Draft<'r, 'a>
-        ensures { result ≡ reader.entry }
+        ensures { result ≡ record {
+          words = reader.entry;
+          rows = [];
+          operands = [];
+          pending = [];
+        } }
     {
         Draft {
             reader,
@@ -143,8 +159,9 @@ impl<'r, 'a> Draft<'r, 'a> {
 
     // Adds a row, which no other joins yet.
     fn add(&mut self, row: GoalRow) -> Result<(), NoGoal>
-        requires { IsRowOf self.old.runs row }
-        ensures { self.new ≡ self.old }
+        requires { IsRowOf self.old.words.app.runs row }
+        ensures added { OnOk result (self.new ≡ with_row self.old self.old.operands row) }
+        ensures words { self.new.words ≡ self.old.words }
     {
         let number = self.goal.len();
         if number >= MAX_ROWS {
@@ -156,21 +173,25 @@ impl<'r, 'a> Draft<'r, 'a> {
 
     // Has an operator wait for its right operand, or for its parenthesis to be closed.
     fn pend(&mut self, operator: PendingOperator) -> Result<(), NoGoal>
-        ensures { self.new ≡ self.old }
+        ensures pending { OnOk result (self.new
+            ≡ record self.old { pending = self.old.pending ++ operator ∷ [] }) }
+        ensures words { self.new.words ≡ self.old.words }
     {
         self.pending.try_push(operator).map_err(|_| NoGoal::TooLong)
     }
 
     // The last row that no other joins yet.
     fn operand(&mut self) -> usize
-        ensures { self.new ≡ self.old }
+        ensures taken { IsTaken self.old self.new result }
+        ensures words { self.new.words ≡ self.old.words }
     {
         self.rows.pop().unwrap_or(0)
     }
 
     // Joins the last rows by an operator.
     fn join(&mut self, operator: PendingOperator) -> Result<(), NoGoal>
-        ensures { self.new ≡ self.old }
+        ensures joined { OnOk result (IsJoined operator self.old self.new) }
+        ensures words { self.new.words ≡ self.old.words }
     {
         let other = self.operand();
         match operator {
@@ -187,9 +208,13 @@ impl<'r, 'a> Draft<'r, 'a> {
         }
     }
 
-    // Joins by the last operators, as far as they bind so much or more.
+    // Joins by the last operators, as far as they bind so much or more. (Each turn adds a row: there
+    // is room for no more turns.)
     fn settle(&mut self, strength: u8) -> Result<(), NoGoal>
-        ensures { self.new ≡ self.old }
+        requires { 0 < strength }
+        ensures settled { OnOk result ((signs : List Sign) → HasFormula strength self.old signs
+            → IsSettled strength self.new signs) }
+        ensures words { self.new.words ≡ self.old.words }
     {
         for _ in 0..MAX_ROWS {
             match self.pending.last().copied() {
@@ -200,23 +225,29 @@ impl<'r, 'a> Draft<'r, 'a> {
                 Some(_) | None => return Ok(()),
             }
         }
-        Ok(())
+        Err(NoGoal::TooLong)
     }
 
     // Closes a parenthesis.
     fn close(&mut self) -> Result<(), NoGoal>
-        ensures { self.new ≡ self.old }
+        ensures closed { OnOk result ((signs : List Sign) → HasFormula 3 self.old signs
+            → HasFormula 3 self.new (signs ++ close_sign ∷ [])) }
+        ensures words { self.new.words ≡ self.old.words }
     {
         self.settle(PendingOperator::Either.strength())?;
-        match self.pending.pop() {
-            Some(_open) => Ok(()),
-            None => Err(self.reader.unopened()),
-        }
+        let Some(_open) = self.pending.pop() else {
+            return Err(self.reader.unopened());
+        };
+        Ok(())
     }
 
     // Reads what begins a formula, and answers whether another one is wanted behind it.
     fn begin(&mut self) -> Result<bool, NoGoal>
-        ensures { self.new ≡ self.old }
+        ensures goes_on { IfOk result (λ is_wanted. (signs : List Sign) → IsWanting self.old signs
+            → GoesOn self.old self.new signs is_wanted) }
+        ensures less { IfOk result (λ is_wanted.
+            length self.new.words.ahead < length self.old.words.ahead) }
+        ensures app { self.new.words.app ≡ self.old.words.app }
     {
         if self.reader.takes(b"not") {
             self.pend(PendingOperator::Not)?;
@@ -233,30 +264,51 @@ impl<'r, 'a> Draft<'r, 'a> {
 
     // Reads what follows a formula, and answers whether another one is wanted behind it.
     fn go_on(&mut self) -> Result<bool, NoGoal>
-        ensures { self.new ≡ self.old }
+        ensures goes_on { IfOk result (λ is_wanted. (signs : List Sign) → HasFormula 3 self.old signs
+            → GoesOn self.old self.new signs is_wanted) }
+        ensures less { IfOk result (λ is_wanted.
+            length self.new.words.ahead < length self.old.words.ahead) }
+        ensures app { self.new.words.app ≡ self.old.words.app }
     {
-        match self.reader.next(Wanted::Join)? {
-            b"and" => {
+        match self.reader.joining()? {
+            Joining::And => {
                 self.settle(PendingOperator::Both.strength())?;
                 self.pend(PendingOperator::Both)?;
                 Ok(true)
             }
-            b"or" => {
+            Joining::Or => {
                 self.settle(PendingOperator::Either.strength())?;
                 self.pend(PendingOperator::Either)?;
                 Ok(true)
             }
-            b")" => {
+            Joining::Close => {
                 self.close()?;
                 Ok(false)
             }
-            _ => Err(self.reader.wanted(Wanted::Join)),
+        }
+    }
+
+    // Reads on, where a formula is wanted or one has ended, and answers whether another one is wanted
+    // then.
+    fn advance(&mut self, is_wanted: bool) -> Result<bool, NoGoal>
+        ensures goes_on { IfOk result (λ wants_next. (signs : List Sign) → IsAmid is_wanted self.old signs
+            → GoesOn self.old self.new signs wants_next) }
+        ensures less { IfOk result (λ wants_next.
+            length self.new.words.ahead < length self.old.words.ahead) }
+        ensures app { self.new.words.app ≡ self.old.words.app }
+    {
+        if is_wanted {
+            self.begin()
+        } else {
+            self.go_on()
         }
     }
 
     // The goal, where its last formula has ended.
     fn end(self) -> Result<Goal, NoGoal>
-        ensures { IfOk result (IsGoalOf self.entry.runs) }
+        ensures named { IfOk result (IsGoalOf self.entry.words.app.runs) }
+        ensures read { IfOk result (λ goal. (signs : List Sign) → HasFormula 3 self.entry signs
+            → IsRead signs goal) }
     {
         let mut draft = self;
         draft.settle(PendingOperator::Either.strength())?;
@@ -279,7 +331,8 @@ impl<'r, 'a> Draft<'r, 'a> {
 ///   `asleep`, as `Claim` says. PLACE is `recv Q`, `send Q`, `select S`, `read B`, `write B`, `note
 ///   I` or `group G`; `sread`, `swrite`, `mread` and `mwrite` say which kind of buffer it is.
 pub fn read_goal(alloc: Global, app: &App, words: &[&[u8]]) -> Result<Goal, NoGoal>
-    ensures { IfOk result (IsGoalOf app.now.runs) }
+    ensures written { IfOk result (IsWritten app.now (texts words.now)) }
+    ensures named { IfOk result (IsGoalOf app.now.runs) }
 {
     let mut draft = Draft::new(alloc, GoalReader::new(app, words));
     let mut is_wanted = true;
@@ -287,11 +340,7 @@ pub fn read_goal(alloc: Global, app: &App, words: &[&[u8]]) -> Result<Goal, NoGo
         if draft.reader.is_over() {
             break;
         }
-        is_wanted = if is_wanted {
-            draft.begin()?
-        } else {
-            draft.go_on()?
-        };
+        is_wanted = draft.advance(is_wanted)?;
     }
     if is_wanted {
         return Err(NoGoal::Ends {

@@ -1,8 +1,13 @@
 //! The words of a goal, looked up in an application one after another.
 
-ghost use Rattle.std.specs.Prelude.{◌≡◌, ◌<◌, length, IfOk};
+ghost use Rattle.std.specs.Prelude.{◌≡◌, ◌<◌, ◌∷◌, [], false, length, nat_eq, true};
+ghost use Rattle.std.specs.Prelude.{IfNone, IfOk, IfSome};
 ghost use Rattle.rd_app.specs.declared.instr.TheConstants.{REGISTERS};
 ghost use Rattle.rd_names.specs.Names.{names_of};
+ghost use Rattle.rd_text.specs.Words.{texts};
+ghost use Rattle.rd_text.specs.declared.kind.Kind.TheVariants as kind;
+ghost use Rattle.rd_goal.specs.Reading.{Reads, joining_word};
+ghost use Rattle.rd_goal.specs.Written.{Itself, Named, Numeral, comparison_word, phase_word};
 
 use crate::reading::{NoGoal, Wanted};
 use rd_app::instr::REGISTERS;
@@ -11,6 +16,17 @@ use rd_names::app::App;
 use rd_text::kind::Kind;
 use rd_text::words::{name, number};
 use std::marker::Model;
+
+/// What stands behind a formula.
+#[derive(Clone, Copy)]
+pub(crate) enum Joining {
+    /// `and`
+    And,
+    /// `or`
+    Or,
+    /// `)`
+    Close,
+}
 
 /// Reads the words of a goal, which stands in this application.
 #[derive(Drop)]
@@ -22,20 +38,60 @@ pub(crate) struct GoalReader<'r, 'a> {
 }
 
 impl<'r, 'a> Model for GoalReader<'r, 'a> {
-    ghost use Rattle.std.specs.Prelude.{◌≤◌, length};
-    ghost use Rattle.rd_names.specs.Apps.{AppView};
+    ghost use Rattle.std.specs.Prelude.{◌≤◌, drop, length};
+    ghost use Rattle.rd_text.specs.Words.{texts};
+    ghost use Rattle.rd_goal.specs.Reading.{WordsView};
 
-    ghost Value = { AppView };
+    ghost Value = { WordsView };
 
-    ghost view = { λ r. r.app.now };
+    ghost view = { λ r. record { app = r.app.now; ahead = drop r.read (texts r.words.now) } };
 
     ghost invariant = { λ r. r.read ≤ length r.words.now };
+}
+
+// How amounts are compared that are compared by this word.
+fn comparison_of(word: &[u8]) -> Option<Comparison>
+    ensures { IfSome result (λ comparison. word.now ≡ comparison_word comparison) }
+{
+    match word {
+        b"=" => Some(Comparison::Equal),
+        b"<" => Some(Comparison::Less),
+        b">" => Some(Comparison::Greater),
+        _ => None,
+    }
+}
+
+// What is called so of phases.
+fn phase_of(word: &[u8]) -> Option<PhaseName>
+    ensures { IfSome result (λ name. word.now ≡ phase_word name) }
+{
+    match word {
+        b"run" => Some(PhaseName::Run),
+        b"again" => Some(PhaseName::Again),
+        b"given" => Some(PhaseName::Given),
+        b"wait" => Some(PhaseName::Wait),
+        b"ended" => Some(PhaseName::Ended),
+        b"failed" => Some(PhaseName::Failed),
+        _ => None,
+    }
+}
+
+// What this word is behind a formula.
+fn joining_of(word: &[u8]) -> Option<Joining>
+    ensures { IfSome result (λ joining. word.now ≡ joining_word joining) }
+{
+    match word {
+        b"and" => Some(Joining::And),
+        b"or" => Some(Joining::Or),
+        b")" => Some(Joining::Close),
+        _ => None,
+    }
 }
 
 impl<'r, 'a> GoalReader<'r, 'a> {
     /// Reads these words in this application.
     pub(crate) fn new(app: &'r App, words: &'r [&'a [u8]]) -> GoalReader<'r, 'a>
-        ensures { result ≡ app.now }
+        ensures { result ≡ record { app = app.now; ahead = texts words.now } }
     {
         GoalReader {
             app,
@@ -46,13 +102,15 @@ impl<'r, 'a> GoalReader<'r, 'a> {
 
     /// The application.
     pub(crate) fn app(&self) -> &'r App
-        ensures { result.now ≡ self.now }
+        ensures { result.now ≡ self.now.app }
     {
         self.app
     }
 
     /// Whether all words are read.
-    pub(crate) fn is_over(&self) -> bool {
+    pub(crate) fn is_over(&self) -> bool
+        ensures { result ≡ nat_eq (length self.now.ahead) 0 }
+    {
         self.read == self.words.len()
     }
 
@@ -72,14 +130,20 @@ impl<'r, 'a> GoalReader<'r, 'a> {
 
     /// That word, which is read now, if there is such a one.
     pub(crate) fn operand(&mut self) -> Option<&'a [u8]>
-        ensures { self.new ≡ self.old }
+        ensures read { IfSome result (λ word. self.old.ahead ≡ word.now ∷ self.new.ahead) }
+        ensures stays { IfNone result (self.new ≡ self.old) }
+        ensures app { self.new.app ≡ self.old.app }
     {
         if !self.is_at_operand() {
             return None;
         }
-        let word = self.words.get(self.read).copied()?;
-        self.read += 1;
-        Some(word)
+        match self.words.get(self.read) {
+            Some(word) => {
+                self.read += 1;
+                Some(*word)
+            }
+            None => None,
+        }
     }
 
     /// Whether the word that comes next is the name of a stream buffer, and of no message buffer,
@@ -98,7 +162,9 @@ impl<'r, 'a> GoalReader<'r, 'a> {
 
     /// Reads the word that comes next, and answers whether it is this one; if not, it stays.
     pub(crate) fn takes(&mut self, wanted: &[u8]) -> bool
-        ensures { self.new ≡ self.old }
+        ensures read { result ≡ true → self.old.ahead ≡ wanted.now ∷ self.new.ahead }
+        ensures stays { result ≡ false → self.new ≡ self.old }
+        ensures app { self.new.app ≡ self.old.app }
     {
         match self.words.get(self.read) {
             Some(word) if *word == wanted => {
@@ -124,7 +190,8 @@ impl<'r, 'a> GoalReader<'r, 'a> {
 
     /// The next word, where something is wanted.
     pub(crate) fn next(&mut self, what: Wanted) -> Result<&'a [u8], NoGoal>
-        ensures { self.new ≡ self.old }
+        ensures read { IfOk result (λ word. self.old.ahead ≡ word.now ∷ self.new.ahead) }
+        ensures app { self.new.app ≡ self.old.app }
     {
         match self.words.get(self.read) {
             Some(word) => {
@@ -137,7 +204,8 @@ impl<'r, 'a> GoalReader<'r, 'a> {
 
     /// The next word, as a number.
     pub(crate) fn number(&mut self) -> Result<u32, NoGoal>
-        ensures { self.new ≡ self.old }
+        ensures read { IfOk result (λ number. Reads (Numeral number ∷ []) self.old self.new) }
+        ensures app { self.new.app ≡ self.old.app }
     {
         let word = self.next(Wanted::Number)?;
         match number(word) {
@@ -149,7 +217,8 @@ impl<'r, 'a> GoalReader<'r, 'a> {
     // The next word, as a number below a limit.
     fn below(&mut self, limit: usize, what: Wanted) -> Result<usize, NoGoal>
         ensures below { IfOk result (λ number. number < limit) }
-        ensures app { self.new ≡ self.old }
+        ensures read { IfOk result (λ number. Reads (Numeral number ∷ []) self.old self.new) }
+        ensures app { self.new.app ≡ self.old.app }
     {
         let word = self.next(what)?;
         match number(word) {
@@ -161,15 +230,17 @@ impl<'r, 'a> GoalReader<'r, 'a> {
     /// The next word, as a register.
     pub(crate) fn register(&mut self) -> Result<usize, NoGoal>
         ensures register { IfOk result (λ register. register < REGISTERS) }
-        ensures app { self.new ≡ self.old }
+        ensures read { IfOk result (λ register. Reads (Numeral register ∷ []) self.old self.new) }
+        ensures app { self.new.app ≡ self.old.app }
     {
         self.below(REGISTERS, Wanted::Register)
     }
 
     /// The next word, as the index of a notification entry.
     pub(crate) fn index(&mut self) -> Result<usize, NoGoal>
-        ensures index { IfOk result (λ index. index < self.old.runs.entries) }
-        ensures app { self.new ≡ self.old }
+        ensures index { IfOk result (λ index. index < self.old.app.runs.entries) }
+        ensures read { IfOk result (λ index. Reads (Numeral index ∷ []) self.old self.new) }
+        ensures app { self.new.app ≡ self.old.app }
     {
         let entries = self.app.program().entries();
         self.below(entries, Wanted::Index)
@@ -177,8 +248,9 @@ impl<'r, 'a> GoalReader<'r, 'a> {
 
     /// The next word, as the number of an instruction of the task's script.
     pub(crate) fn instruction(&mut self, task: usize) -> Result<usize, NoGoal>
-        requires { task < length self.old.runs.tasks }
-        ensures { self.new ≡ self.old }
+        requires { task < length self.old.app.runs.tasks }
+        ensures read { IfOk result (λ pc. Reads (Numeral pc ∷ []) self.old self.new) }
+        ensures app { self.new.app ≡ self.old.app }
     {
         let instructions = self.app.code(task).len();
         self.below(instructions, Wanted::Instruction)
@@ -186,8 +258,9 @@ impl<'r, 'a> GoalReader<'r, 'a> {
 
     // The next word, as the number of the thing of that kind that it names.
     fn named(&mut self, kind: Kind, what: Wanted) -> Result<usize, NoGoal>
-        ensures named { IfOk result (λ number. number < length (names_of kind self.old.names)) }
-        ensures app { self.new ≡ self.old }
+        ensures named { IfOk result (λ number. number < length (names_of kind self.old.app.names)) }
+        ensures read { IfOk result (λ number. Reads (Named kind number ∷ []) self.old self.new) }
+        ensures app { self.new.app ≡ self.old.app }
     {
         let word = self.next(what)?;
         let Some(name) = name(word) else {
@@ -201,8 +274,9 @@ impl<'r, 'a> GoalReader<'r, 'a> {
 
     /// The next word, as a queue.
     pub(crate) fn queue(&mut self) -> Result<usize, NoGoal>
-        ensures queue { IfOk result (λ queue. queue < length self.old.runs.objects.queues) }
-        ensures app { self.new ≡ self.old }
+        ensures queue { IfOk result (λ queue. queue < length self.old.app.runs.objects.queues) }
+        ensures read { IfOk result (λ queue. Reads (Named kind.Queue queue ∷ []) self.old self.new) }
+        ensures app { self.new.app ≡ self.old.app }
     {
         self.app.limits();
         self.named(Kind::Queue, Wanted::Queue)
@@ -210,8 +284,9 @@ impl<'r, 'a> GoalReader<'r, 'a> {
 
     /// The next word, as a queue set.
     pub(crate) fn queue_set(&mut self) -> Result<usize, NoGoal>
-        ensures queue_set { IfOk result (λ queue_set. queue_set < length self.old.runs.objects.queue_sets) }
-        ensures app { self.new ≡ self.old }
+        ensures queue_set { IfOk result (λ queue_set. queue_set < length self.old.app.runs.objects.queue_sets) }
+        ensures read { IfOk result (λ queue_set. Reads (Named kind.QueueSet queue_set ∷ []) self.old self.new) }
+        ensures app { self.new.app ≡ self.old.app }
     {
         self.app.limits();
         self.named(Kind::QueueSet, Wanted::QueueSet)
@@ -219,8 +294,9 @@ impl<'r, 'a> GoalReader<'r, 'a> {
 
     /// The next word, as a stream buffer.
     pub(crate) fn stream(&mut self) -> Result<usize, NoGoal>
-        ensures stream { IfOk result (λ stream. stream < length self.old.runs.objects.streams) }
-        ensures app { self.new ≡ self.old }
+        ensures stream { IfOk result (λ stream. stream < length self.old.app.runs.objects.streams) }
+        ensures read { IfOk result (λ stream. Reads (Named kind.Stream stream ∷ []) self.old self.new) }
+        ensures app { self.new.app ≡ self.old.app }
     {
         self.app.limits();
         self.named(Kind::Stream, Wanted::Stream)
@@ -228,8 +304,9 @@ impl<'r, 'a> GoalReader<'r, 'a> {
 
     /// The next word, as a message buffer.
     pub(crate) fn message(&mut self) -> Result<usize, NoGoal>
-        ensures message { IfOk result (λ message. message < length self.old.runs.objects.messages) }
-        ensures app { self.new ≡ self.old }
+        ensures message { IfOk result (λ message. message < length self.old.app.runs.objects.messages) }
+        ensures read { IfOk result (λ message. Reads (Named kind.Message message ∷ []) self.old self.new) }
+        ensures app { self.new.app ≡ self.old.app }
     {
         self.app.limits();
         self.named(Kind::Message, Wanted::Message)
@@ -237,8 +314,9 @@ impl<'r, 'a> GoalReader<'r, 'a> {
 
     /// The next word, as an event group.
     pub(crate) fn group(&mut self) -> Result<usize, NoGoal>
-        ensures group { IfOk result (λ group. group < length self.old.runs.objects.groups) }
-        ensures app { self.new ≡ self.old }
+        ensures group { IfOk result (λ group. group < length self.old.app.runs.objects.groups) }
+        ensures read { IfOk result (λ group. Reads (Named kind.Group group ∷ []) self.old self.new) }
+        ensures app { self.new.app ≡ self.old.app }
     {
         self.app.limits();
         self.named(Kind::Group, Wanted::Group)
@@ -246,8 +324,9 @@ impl<'r, 'a> GoalReader<'r, 'a> {
 
     /// The next word, as a task.
     pub(crate) fn task(&mut self) -> Result<usize, NoGoal>
-        ensures task { IfOk result (λ task. task < length self.old.runs.tasks) }
-        ensures app { self.new ≡ self.old }
+        ensures task { IfOk result (λ task. task < length self.old.app.runs.tasks) }
+        ensures read { IfOk result (λ task. Reads (Named kind.Task task ∷ []) self.old self.new) }
+        ensures app { self.new.app ≡ self.old.app }
     {
         self.app.limits();
         self.named(Kind::Task, Wanted::Task)
@@ -255,28 +334,37 @@ impl<'r, 'a> GoalReader<'r, 'a> {
 
     /// The next word, as how amounts are compared.
     pub(crate) fn comparison(&mut self) -> Result<Comparison, NoGoal>
-        ensures { self.new ≡ self.old }
+        ensures read { IfOk result (λ comparison.
+            Reads (Itself (comparison_word comparison) ∷ []) self.old self.new) }
+        ensures app { self.new.app ≡ self.old.app }
     {
-        match self.next(Wanted::Comparison)? {
-            b"=" => Ok(Comparison::Equal),
-            b"<" => Ok(Comparison::Less),
-            b">" => Ok(Comparison::Greater),
-            _ => Err(self.wanted(Wanted::Comparison)),
+        match comparison_of(self.next(Wanted::Comparison)?) {
+            Some(comparison) => Ok(comparison),
+            None => Err(self.wanted(Wanted::Comparison)),
+        }
+    }
+
+    /// The next word, as what stands behind a formula.
+    pub(crate) fn joining(&mut self) -> Result<Joining, NoGoal>
+        ensures read { IfOk result (λ joining.
+            Reads (Itself (joining_word joining) ∷ []) self.old self.new) }
+        ensures app { self.new.app ≡ self.old.app }
+    {
+        match joining_of(self.next(Wanted::Join)?) {
+            Some(joining) => Ok(joining),
+            None => Err(self.wanted(Wanted::Join)),
         }
     }
 
     /// The next word, as what a phase is called.
     pub(crate) fn phase(&mut self) -> Result<PhaseName, NoGoal>
-        ensures { self.new ≡ self.old }
+        ensures read { IfOk result (λ name.
+            Reads (Itself (phase_word name) ∷ []) self.old self.new) }
+        ensures app { self.new.app ≡ self.old.app }
     {
-        match self.next(Wanted::Phase)? {
-            b"run" => Ok(PhaseName::Run),
-            b"again" => Ok(PhaseName::Again),
-            b"given" => Ok(PhaseName::Given),
-            b"wait" => Ok(PhaseName::Wait),
-            b"ended" => Ok(PhaseName::Ended),
-            b"failed" => Ok(PhaseName::Failed),
-            _ => Err(self.wanted(Wanted::Phase)),
+        match phase_of(self.next(Wanted::Phase)?) {
+            Some(name) => Ok(name),
+            None => Err(self.wanted(Wanted::Phase)),
         }
     }
 }

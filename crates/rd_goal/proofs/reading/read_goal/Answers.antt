@@ -1,0 +1,32 @@
+use Rattle.std.proofs.Common.{◌≡◌, ◌∙◌, ◌++◌, Bool, [], ap, arith, length, subst, sym}
+use Rattle.rd_text.specs.Words.{texts}
+use Rattle.rd_goal.specs.Reading.{DraftView, IsAmid}
+use Rattle.rd_goal.proofs.DraftLaws.{if_ok, is_written, no_items, none_left}
+use Rattle.rd_goal.proofs.WordLaws.{reads_both}
+use Rattle.rd_goal.proofs.reading.read_goal.Goals as goal
+use Rattle.rd_goal.proofs.reading.read_goal.Goals.{else-loop-test, then-loop-test+then-is_over}
+
+pub loop-preserved : goal.loop-preserved
+loop-preserved c =
+    let held = c.loop.invariant in
+    let more = c.in_ok-is_wanted.ensures.goes_on held.signs held.amid in
+    record {
+      signs = held.signs ++ more.more;
+      reads =
+          reads_both held.signs more.more (record { app = c.args.app.now; ahead = texts c.args.words.now }) c.loop.draft.words c.advance.new.self.words
+          held.reads more.reads;
+      amid = more.amid;
+      less = let was = held.less in let less = c.in_ok-is_wanted.ensures.less in omega (arith, was, less);
+    }
+
+pub returns-clause-written : goal.returns-clause-written
+returns-clause-written c =
+    let app = c.args.app.now in
+    let words = texts c.args.words.now in
+    let held = c.loop.invariant in
+    let over : c.loop.draft.words.ahead ≡ [] = elim c.loop-test.branch [
+      | else-loop-test w ↦ none_left c.loop.draft.words.ahead c.loop.counter (length c.args.words.now) held.less w.loop-test.false
+      | then-loop-test+then-is_over w ↦ sym (ap (λ (d : DraftView). d.words.ahead) w.draft.view_is) ∙ no_items w.draft.inside.reader.ahead w.if-is_over.ensures
+    ] in
+    let amid = subst (λ (b : Bool). IsAmid b c.loop.draft held.signs) c.if-is_wanted.false held.amid in
+    if_ok c.end.result (λ goal read. is_written app words c.loop.draft.words held.signs goal held.reads over (read held.signs amid)) c.end.ensures.read
