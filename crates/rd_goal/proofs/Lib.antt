@@ -3,3 +3,4 @@ pub mod GoalLaws
 pub mod WordLaws
 pub mod ClaimLaws
 pub mod DraftLaws
+pub mod TextLaws

@@ -1,6 +1,7 @@
 -- What is read of a goal's words so far, and what stands in its rows by then.
-use Rattle.std.specs.Prelude.{ℕ, ◌≡◌, ◌+◌, ◌<◌, ◌≤◌, ◌++◌, ◌∷◌, Bool, true, false, List, []}
-use Rattle.std.specs.Prelude.{codes, length}
+use Rattle.std.specs.Prelude.{ℕ, ◌≡◌, ◌+◌, ◌-◌, ◌<◌, ◌≤◌, ◌++◌, ◌∷◌, Bool, true, false, List, []}
+use Rattle.std.specs.Prelude.{codes, drop, filter, if◌then◌else◌, length, take}
+use Rattle.rd_text.specs.Words.{is_some_word, is_space}
 use Rattle.rd_state.specs.Snapshot.{Snapshot}
 use Rattle.rd_names.specs.Apps.{AppView}
 use Rattle.rd_condition.specs.declared.condition.Amount.{Amount}
@@ -19,6 +20,20 @@ use Rattle.rd_goal.specs.declared.reading.PendingOperator.TheVariants as operato
 use Rattle.rd_goal.specs.declared.words.Joining.{Joining}
 use Rattle.rd_goal.specs.declared.words.Joining.TheVariants as joining
 use Rattle.rd_state.specs.declared.phase.Place.{Place}
+
+-- ---- texts
+
+-- what stands between two places of a text
+abbrev pub part_of : List ℕ → ℕ → ℕ → List ℕ
+part_of text from to = take (to - from) (drop from text)
+
+-- the part as a word, unless it is empty
+abbrev pub word_in : List ℕ → List (List ℕ)
+word_in part = filter is_some_word (part ∷ [])
+
+-- the byte as a word, unless it is a space
+abbrev pub parenthesis_in : ℕ → List (List ℕ)
+parenthesis_in byte = if is_space byte then [] else (byte ∷ []) ∷ []
 
 -- ---- words
 

@@ -1,6 +1,6 @@
 -- How goals are written.
-use Rattle.std.specs.Prelude.{ℕ, ◌≡◌, ◌≤◌, ◌⊎◌, ◌&&◌, ◌||◌, ◌++◌, ◌∷◌, Bool, not, List, []}
-use Rattle.std.specs.Prelude.{Some, codes, slice_get}
+use Rattle.std.specs.Prelude.{ℕ, ◌≡◌, ◌≤◌, ◌⊎◌, ◌&&◌, ◌||◌, ◌++◌, ◌∷◌, ◌==◌, Bool, not, List, []}
+use Rattle.std.specs.Prelude.{Some, codes, if◌then◌else◌, slice_get}
 use Rattle.rd_text.specs.Words.{number_of}
 use Rattle.rd_text.specs.declared.kind.Kind.{Kind}
 use Rattle.rd_text.specs.declared.kind.Kind.TheVariants as kind
@@ -28,6 +28,20 @@ use Rattle.rd_goal.specs.declared.claim.Claim.{Claim}
 use Rattle.rd_goal.specs.declared.claim.Claim.TheVariants.{Holds, Masked, Among, At, Waits, Runs}
 use Rattle.rd_goal.specs.declared.claim.Claim.TheVariants.{SomeFailed, Finished, Asleep}
 use Rattle.rd_goal.specs.declared.goal.GoalRow.{GoalRow}
+
+-- ---- texts
+
+abbrev pub is_parenthesis : ℕ → Bool
+is_parenthesis byte = byte == 40 || byte == 41
+
+-- a byte, with a space on either side where it is a parenthesis
+abbrev pub spaced_byte : ℕ → List ℕ
+spaced_byte byte = if is_parenthesis byte then 32 ∷ byte ∷ 32 ∷ [] else byte ∷ []
+
+-- a text with a space on either side of each parenthesis
+abbrev pub spaced : List ℕ → List ℕ
+spaced [] = []
+spaced (byte ∷ text) = spaced_byte byte ++ spaced text
 
 -- ---- words
 

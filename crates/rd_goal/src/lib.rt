@@ -1,6 +1,6 @@
 //! Goals: what is looked for in a search through orders.
 //! Page: `docs/REACHING.md`. Definitions in reading order (`specs/`): `Claims`, `Goals`, `OnTick`,
-//! `OnRegisters`.
+//! `OnRegisters`, `Written`, `Reading`.
 #![tactic(auto)]
 
 pub mod claim;

@@ -1,11 +1,13 @@
 //! Goals as words: what a goal is read from.
 
-ghost use Rattle.std.specs.Prelude.{◌≡◌, ◌<◌, ◌++◌, ◌∷◌, [], List, length, IfOk, OnOk};
+ghost use Rattle.std.specs.Prelude.{◌≡◌, ◌<◌, ◌≤◌, ◌++◌, ◌||◌, ◌∷◌, [], List, length, slice_index};
+ghost use Rattle.std.specs.Prelude.{IfOk, OnOk};
 ghost use Rattle.rd_goal.specs.Goals.{IsGoalOf, IsRowOf};
 ghost use Rattle.rd_goal.specs.Reading.{GoesOn, HasFormula, IsAmid, IsJoined, IsRead, IsSettled};
-ghost use Rattle.rd_goal.specs.Reading.{IsTaken, IsWanting, Reads, strength_of, with_row};
-ghost use Rattle.rd_goal.specs.Written.{IsWritten, Sign, close_sign};
-ghost use Rattle.rd_text.specs.Words.{texts};
+ghost use Rattle.rd_goal.specs.Reading.{IsTaken, IsWanting, parenthesis_in, part_of};
+ghost use Rattle.rd_goal.specs.Reading.{strength_of, with_row, word_in};
+ghost use Rattle.rd_goal.specs.Written.{IsWritten, Sign, close_sign, is_parenthesis, spaced};
+ghost use Rattle.rd_text.specs.Words.{is_space, texts, words_of};
 
 use crate::claim_words::claim;
 use crate::goal::{Goal, GoalRow, MAX_ROWS};
@@ -350,24 +352,57 @@ pub fn read_goal(alloc: Global, app: &App, words: &[&[u8]]) -> Result<Goal, NoGo
     draft.end()
 }
 
+// Whether a byte ends a word.
+fn ends_word(byte: u8) -> bool
+    ensures { result ≡ is_space byte || is_parenthesis byte }
+{
+    byte == b' ' || byte == b'(' || byte == b')'
+}
+
+// Adds a part of a text as a word, where it isn't empty.
+fn add_word<'a>(words: &mut Vec<&'a [u8]>, part: &'a [u8]) -> Result<(), AllocError>
+    ensures { OnOk result (texts words.new.items ≡ texts words.old.items ++ word_in part.entry.now) }
+{
+    if part.is_empty() {
+        return Ok(());
+    }
+    words.push(part)?;
+    Ok(())
+}
+
+// Adds what stands between two places of a text as a word, and the parenthesis at the second one,
+// where one is there.
+fn add_words<'a>(
+    words: &mut Vec<&'a [u8]>,
+    text: &'a [u8],
+    begun: usize,
+    at: usize,
+) -> Result<(), AllocError>
+    requires order { begun ≤ at }
+    requires within { at < length text.now }
+    ensures { OnOk result (texts words.new.items
+        ≡ (texts words.old.items ++ word_in (part_of text.entry.now begun at))
+        ++ parenthesis_in (slice_index text.entry.now at)) }
+{
+    add_word(words, &text[begun..at])?;
+    if text[at] != b' ' {
+        words.push(&text[at..at + 1])?;
+    }
+    Ok(())
+}
+
 /// The words of a text: parentheses are words by themselves, and spaces part the others.
-pub fn words_of<'a>(alloc: Global, text: &'a [u8]) -> Result<Vec<&'a [u8]>, AllocError> {
+pub fn words_of<'a>(alloc: Global, text: &'a [u8]) -> Result<Vec<&'a [u8]>, AllocError>
+    ensures { IfOk result (λ words. texts words.items ≡ words_of (spaced text.entry.now)) }
+{
     let mut words = Vec::new(alloc);
     let mut begun = 0;
     for at in 0..text.len() {
-        let byte = text[at];
-        if byte == b' ' || byte == b'(' || byte == b')' {
-            if begun < at {
-                words.push(&text[begun..at])?;
-            }
-            if byte != b' ' {
-                words.push(&text[at..at + 1])?;
-            }
+        if ends_word(text[at]) {
+            add_words(&mut words, text, begun, at)?;
             begun = at + 1;
         }
     }
-    if begun < text.len() {
-        words.push(&text[begun..])?;
-    }
+    add_word(&mut words, &text[begun..])?;
     Ok(words)
 }
