@@ -2,4 +2,5 @@
 pub mod AskedLaws
 pub mod LineLaws
 pub mod SaidLaws
+pub mod StatusLaws
 pub mod TextLaws

@@ -1,7 +1,7 @@
 -- What the words of the command line give.
-use Rattle.std.proofs.Common.{◌≡◌, ◌⊎◌, ◌∙◌, ◌≤◌, ℕ, Bool, true, false, List, [], ◌∷◌, Option, Some, None, option_map, is_some, Result, Ok, Err, IfOk, IfErr, inl, inr, ap, refl, subst, sym}
-use Rattle.clap.specs.Words.{App as CommandLine, FailsBy, HasMatchesOf, IsAmong, IsUnsignedIn, Row, Text, TriesOne, all_of, fault_of, found_of, is_simple, is_simple_and_free}
-use Rattle.clap.specs.Words.{matched_of, matches_of, one_of, one_text, raw_values, rows_of}
+use Rattle.std.proofs.Common.{◌≡◌, ◌⊎◌, ◌∙◌, ℕ, true, List, [], Option, Some, None, option_map, is_some, Result, Ok, Err, IfOk, inl, inr, ap, refl, subst, sym}
+use Rattle.clap.specs.Words.{App as CommandLine, FailsBy, HasMatchesOf, IsAmong, Row, Text, TriesOne, all_of, fault_of, found_of, is_simple, is_simple_and_free}
+use Rattle.clap.specs.Words.{matched_of, matches_of, one_text, raw_values, rows_of}
 use Rattle.clap.specs.declared.error.Error.{Error}
 use Rattle.clap.specs.declared.error.kind.ErrorKind.{ErrorKind as Refusal}
 use Rattle.clap.specs.declared.error.kind.ErrorKind.TheVariants as kind
@@ -9,7 +9,7 @@ use Rattle.clap.specs.declared.parser.matches.ArgMatches.{ArgMatches}
 use Rattle.clap.specs.declared.parser.matches.Found.{Found}
 use Rattle.clap.proofs.WalkLemmas.{one_text-rows, raw_values-rows}
 use Rattle.rd_start.specs.Requests.{number_asked}
-use Rattle.rd_question.specs.CommandLine.{IsAskedBy, IsFaultOfError, IsHelp, IsRequestIn, command_line, faults_of, number_said, rows_in}
+use Rattle.rd_question.specs.CommandLine.{IsAskedBy, IsHelp, IsRequestIn, command_line, faults_of, number_said, rows_in}
 use Rattle.rd_question.specs.declared.fault.ReachFault.{ReachFault}
 use Rattle.rd_question.specs.declared.options.ReachRequest.{ReachRequest}
 use Rattle.rd_question.specs.declared.options.ReachRequest.TheVariants.{Ask, Engine, Help}

@@ -6,7 +6,7 @@ use Rattle.std.specs.Str.{bytes_eq}
 use Rattle.std.specs.Option.{option_map_or}
 use Rattle.clap.specs.Lexer.{usize_max}
 use Rattle.clap.specs.Simple.{on_top}
-use Rattle.clap.specs.Words.{App as CommandLine, IsAmong, IsUnsignedIn, Row, Rule, Text, all_of}
+use Rattle.clap.specs.Words.{App as CommandLine, IsAmong, Row, Rule, Text, all_of}
 use Rattle.clap.specs.Words.{fault_of, first_of, matches_of, new_app, new_rule, one_of}
 use Rattle.clap.specs.declared.builder.action.ArgAction.TheVariants.{Append, SetTrue}
 use Rattle.clap.specs.declared.builder.value_parser.ValueParser.TheVariants.{Signed, Unsigned}
@@ -14,7 +14,7 @@ use Rattle.clap.specs.declared.error.kind.ErrorKind.{ErrorKind as Refusal}
 use Rattle.clap.specs.declared.error.kind.ErrorKind.TheVariants as kind
 use Rattle.rd_start.specs.Requests.{number_asked}
 use Rattle.rd_dealt.specs.Parts.{PartOf}
-use Rattle.rd_question.specs.Paces.{IsCrossed, IsOutOfForm, IsWritten}
+use Rattle.rd_question.specs.Paces.{IsWritten}
 use Rattle.rd_question.specs.Parts.{IsPart}
 use Rattle.rd_question.specs.declared.fault.ReachFault.{ReachFault}
 use Rattle.rd_question.specs.declared.fault.ReachFault.TheVariants as fault
@@ -23,8 +23,6 @@ use Rattle.rd_question.specs.declared.options.Question.{Question}
 use Rattle.rd_question.specs.declared.options.ReachRequest.{ReachRequest}
 use Rattle.rd_question.specs.declared.options.ReachRequest.TheVariants.{Ask, Engine, Help}
 use Rattle.rd_question.specs.declared.options.TheConstants.{MAX_MEMORY, MAX_MOVES, MAX_STATES}
-use Rattle.rd_question.specs.declared.pace.NoPace.{NoPace}
-use Rattle.rd_question.specs.declared.pace.NoPace.TheVariants.{Crossed, Form}
 use Rattle.rd_question.specs.declared.pace.Pace.{Pace}
 use Rattle.rd_question.specs.declared.pace.TheConstants.{NO_PACE}
 use Rattle.rd_question.specs.declared.query.Query.{Query}

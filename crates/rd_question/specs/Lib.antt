@@ -7,3 +7,4 @@ pub mod Paces
 pub mod Parts
 pub mod Questions
 pub mod Said
+pub mod Statuses

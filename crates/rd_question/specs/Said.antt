@@ -1,6 +1,6 @@
 -- What a line says to the engine.
 use Rattle.std.specs.Prelude.{◌≡◌, ◌≤◌, ◌⊎◌, ◌&&◌, ◌==◌, ◌++◌, ◌∷◌, ℕ, ⊤, Bool, true, false, List, []}
-use Rattle.std.specs.Prelude.{Option, Some, None, IfSome, codes, if◌then◌else◌, nat_le, option_map}
+use Rattle.std.specs.Prelude.{Option, Some, None, IfSome, codes, if◌then◌else◌, nat_le}
 use Rattle.std.specs.List.{after_first, before_first}
 use Rattle.std.specs.Str.{trim}
 use Rattle.rd_text.specs.Words.{number_of}

@@ -4,8 +4,12 @@ ghost use Rattle.std.specs.Prelude.{◌<◌, ◌≤◌, IfOk};
 ghost use Rattle.rd_app.specs.Application.{priorities_of};
 ghost use Rattle.rd_goal.specs.Goals.{IsGoalOf};
 ghost use Rattle.rd_question.specs.Questions.{IsQuestion};
+ghost use Rattle.rd_question.specs.Statuses.{IsAnswerFor, IsTold, IsToldOfFile};
+ghost use Rattle.rd_question.specs.Statuses.{TellsDoomed, TellsLost, TellsReach};
 ghost use Rattle.rd_reach.specs.Explored.{AreIsrsOf};
 ghost use Rattle.rd_reach.specs.Places.{choices_of};
+ghost use Rattle.rd_reach.specs.Searches.{IsForMost};
+ghost use Rattle.rd_start.specs.Requests.{IsOfAFile};
 ghost use Rattle.rd_state.specs.Settled.{IsSettled};
 ghost use Rattle.rd_state.specs.Valid.{IsValid};
 
@@ -41,10 +45,9 @@ use std::rt::Files;
 const MEBIBYTE: usize = 1_048_576;
 
 /// The application of the file at the path. `File` where there is none.
-pub(crate) fn application<H: Files + AllocGlobal>(
-    handle: &H,
-    path: &str,
-) -> Result<App, ReachFault> {
+pub(crate) fn application<H: Files + AllocGlobal>(handle: &H, path: &str) -> Result<App, ReachFault>
+    ensures { IfOk result IsOfAFile }
+{
     match load(handle, Some(path)) {
         Ok(app) => Ok(app),
         Err(fault) => {
@@ -98,6 +101,9 @@ fn answered<W: Onlooker>(
     requires few { choices_of app.now schedule.now < 256 }
     requires valid { IsValid app.now start }
     requires settled { IsSettled (priorities_of app.now) start }
+    ensures right { IfOk result (λ outcome. IsAnswerFor question.now.part app.now schedule.now
+        goal.now start outcome.answer) }
+    ensures most { IfOk result (λ outcome. IsForMost question.now.moves outcome.answer) }
 {
     let (manner, room) = (question.manner(), room_of(question));
     match &question.part {
@@ -121,7 +127,9 @@ fn reach<W: Write, E: Write>(
     requires goal { IsGoalOf asked.now.app.now.runs goal.now }
     requires isrs { AreIsrsOf asked.now.app.now.runs schedule.now }
     requires few { choices_of asked.now.app.now.runs schedule.now < 256 }
-    ensures { IfOk result (λ status. status ≤ 2) }
+    ensures told { IfOk result (TellsReach asked.now.question.now asked.now.app.now
+        schedule.now goal.now asked.now.lines.now) }
+    ensures within { IfOk result (λ status. status ≤ 2) }
 {
     let question = asked.question;
     let start = start_of(alloc, asked.app, question.from, asked.lines)?;
@@ -150,7 +158,9 @@ fn lose<W: Write, E: Write>(
     requires goal { IsGoalOf asked.now.app.now.runs goal.now }
     requires isrs { AreIsrsOf asked.now.app.now.runs schedule.now }
     requires few { choices_of asked.now.app.now.runs schedule.now < 256 }
-    ensures { IfOk result (λ status. status ≤ 2) }
+    ensures told { IfOk result (TellsLost asked.now.app.now schedule.now goal.now
+        asked.now.lines.now) }
+    ensures within { IfOk result (λ status. status ≤ 2) }
 {
     let question = asked.question;
     refuse_bounds(question)?;
@@ -183,7 +193,9 @@ fn doom<W: Write, E: Write>(
     requires goal { IsGoalOf asked.now.app.now.runs goal.now }
     requires isrs { AreIsrsOf asked.now.app.now.runs schedule.now }
     requires few { choices_of asked.now.app.now.runs schedule.now < 256 }
-    ensures { IfOk result (λ status. status ≤ 2) }
+    ensures told { IfOk result (TellsDoomed asked.now.app.now schedule.now goal.now
+        asked.now.lines.now) }
+    ensures within { IfOk result (λ status. status ≤ 2) }
 {
     let question = asked.question;
     refuse_bounds(question)?;
@@ -217,7 +229,9 @@ pub(crate) fn respond<W: Write, E: Write>(
     errors: &mut E,
 ) -> Result<u8, ReachFault>
     requires { IsQuestion asked.now.question.now }
-    ensures { IfOk result (λ status. status ≤ 2) }
+    ensures told { IfOk result (IsTold query asked.now.question.now asked.now.app.now
+        asked.now.lines.now) }
+    ensures within { IfOk result (λ status. status ≤ 2) }
 {
     let goal = goal_of(alloc, asked.app, words)?;
     let schedule = schedule_of(alloc, asked.app, asked.question)?;
@@ -240,7 +254,8 @@ pub(crate) fn ask<H: Files + AllocGlobal, W: Write, E: Write>(
     errors: &mut E,
 ) -> Result<u8, ReachFault>
     requires { IsQuestion question.now }
-    ensures { IfOk result (λ status. status ≤ 2) }
+    ensures told { IfOk result (IsToldOfFile question.now) }
+    ensures within { IfOk result (λ status. status ≤ 2) }
 {
     let app = application(handle, question.file)?;
     let lines = lines_of(handle, question.from)?;

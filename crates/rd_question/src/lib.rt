@@ -1,9 +1,10 @@
 //! What can still come in an application: the words that ask it, the answer, and what is told of it.
 //! Page: `docs/REACHING.md`. Definitions in reading order (`specs/`): `Asked`, `EngineView`,
-//! `Handlers`, `Paces`, `Parts`, `CommandLine`, `Questions`, `Said`.
+//! `Handlers`, `Paces`, `Parts`, `CommandLine`, `Questions`, `Statuses`, `Said`.
 #![tactic(auto)]
 
-ghost use Rattle.std.specs.Prelude.{◌≡◌, ◌≤◌, IfOk};
+ghost use Rattle.std.specs.Prelude.{◌≡◌, ◌≢◌, ◌≤◌, IfOk, map, string_bytes};
+ghost use Rattle.rd_question.specs.Statuses.{IsStatusOf};
 
 pub mod asking;
 mod dialogue;
@@ -49,7 +50,8 @@ pub fn run_main<H: Files + AllocGlobal, R: Read, W: Write, E: Write>(
     writer: &mut W,
     errors: &mut E,
 ) -> u8
-    ensures { result ≤ 2 }
+    ensures statuses { result ≤ 2 }
+    ensures told { result ≢ 2 → IsStatusOf (map string_bytes words.now) result }
 {
     match run(handle, words, reader, writer, errors) {
         Ok(status) => status,
@@ -86,7 +88,8 @@ fn run<H: Files + AllocGlobal, R: Read, W: Write, E: Write>(
     writer: &mut W,
     errors: &mut E,
 ) -> Result<u8, ReachFault>
-    ensures { IfOk result (λ status. status ≤ 2) }
+    ensures told { IfOk result (IsStatusOf (map string_bytes words.now)) }
+    ensures within { IfOk result (λ status. status ≤ 2) }
 {
     match options(handle.alloc(), words)? {
         ReachRequest::Ask { question } => ask(handle, &question, writer, errors),
@@ -95,7 +98,7 @@ fn run<H: Files + AllocGlobal, R: Read, W: Write, E: Write>(
             Ok(NONE)
         }
         ReachRequest::Help { text } => {
-            let _ = writer.write_all(text.as_bytes());
+            writer.write_all(text.as_bytes())?;
             Ok(NONE)
         }
     }

@@ -1,6 +1,7 @@
 //! What is told of whether a goal can be lost.
 
-ghost use Rattle.std.specs.Prelude.{◌≤◌, IfOk};
+ghost use Rattle.std.specs.Prelude.{◌≡◌, ◌≤◌, IfOk};
+ghost use Rattle.rd_question.specs.Statuses.{status_of_verdict};
 
 use crate::telling::{
     AskedQuestion, FOUND, NONE, UNTOLD, tell_counts, tell_lines, tell_missed, tell_order, told,
@@ -15,7 +16,7 @@ fn tell_verdict<W: Write>(
     asked: &AskedQuestion<'_>,
     verdict: &Verdict,
 ) -> io::Result<u8>
-    ensures { IfOk result (λ status. status ≤ 2) }
+    ensures { IfOk result (λ status. status ≡ status_of_verdict verdict.now) }
 {
     match verdict {
         Verdict::Found(order) => {
@@ -47,7 +48,8 @@ pub(crate) fn tell_doomed<W: Write>(
     asked: &AskedQuestion<'_>,
     doomed: &Doomed,
 ) -> io::Result<u8>
-    ensures { IfOk result (λ status. status ≤ 2) }
+    ensures status { IfOk result (λ status. status ≡ status_of_verdict doomed.now.verdict) }
+    ensures within { IfOk result (λ status. status ≤ 2) }
 {
     let status = tell_verdict(writer, asked, &doomed.verdict)?;
     let counts = &doomed.counts;

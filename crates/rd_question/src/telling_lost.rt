@@ -1,6 +1,7 @@
 //! What is told of where a run lost a goal.
 
-ghost use Rattle.std.specs.Prelude.{◌≤◌, IfOk};
+ghost use Rattle.std.specs.Prelude.{◌≡◌, ◌≤◌, IfOk};
+ghost use Rattle.rd_question.specs.Statuses.{status_of_lost};
 
 use crate::telling::{
     AskedQuestion, FOUND, NONE, UNTOLD, tell_counts, tell_lines, tell_order, told,
@@ -60,7 +61,7 @@ fn tell_place<W: Write>(
     moves: usize,
     lost: &Lost,
 ) -> io::Result<u8>
-    ensures { IfOk result (λ status. status ≤ 2) }
+    ensures { IfOk result (λ status. status ≡ status_of_lost lost.now) }
 {
     match lost {
         Lost::Still(order) => {
@@ -110,7 +111,8 @@ pub(crate) fn tell_lost<W: Write>(
     moves: usize,
     outcome: &LostOutcome,
 ) -> io::Result<u8>
-    ensures { IfOk result (λ status. status ≤ 2) }
+    ensures status { IfOk result (λ status. status ≡ status_of_lost outcome.now.lost) }
+    ensures within { IfOk result (λ status. status ≤ 2) }
 {
     let status = tell_place(writer, asked, first, moves, &outcome.lost)?;
     let effort = &outcome.effort;

@@ -1,5 +1,5 @@
 -- The goals of number_said that the check left open.
-use Rattle.std.proofs.Common.{◌≡◌, ◌∙◌, Option, Some, None, Ok, ap}
+use Rattle.std.proofs.Common.{◌≡◌, Some}
 use Rattle.std.specs.contracts.prelude.UsizeFromStr as number
 use Rattle.clap.specs.Words.{found_of}
 use Rattle.rd_question.proofs.LineLaws.{none_found, none_tried, number_found, number_tried}
