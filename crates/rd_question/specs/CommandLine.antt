@@ -1,9 +1,12 @@
 -- What the words of the command line ask for, by what `clap` says of a parse.
-use Rattle.std.specs.Prelude.{◌≡◌, ◌≢◌, ◌<◌, ⊤, ℕ, Bool, true, false, List, [], ◌∷◌, codes}
-use Rattle.std.specs.Prelude.{Option, None, Some, is_some, option_map, pos, string_len}
-use Rattle.std.specs.Prelude.{◌⊎◌, unwrap_or}
+use denote.Ref.{Bor}
+use Rattle.std.specs.Prelude.{◌≡◌, ◌≢◌, ◌<◌, ◌≤◌, ⊤, ℕ, Bool, true, false, List, [], ◌∷◌, ◌++◌, codes}
+use Rattle.std.specs.Prelude.{Option, None, Some, IfSome, IsSome, is_some, option_map, pos, string_len}
+use Rattle.std.specs.Prelude.{◌⊎◌, String, length, unwrap_or}
+use Rattle.std.specs.List.{IsAmong as IsOneOf}
 use Rattle.std.specs.Str.{bytes_eq}
 use Rattle.std.specs.Option.{option_map_or}
+use Rattle.std.specs.declared.alloc.Global.{Global}
 use Rattle.clap.specs.Lexer.{usize_max}
 use Rattle.clap.specs.Simple.{on_top}
 use Rattle.clap.specs.Words.{App as CommandLine, IsAmong, Row, Rule, Text, all_of}
@@ -12,19 +15,27 @@ use Rattle.clap.specs.declared.builder.action.ArgAction.TheVariants.{Append, Set
 use Rattle.clap.specs.declared.builder.value_parser.ValueParser.TheVariants.{Signed, Unsigned}
 use Rattle.clap.specs.declared.error.kind.ErrorKind.{ErrorKind as Refusal}
 use Rattle.clap.specs.declared.error.kind.ErrorKind.TheVariants as kind
-use Rattle.rd_start.specs.Requests.{number_asked}
+use Rattle.rd_text.specs.Words.{number_of as number_in}
+use Rattle.rd_start.specs.Requests.{HasNumber, number_asked}
 use Rattle.rd_dealt.specs.Parts.{PartOf}
-use Rattle.rd_question.specs.Paces.{IsWritten}
+use Rattle.rd_question.specs.Asked.{AreEach}
+use Rattle.rd_question.specs.Handlers.{HasCalls, small_number, times_in}
+use Rattle.rd_question.specs.Paces.{IsCrossed, IsOutOfForm, IsWritten}
 use Rattle.rd_question.specs.Parts.{IsPart}
 use Rattle.rd_question.specs.declared.fault.ReachFault.{ReachFault}
 use Rattle.rd_question.specs.declared.fault.ReachFault.TheVariants as fault
 use Rattle.rd_question.specs.declared.handler.NoHandler.{NoHandler}
+use Rattle.rd_question.specs.declared.handler.NoHandler.TheVariants as handler
+use Rattle.rd_question.specs.declared.handler.Said.{Said}
 use Rattle.rd_question.specs.declared.options.Question.{Question}
 use Rattle.rd_question.specs.declared.options.ReachRequest.{ReachRequest}
 use Rattle.rd_question.specs.declared.options.ReachRequest.TheVariants.{Ask, Engine, Help}
 use Rattle.rd_question.specs.declared.options.TheConstants.{MAX_MEMORY, MAX_MOVES, MAX_STATES}
+use Rattle.rd_question.specs.declared.pace.NoPace.{NoPace}
+use Rattle.rd_question.specs.declared.pace.NoPace.TheVariants.{Crossed, Form}
 use Rattle.rd_question.specs.declared.pace.Pace.{Pace}
 use Rattle.rd_question.specs.declared.pace.TheConstants.{NO_PACE}
+use Rattle.rd_question.specs.declared.part_word.NoPart.{NoPart}
 use Rattle.rd_question.specs.declared.query.Query.{Query}
 use Rattle.rd_question.specs.declared.query.Query.TheVariants as query
 
@@ -124,6 +135,10 @@ IsPartOf None part = part ≡ None
 IsPartOf (Some text) None = ⊥
 IsPartOf (Some text) (Some part) = IsPart text part
 
+-- What the options of that name say, a text each.
+abbrev pub texts_of : Text → List Row → List Text
+texts_of name rows = unwrap_or (all_of name rows) []
+
 -- The question is what stands in these rows.
 pub record IsAskedIn (rows : List Row) (question : Question) : Type 0 where
   pub file : question.file.now ≡ unwrap_or (first_of (codes "FILE") rows) []
@@ -132,6 +147,7 @@ pub record IsAskedIn (rows : List Row) (question : Question) : Type 0 where
   pub from : option_map (λ path. path.now) question.from ≡ first_of (codes "from") rows
   pub moves : question.moves ≡ number_said (codes "moves") rows
   pub pace : IsPaceOf (first_of (codes "pace") rows) question.pace
+  pub isrs : AreEach HasCalls (texts_of (codes "isr") rows) question.isrs.items
   pub surprises : question.surprises ≡ number_said (codes "surprises") rows
   pub states : Some question.states ≡ number_said (codes "states") rows
   pub memory : Some question.memory ≡ number_said (codes "memory") rows
@@ -162,22 +178,107 @@ IsAskedBy words (Ask question) = IsOfWords words (Ask question)
 IsAskedBy words (Engine question) = IsOfWords words (Engine question)
 IsAskedBy words (Help text) = IsAmong kind.DisplayHelp (faults_of words) × (0 < string_len text)
 
+-- ---- why there are no interrupts
+
+-- An option of that name says a text that is so.
+abbrev pub SaysOne : Text → (Text → Type 0) → List Row → Type 0
+SaysOne name so rows = (text : Text) × IsOneOf (texts_of name rows) text × so text
+
+-- It is a text that the option of that name says, where one is said.
+abbrev pub IsOneOfOption : Text → List Row → Option (Bor Text) → Type 0
+IsOneOfOption name rows said = IfSome said (λ text. IsOneOf (texts_of name rows) text.now)
+
+-- What is said of an interrupt beside its calls stands in the rows.
+pub record IsSaidIn (rows : List Row) (said : Said) : Type 0 where
+  pub times : IsOneOfOption (codes "times") rows said.times
+  pub after : IsOneOfOption (codes "after") rows said.after
+  pub apart : IsOneOfOption (codes "apart") rows said.apart
+
+-- It is how the option of that name is written.
+abbrev pub IsOption : Text → Bor Text → Type 0
+IsOption name option = option.now ≡ codes "--" ++ name
+
+-- An option stands before all interrupts, and one is given.
+abbrev pub IsStray : List Row → NoHandler → Type 0
+IsStray rows why = (option : Bor Text) × (name : Text) × (why ≡ handler.Stray option)
+    × IsOption name option × (is_some (all_of name rows) ≡ true)
+
+-- An option is said twice of one interrupt, and two are given.
+abbrev pub IsTwice : List Row → NoHandler → Type 0
+IsTwice rows why = (option : Bor Text) × (name : Text) × (why ≡ handler.Twice option)
+    × IsOption name option × (2 ≤ length (texts_of name rows))
+
+-- What stands in the rows gives no interrupts, for that: an option says something wrong, or stands in
+-- the wrong place.
+abbrev pub IsWrongIn : List Row → NoHandler → Type 0
+IsWrongIn rows why =
+    ((why ≡ handler.Times) × SaysOne (codes "times") (λ text. times_in text ≡ None) rows)
+    ⊎ ((why ≡ handler.After) × SaysOne (codes "after") (λ text. ⊤) rows)
+    ⊎ ((why ≡ handler.Unlimited) × SaysOne (codes "after") (λ text. IsSome (number_in text)) rows)
+    ⊎ ((why ≡ handler.Apart) × SaysOne (codes "apart") (λ text. small_number 0 text ≡ None) rows)
+    ⊎ IsStray rows why ⊎ IsTwice rows why
+
 -- ---- why there is none
 
--- There is no memory, or an interrupt is none for this cause.
+-- Something else is wrong with the words than that they ask for help.
+abbrev pub AreRefused : List Text → Type 0
+AreRefused words =
+    (refusal : Refusal) × IsAmong refusal (faults_of words) × (refusal ≢ kind.DisplayHelp)
+
+-- It says that the words are a bad line.
+abbrev pub IsBadLine : ReachFault → Type 0
+IsBadLine cause = (text : String Global) × (cause ≡ fault.Words text)
+
+-- Both switches are on.
+abbrev pub AreBothOn : List Row → Type 0
+AreBothOn rows = (is_on (codes "lost") rows ≡ true) × (is_on (codes "doomed") rows ≡ true)
+
+-- The text writes no pace, for that.
+abbrev pub IsNoPace : NoPace → Text → Type 0
+IsNoPace Form text = IsOutOfForm text
+IsNoPace Crossed text = IsCrossed text
+
+-- What is said of the pace is none, and this says why.
+abbrev pub IsBadPace : List Row → ReachFault → Type 0
+IsBadPace rows cause = (why : NoPace) × (text : Text) × (cause ≡ fault.Pace why)
+    × (first_of (codes "pace") rows ≡ Some text) × IsNoPace why text
+
+-- A part is said.
+abbrev pub IsBadPart : List Row → ReachFault → Type 0
+IsBadPart rows cause = (why : NoPart) × (text : Text) × (cause ≡ fault.Part why)
+    × (first_of (codes "part") rows ≡ Some text)
+
+-- An interrupt is wrong, and this says why.
+abbrev pub IsBadIsr : List Row → ReachFault → Type 0
+IsBadIsr rows cause = (why : NoHandler) × (cause ≡ fault.Isr why) × IsWrongIn rows why
+
+-- An option says no number within its limits.
+abbrev pub IsBadNumber : List Row → ReachFault → Type 0
+IsBadNumber rows cause = (option : Bor Text) × (least : ℕ) × (most : ℕ)
+    × (cause ≡ fault.Number option least most) × (HasNumber option.now least most rows → ⊥)
+
+-- Why no question stands in the rows: two are asked at once, or what is said of one is wrong so; or
+-- there is no memory.
+abbrev pub IsFaultIn : List Row → ReachFault → Type 0
+IsFaultIn rows cause = (cause ≡ fault.NoMemory) ⊎ ((cause ≡ fault.Both) × AreBothOn rows)
+    ⊎ IsBadPace rows cause ⊎ IsBadPart rows cause ⊎ IsBadIsr rows cause ⊎ IsBadNumber rows cause
+
+-- Why the words ask for nothing: they are refused, or no question stands in them; or there is no
+-- memory.
+abbrev pub IsFaultOf : List Text → ReachFault → Type 0
+IsFaultOf words cause = (cause ≡ fault.NoMemory) ⊎ (IsBadLine cause × AreRefused words)
+    ⊎ ((faults_of words ≡ []) × IsFaultIn (rows_in words) cause)
+
+-- There is no memory, or else an interrupt is none for this cause.
 abbrev pub IsFaultOfHandler : NoHandler → ReachFault → Type 0
-IsFaultOfHandler why cause = (cause ≡ fault.NoMemory) ⊎ (cause ≡ fault.Isr why)
+IsFaultOfHandler why cause = ((why ≡ handler.NoMemory) × (cause ≡ fault.NoMemory))
+    ⊎ ((why ≢ handler.NoMemory) × (cause ≡ fault.Isr why))
 
 -- Help that has a text, and no question.
 abbrev pub IsHelp : ReachRequest → Type 0
 IsHelp (Ask question) = ⊥
 IsHelp (Engine question) = ⊥
 IsHelp (Help text) = 0 < string_len text
-
--- It says that the words are a bad line.
-abbrev pub IsBadLine : ReachFault → Type 0
-IsBadLine (fault.Words text) = ⊤
-IsBadLine _ = ⊥
 
 -- What an error of a parse comes to, where it doesn't come to help.
 abbrev pub IsFaultOfError : Refusal → ReachFault → Type 0

@@ -5,6 +5,7 @@ use Rattle.std.specs.List.{after_first, before_first}
 use Rattle.std.specs.Str.{trim}
 use Rattle.rd_text.specs.Words.{number_of}
 use Rattle.rd_question.specs.EngineView.{EngineView}
+use Rattle.rd_question.specs.Handlers.{IsSaidBy}
 use Rattle.rd_question.specs.Paces.{IsWritten}
 use Rattle.rd_question.specs.declared.engine_line.TheConstants.{MAX_SURPRISES}
 use Rattle.rd_question.specs.declared.engine_line.EngineLine.{EngineLine}
@@ -12,6 +13,7 @@ use Rattle.rd_question.specs.declared.engine_line.EngineLine.TheVariants as line
 use Rattle.rd_question.specs.declared.engine_line.EngineSetting.{EngineSetting}
 use Rattle.rd_question.specs.declared.engine_line.EngineSetting.TheVariants as setting
 use Rattle.rd_question.specs.declared.handler.Handler.{Handler}
+use Rattle.rd_question.specs.declared.handler.Said.{Said}
 use Rattle.rd_question.specs.declared.options.TheConstants.{MAX_MEMORY, MAX_MOVES, MAX_STATES}
 use Rattle.rd_question.specs.declared.pace.Pace.{Pace}
 use Rattle.rd_question.specs.declared.pace.TheConstants.{NO_PACE}
@@ -109,9 +111,10 @@ IsLineWithinLimits (line.Ask query goal) = ⊤
 IsLineWithinLimits line.Help = ⊤
 IsLineWithinLimits line.Quit = ⊤
 
--- The engine has one interrupt more, behind the others.
-abbrev pub HasOneMore : EngineView → EngineView → Type 0
-HasOneMore old new = (isr : Handler) × (new ≡ record old { isrs = old.isrs ++ isr ∷ [] })
+-- The engine has one interrupt more, behind the others: the one of which this is said.
+abbrev pub HasOneMore : Said → EngineView → EngineView → Type 0
+HasOneMore said old new =
+    (isr : Handler) × IsSaidBy said isr × (new ≡ record old { isrs = old.isrs ++ isr ∷ [] })
 
 -- The setting is made, and nothing else has changed.
 abbrev pub IsSet : EngineSetting → EngineView → EngineView → Type 0
@@ -121,7 +124,7 @@ IsSet (setting.Moves most) old new = new ≡ record old { moves = most }
 IsSet (setting.States most) old new = new ≡ record old { states = most }
 IsSet (setting.Memory most) old new = new ≡ record old { memory = most }
 IsSet (setting.Exact exact) old new = new ≡ record old { exact = exact }
-IsSet (setting.Isr said) old new = HasOneMore old new
+IsSet (setting.Isr said) old new = HasOneMore said old new
 IsSet setting.NoIsrs old new = new ≡ record old { isrs = [] }
 
 -- Searches begin elsewhere, and nothing else has changed.

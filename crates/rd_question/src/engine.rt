@@ -120,7 +120,7 @@ impl<'a> Engine<'a> {
 
     // One interrupt more may come.
     fn add_isr(&mut self, alloc: Global, said: Said<'_>) -> Result<(), ReachFault>
-        ensures added { OnOk result (HasOneMore self.old self.new) }
+        ensures added { OnOk result (HasOneMore said.entry self.old self.new) }
         ensures err { OnErr result (self.new ≡ self.old) }
     {
         let handler = handler_of(alloc, said, self.question.isrs.as_slice())?;

@@ -1,7 +1,9 @@
 //! Interrupts as they are asked for.
 
-ghost use Rattle.std.specs.Prelude.{◌≡◌, ◌⊎◌, ℕ, Option, None, Some, slice_get};
-ghost use Rattle.std.specs.Prelude.{IfErr, IfOk, IfSome, IsErrOf, IsSome};
+ghost use Rattle.std.specs.Prelude.{◌≡◌, ◌⊎◌, ◌++◌, ◌∷◌, ℕ, Option, None, Some, [], slice_get};
+ghost use Rattle.std.specs.Prelude.{IfErr, IfOk, IfSome, IsErrOf, IsSome, OnOk, if◌then◌else◌};
+ghost use Rattle.std.specs.Prelude.{string_bytes};
+ghost use Rattle.rd_question.specs.Handlers.{AreLinesOf, HasCalls, IsLineOf, behind_isr, spaced};
 ghost use Rattle.rd_question.specs.Handlers.{IsUnlimited, IsWhyNotAfter, IsWrong};
 ghost use Rattle.rd_question.specs.Handlers.{apart_said, follows_said, small_number, times_at};
 ghost use Rattle.rd_question.specs.Handlers.{times_said};
@@ -97,22 +99,35 @@ impl<T: Drop> From<AllocFailed<T>> for NoHandler {
     }
 }
 
+// Adds a word of a call to its line, unless it is an `isr` that stands first.
+fn add_word(line: &mut String, word: &str, first: bool) -> Result<(), AllocError>
+    ensures { OnOk result (string_bytes line.new ≡ string_bytes line.old
+        ++ spaced (if first then behind_isr (word.now ∷ []) else word.now ∷ [])) }
+{
+    if first && word == "isr" {
+        return Ok(());
+    }
+    line.push_str(" ")?;
+    line.push_str(word)
+}
+
 // The command line of a call, with one space between words.
-fn line_of(alloc: Global, call: &str) -> Result<String, AllocError> {
+fn line_of(alloc: Global, call: &str) -> Result<String, AllocError>
+    ensures { IfOk result (λ line. IsLineOf call.now (string_bytes line)) }
+{
     let mut line = String::from_str(alloc, "isr")?;
     let mut first = true;
     for word in call.split_whitespace() {
-        if !first || word != "isr" {
-            line.push_str(" ")?;
-            line.push_str(word)?;
-        }
+        add_word(&mut line, word, first)?;
         first = false;
     }
     Ok(line)
 }
 
 // The command lines of calls that `;` parts.
-fn lines_of(alloc: Global, calls: &str) -> Result<Vec<String>, AllocError> {
+fn lines_of(alloc: Global, calls: &str) -> Result<Vec<String>, AllocError>
+    ensures { IfOk result (λ lines. AreLinesOf calls.now lines.items) }
+{
     let mut lines = Vec::new(alloc);
     for call in calls.split(';') {
         lines.push(line_of(alloc, call)?)?;
@@ -198,6 +213,7 @@ fn apart_of(said: Option<&str>) -> Result<u8, NoHandler>
 /// `Times`, `After`, `Unlimited` and `Apart` where an option is wrong, `NoMemory` where there is no
 /// memory for its calls. Whether these are some isn't asked here.
 pub fn handler_of(alloc: Global, said: Said<'_>, before: &[Handler]) -> Result<Handler, NoHandler>
+    ensures calls { IfOk result (HasCalls said.entry.calls.now) }
     ensures times { IfOk result (λ handler. times_said said.entry.times ≡ Some handler.times) }
     ensures follows { IfOk result (λ handler.
         follows_said said.entry.after ≡ Some handler.follows) }

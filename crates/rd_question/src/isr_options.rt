@@ -1,9 +1,15 @@
 //! The interrupts that a command line asks for: `--isr CALLS [--times N] [--after I] [--apart T]`,
 //! several times, where each of the others belongs to the `--isr` before it.
 
-ghost use Rattle.std.specs.Prelude.{◌≡◌, codes, false};
-ghost use Rattle.clap.specs.Words.{rule_of};
-ghost use Rattle.rd_question.specs.CommandLine.{repeated};
+ghost use Rattle.std.specs.Prelude.{◌≡◌, ◌≤◌, ◌⊎◌, IfErr, IfOk, IfSome, codes, false, is_some};
+ghost use Rattle.std.specs.Prelude.{length, true};
+ghost use Rattle.std.specs.List.{IsAmong as IsOneOf};
+ghost use Rattle.clap.specs.Words.{all_of, found_of, rows_of, rule_of};
+ghost use Rattle.rd_question.specs.Asked.{AreEach};
+ghost use Rattle.rd_question.specs.CommandLine.{IsSaidIn, IsTwice, IsWrongIn, repeated, texts_of};
+ghost use Rattle.rd_question.specs.Handlers.{HasCalls};
+ghost use Rattle.rd_question.specs.declared.handler.NoHandler.TheVariants.{NoMemory, Stray};
+ghost use Rattle.rd_question.specs.declared.handler.NoHandler.TheVariants.{Twice};
 
 use crate::handler::{Handler, NoHandler, Said, handler_of};
 use clap::{Arg, ArgAction, ArgMatches};
@@ -85,12 +91,18 @@ fn said_between<'a>(
     belonging: Belonging,
     from: usize,
     to: usize,
-) -> Result<Option<&'a str>, NoHandler> {
+) -> Result<Option<&'a str>, NoHandler>
+    ensures said { IfOk result (λ said. IfSome said (λ text.
+        IsOneOf (texts_of belonging.id.now (rows_of (found_of matches.now))) text.now)) }
+    ensures twice { IfErr result (λ why. (why ≡ Twice belonging.option)
+        × (2 ≤ length (texts_of belonging.id.now (rows_of (found_of matches.now))))) }
+{
     let places = matches.indices_of(belonging.id).unwrap_or(&[]);
     let texts = matches.get_strs(belonging.id).unwrap_or(&[]);
     let mut said = None;
-    for (place, text) in places.iter().zip(texts) {
-        if from < *place && *place < to {
+    for (at, text) in texts.iter().enumerate() {
+        let place = places.get(at).copied().unwrap_or(from);
+        if from < place && place < to {
             if said.is_some() {
                 return Err(NoHandler::Twice {
                     option: belonging.option,
@@ -107,8 +119,14 @@ fn refuse_before(
     matches: &ArgMatches<'_>,
     belonging: Belonging,
     first: usize,
-) -> Result<(), NoHandler> {
-    for place in matches.indices_of(belonging.id).unwrap_or(&[]) {
+) -> Result<(), NoHandler>
+    ensures { IfErr result (λ why. (why ≡ Stray belonging.option)
+        × (is_some (all_of belonging.id.now (rows_of (found_of matches.now))) ≡ true)) }
+{
+    let Some(places) = matches.indices_of(belonging.id) else {
+        return Ok(());
+    };
+    for place in places {
         if *place < first {
             return Err(NoHandler::Stray {
                 option: belonging.option,
@@ -118,32 +136,51 @@ fn refuse_before(
     Ok(())
 }
 
+// What is said of the interrupt at this place among all, which has these calls.
+fn said_at<'a>(
+    matches: &ArgMatches<'a>,
+    places: &[usize],
+    at: usize,
+    calls: &'a str,
+) -> Result<Said<'a>, NoHandler>
+    ensures calls { IfOk result (λ said. said.calls.now ≡ calls.entry.now) }
+    ensures options { IfOk result (IsSaidIn (rows_of (found_of matches.now))) }
+    ensures wrong { IfErr result (IsTwice (rows_of (found_of matches.now))) }
+{
+    let from = places.get(at).copied().unwrap_or(0);
+    let to = places
+        .get(at.saturating_add(1))
+        .copied()
+        .unwrap_or(usize::MAX);
+    Ok(Said {
+        calls,
+        times: said_between(matches, TIMES, from, to)?,
+        after: said_between(matches, AFTER, from, to)?,
+        apart: said_between(matches, APART, from, to)?,
+    })
+}
+
 /// The interrupts that were found among the options, in the order in which they were said. `Stray`
 /// where an option stands before all of them, `Twice` where one is said twice of one, and what
 /// `handler_of` refuses.
 pub(crate) fn handlers_in(
     alloc: Global,
     matches: &ArgMatches<'_>,
-) -> Result<Vec<Handler>, NoHandler> {
+) -> Result<Vec<Handler>, NoHandler>
+    ensures calls { IfOk result (λ handlers. AreEach HasCalls
+        (texts_of (codes "isr") (rows_of (found_of matches.now))) handlers.items) }
+    ensures wrong { IfErr result (λ why. (why ≡ NoMemory)
+        ⊎ IsWrongIn (rows_of (found_of matches.now)) why) }
+{
     let texts = matches.get_strs("isr").unwrap_or(&[]);
     let places = matches.indices_of("isr").unwrap_or(&[]);
     let first = places.first().copied().unwrap_or(usize::MAX);
-    for belonging in [TIMES, AFTER, APART] {
-        refuse_before(matches, belonging, first)?;
-    }
+    refuse_before(matches, TIMES, first)?;
+    refuse_before(matches, AFTER, first)?;
+    refuse_before(matches, APART, first)?;
     let mut handlers = Vec::new(alloc);
-    for (text, at) in texts.iter().zip(0..usize::MAX) {
-        let from = places.get(at).copied().unwrap_or(0);
-        let to = places
-            .get(at.saturating_add(1))
-            .copied()
-            .unwrap_or(usize::MAX);
-        let said = Said {
-            calls: *text,
-            times: said_between(matches, TIMES, from, to)?,
-            after: said_between(matches, AFTER, from, to)?,
-            apart: said_between(matches, APART, from, to)?,
-        };
+    for (at, calls) in texts.iter().enumerate() {
+        let said = said_at(matches, places, at, calls)?;
         let handler = handler_of(alloc, said, handlers.as_slice())?;
         handlers.push(handler)?;
     }

@@ -3,13 +3,15 @@
 ghost use Rattle.std.specs.Prelude.{◌≡◌, ◌≤◌, IfErr, IfOk, IfSome, Some, codes, false, map};
 ghost use Rattle.std.specs.Prelude.{[], option_map, string_bytes, unwrap_or};
 ghost use Rattle.clap.specs.Words.{app_of, first_of, found_of, kind_of, rows_of, rule_of};
-ghost use Rattle.rd_question.specs.CommandLine.{IsAskedBy, IsAskedIn, IsFaultOfError, IsHelp};
-ghost use Rattle.rd_question.specs.CommandLine.{IsPaceOf};
-ghost use Rattle.rd_question.specs.CommandLine.{IsPartOf, IsRequestIn, command_line, file_word};
-ghost use Rattle.rd_question.specs.CommandLine.{goal_words, has_goal, is_on, memory_option};
-ghost use Rattle.rd_question.specs.CommandLine.{number_of, number_said, query_of, setting};
-ghost use Rattle.rd_question.specs.CommandLine.{states_option, surprises_option, switch};
+ghost use Rattle.rd_question.specs.CommandLine.{AreBothOn, IsAskedBy, IsAskedIn, IsBadNumber};
+ghost use Rattle.rd_question.specs.CommandLine.{IsBadPace, IsBadPart, IsFaultIn, IsFaultOf};
+ghost use Rattle.rd_question.specs.CommandLine.{IsFaultOfError, IsHelp, IsPaceOf, IsPartOf};
+ghost use Rattle.rd_question.specs.CommandLine.{IsRequestIn, command_line, file_word, goal_words};
+ghost use Rattle.rd_question.specs.CommandLine.{has_goal, is_on, memory_option, number_of};
+ghost use Rattle.rd_question.specs.CommandLine.{number_said, query_of, setting, states_option};
+ghost use Rattle.rd_question.specs.CommandLine.{surprises_option, switch};
 ghost use Rattle.rd_question.specs.Questions.{IsQuestion, IsRequest, manner_of};
+ghost use Rattle.rd_question.specs.declared.fault.ReachFault.TheVariants.{Both, Number};
 
 use crate::fault::ReachFault;
 use crate::handler::Handler;
@@ -297,6 +299,17 @@ fn has_goal(matches: &ArgMatches<'_>) -> bool
     matches.contains_id("GOAL")
 }
 
+// The refusal of an option that says no number within these limits.
+fn no_number(option: &'static str, least: usize, most: usize) -> ReachFault
+    ensures { result ≡ Number option.entry least most }
+{
+    ReachFault::Number {
+        option,
+        least,
+        most,
+    }
+}
+
 // The number that an option says, where it is given.
 fn number_said(
     matches: &ArgMatches<'_>,
@@ -307,15 +320,13 @@ fn number_said(
     ensures said { IfOk result (λ number.
         number ≡ number_said option.entry.now (rows_of (found_of matches.now))) }
     ensures within { IfOk result (λ number. IfSome number (λ said. said ≤ most)) }
+    ensures wrong { IfErr result (IsBadNumber (rows_of (found_of matches.now))) }
 {
     match matches.try_get_one::<usize>(option) {
         Ok(None) => Ok(None),
         Ok(Some(number)) if least <= number && number <= most => Ok(Some(number)),
-        Ok(Some(_)) | Err(_) => Err(ReachFault::Number {
-            option,
-            least,
-            most,
-        }),
+        Ok(Some(_)) => Err(no_number(option, least, most)),
+        Err(_) => Err(no_number(option, least, most)),
     }
 }
 
@@ -329,14 +340,11 @@ fn number_of(
     ensures said { IfOk result (λ number.
         Some number ≡ number_said option.entry.now (rows_of (found_of matches.now))) }
     ensures within { IfOk result (λ number. number ≤ most) }
+    ensures wrong { IfErr result (IsBadNumber (rows_of (found_of matches.now))) }
 {
     match number_said(matches, option, least, most)? {
         Some(number) => Ok(number),
-        None => Err(ReachFault::Number {
-            option,
-            least,
-            most,
-        }),
+        None => Err(no_number(option, least, most)),
     }
 }
 
@@ -345,6 +353,7 @@ fn moves_of(matches: &ArgMatches<'_>) -> Result<Option<u32>, ReachFault>
     ensures said { IfOk result (λ moves.
         moves ≡ number_said (codes "moves") (rows_of (found_of matches.now))) }
     ensures within { IfOk result (λ moves. IfSome moves (λ most. most ≤ MAX_MOVES)) }
+    ensures wrong { IfErr result (IsBadNumber (rows_of (found_of matches.now))) }
 {
     match number_said(matches, "moves", 0, MAX_MOVES)? {
         Some(moves) => Ok(Some(moves as u32)),
@@ -356,6 +365,7 @@ fn moves_of(matches: &ArgMatches<'_>) -> Result<Option<u32>, ReachFault>
 fn surprises_of(matches: &ArgMatches<'_>) -> Result<Option<u8>, ReachFault>
     ensures said { IfOk result (λ surprises.
         surprises ≡ number_said (codes "surprises") (rows_of (found_of matches.now))) }
+    ensures wrong { IfErr result (IsBadNumber (rows_of (found_of matches.now))) }
 {
     match number_said(matches, "surprises", 0, 255)? {
         Some(surprises) => Ok(Some(surprises as u8)),
@@ -377,6 +387,7 @@ fn is_on(matches: &ArgMatches<'_>, switch: &str) -> bool
 fn part_in(matches: &ArgMatches<'_>) -> Result<Option<Part>, ReachFault>
     ensures part { IfOk result
         (IsPartOf (first_of (codes "part") (rows_of (found_of matches.now)))) }
+    ensures wrong { IfErr result (IsBadPart (rows_of (found_of matches.now))) }
 {
     match text_of(matches, "part") {
         Some(word) => Ok(Some(part_of(word)?)),
@@ -389,6 +400,8 @@ fn query_in(matches: &ArgMatches<'_>) -> Result<Query, ReachFault>
     ensures query { IfOk result (λ query. Some query
         ≡ query_of (is_on (codes "lost") (rows_of (found_of matches.now)))
         (is_on (codes "doomed") (rows_of (found_of matches.now)))) }
+    ensures both { IfErr result (λ cause. (cause ≡ Both)
+        × AreBothOn (rows_of (found_of matches.now))) }
 {
     match (is_on(matches, "lost"), is_on(matches, "doomed")) {
         (true, true) => Err(ReachFault::Both),
@@ -402,6 +415,7 @@ fn query_in(matches: &ArgMatches<'_>) -> Result<Query, ReachFault>
 fn pace_in(matches: &ArgMatches<'_>) -> Result<Pace, ReachFault>
     ensures pace { IfOk result
         (IsPaceOf (first_of (codes "pace") (rows_of (found_of matches.now)))) }
+    ensures wrong { IfErr result (IsBadPace (rows_of (found_of matches.now))) }
 {
     match text_of(matches, "pace") {
         Some(word) => Ok(pace_of(word)?),
@@ -423,6 +437,7 @@ fn file_of<'a>(matches: &ArgMatches<'a>) -> &'a str
 fn question_of<'a>(alloc: Global, matches: &ArgMatches<'a>) -> Result<Question<'a>, ReachFault>
     ensures limits { IfOk result IsQuestion }
     ensures asked { IfOk result (IsAskedIn (rows_of (found_of matches.now))) }
+    ensures fault { IfErr result (IsFaultIn (rows_of (found_of matches.now))) }
 {
     Ok(Question {
         file: file_of(matches),
@@ -485,6 +500,7 @@ fn without_question<'a>(alloc: Global, error: &clap::Error) -> Result<ReachReque
 pub fn options<'a>(alloc: Global, words: &'a [String]) -> Result<ReachRequest<'a>, ReachFault>
     ensures limits { IfOk result IsRequest }
     ensures asked { IfOk result (IsAskedBy (map string_bytes words.entry.now)) }
+    ensures fault { IfErr result (IsFaultOf (map string_bytes words.entry.now)) }
 {
     match command(alloc)?.try_get_matches_from(words) {
         Ok(matches) => {
