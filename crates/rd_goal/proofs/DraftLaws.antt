@@ -16,7 +16,7 @@ use Rattle.rd_goal.specs.declared.goal.GoalRow.TheVariants as row
 use Rattle.rd_goal.specs.declared.reading.PendingOperator.{PendingOperator}
 use Rattle.rd_goal.specs.declared.reading.PendingOperator.TheVariants as operator
 use Rattle.rd_goal.specs.Reading.{Ands, AreBegun, Denies, DraftView, EndsIn, HasFormula, IsBegunOn, IsJoined, IsRead, IsRowFor, IsSettled, Reads, IsWanting, Opens, Ors, Unfinished, WordsView, last_strength, least_behind, operator_of, signs_begun, strength_of, with_row}
-use Rattle.rd_goal.specs.Written.{AllOf, AnyOf, Claimed, Denied, Formula, Grouped, IsForm, IsWritten, Sign, StandFor, and_sign, close_sign, is_true_in, not_sign, open_sign, or_sign, signs_of}
+use Rattle.rd_goal.specs.Written.{AllOf, AnyOf, Claimed, Denied, Formula, Grouped, IsForm, IsGoalOfWords, Sign, StandFor, and_sign, close_sign, is_true_in, not_sign, open_sign, or_sign, signs_of}
 
 -- ---- rows
 
@@ -431,7 +431,7 @@ if_ok (Ok x) so h = so x h
 if_ok (Err e) so h = tt
 
 pub is_written : (app : AppView) (words : List (List ℕ)) (end : WordsView) (signs : List Sign) (goal : List GoalRow)
-    → Reads signs (record { app = app; ahead = words }) end → end.ahead ≡ [] → IsRead signs goal → IsWritten app words goal
+    → Reads signs (record { app = app; ahead = words }) end → end.ahead ≡ [] → IsRead signs goal → IsGoalOfWords app words goal
 is_written app words end signs goal h over read = record {
   formula = read.formula;
   proper = read.proper;

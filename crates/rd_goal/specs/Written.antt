@@ -238,7 +238,7 @@ is_true_in s (AnyOf one other) = is_true_in s one || is_true_in s other
 -- ---- goals
 
 -- The words are a formula, and the goal holds where that is true.
-pub record IsWritten (app : AppView) (words : List (List ℕ)) (goal : List GoalRow) : Type 0 where
+pub record IsGoalOfWords (app : AppView) (words : List (List ℕ)) (goal : List GoalRow) : Type 0 where
   pub formula : Formula
   pub proper : IsProper formula
   pub written : StandFor app (signs_of formula) words

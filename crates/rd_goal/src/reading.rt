@@ -6,7 +6,7 @@ ghost use Rattle.rd_goal.specs.Goals.{IsGoalOf, IsRowOf};
 ghost use Rattle.rd_goal.specs.Reading.{GoesOn, HasFormula, IsAmid, IsJoined, IsRead, IsSettled};
 ghost use Rattle.rd_goal.specs.Reading.{IsTaken, IsWanting, parenthesis_in, part_of};
 ghost use Rattle.rd_goal.specs.Reading.{strength_of, with_row, word_in};
-ghost use Rattle.rd_goal.specs.Written.{IsWritten, Sign, close_sign, is_parenthesis, spaced};
+ghost use Rattle.rd_goal.specs.Written.{IsGoalOfWords, Sign, close_sign, is_parenthesis, spaced};
 ghost use Rattle.rd_text.specs.Words.{is_space, texts, words_of};
 
 use crate::claim_words::claim;
@@ -333,7 +333,7 @@ impl<'r, 'a> Draft<'r, 'a> {
 ///   `asleep`, as `Claim` says. PLACE is `recv Q`, `send Q`, `select S`, `read B`, `write B`, `note
 ///   I` or `group G`; `sread`, `swrite`, `mread` and `mwrite` say which kind of buffer it is.
 pub fn read_goal(alloc: Global, app: &App, words: &[&[u8]]) -> Result<Goal, NoGoal>
-    ensures written { IfOk result (IsWritten app.now (texts words.now)) }
+    ensures written { IfOk result (IsGoalOfWords app.now (texts words.now)) }
     ensures named { IfOk result (IsGoalOf app.now.runs) }
 {
     let mut draft = Draft::new(alloc, GoalReader::new(app, words));

@@ -16,6 +16,8 @@ use Rattle.clap.specs.declared.builder.value_parser.ValueParser.TheVariants.{Sig
 use Rattle.clap.specs.declared.error.kind.ErrorKind.{ErrorKind as Refusal}
 use Rattle.clap.specs.declared.error.kind.ErrorKind.TheVariants as kind
 use Rattle.rd_text.specs.Words.{number_of as number_in}
+use Rattle.rd_text.specs.Words.{texts, words_of}
+use Rattle.rd_goal.specs.Written.{spaced}
 use Rattle.rd_start.specs.Requests.{HasNumber, number_asked}
 use Rattle.rd_dealt.specs.Parts.{PartOf}
 use Rattle.rd_question.specs.Asked.{AreEach}
@@ -139,9 +141,15 @@ IsPartOf (Some text) (Some part) = IsPart text part
 abbrev pub texts_of : Text → List Row → List Text
 texts_of name rows = unwrap_or (all_of name rows) []
 
+-- the words of all these texts, of a goal
+abbrev pub words_in : List Text → List Text
+words_in [] = []
+words_in (text ∷ others) = words_of (spaced text) ++ words_in others
+
 -- The question is what stands in these rows.
 pub record IsAskedIn (rows : List Row) (question : Question) : Type 0 where
   pub file : question.file.now ≡ unwrap_or (first_of (codes "FILE") rows) []
+  pub goal : texts question.goal.items ≡ words_in (texts_of (codes "GOAL") rows)
   pub query : Some question.query
       ≡ query_of (is_on (codes "lost") rows) (is_on (codes "doomed") rows)
   pub from : option_map (λ path. path.now) question.from ≡ first_of (codes "from") rows

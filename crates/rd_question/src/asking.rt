@@ -3,6 +3,7 @@
 ghost use Rattle.std.specs.Prelude.{◌<◌, ◌≤◌, IfOk};
 ghost use Rattle.rd_app.specs.Application.{priorities_of};
 ghost use Rattle.rd_goal.specs.Goals.{IsGoalOf};
+ghost use Rattle.rd_goal.specs.Written.{IsGoalOfWords};
 ghost use Rattle.rd_question.specs.Questions.{IsQuestion};
 ghost use Rattle.rd_question.specs.Statuses.{IsAnswerFor, IsTold, IsToldOfFile};
 ghost use Rattle.rd_question.specs.Statuses.{TellsDoomed, TellsLost, TellsReach};
@@ -59,7 +60,8 @@ pub(crate) fn application<H: Files + AllocGlobal>(handle: &H, path: &str) -> Res
 
 // The goal of these words.
 fn goal_of(alloc: Global, app: &App, words: &[&[u8]]) -> Result<Goal, ReachFault>
-    ensures { IfOk result (IsGoalOf app.now.runs) }
+    ensures written { IfOk result (IsGoalOfWords app.now (texts words.now)) }
+    ensures named { IfOk result (IsGoalOf app.now.runs) }
 {
     match read_goal(alloc, app, words) {
         Ok(goal) => Ok(goal),

@@ -9,7 +9,8 @@ ghost use Rattle.rd_question.specs.CommandLine.{IsFaultOfError, IsHelp, IsPaceOf
 ghost use Rattle.rd_question.specs.CommandLine.{IsRequestIn, command_line, file_word, goal_words};
 ghost use Rattle.rd_question.specs.CommandLine.{has_goal, is_on, memory_option, number_of};
 ghost use Rattle.rd_question.specs.CommandLine.{number_said, query_of, setting, states_option};
-ghost use Rattle.rd_question.specs.CommandLine.{surprises_option, switch};
+ghost use Rattle.rd_question.specs.CommandLine.{surprises_option, switch, texts_of, words_in};
+ghost use Rattle.rd_text.specs.Words.{texts};
 ghost use Rattle.rd_question.specs.Questions.{IsQuestion, IsRequest, manner_of};
 ghost use Rattle.rd_question.specs.declared.fault.ReachFault.TheVariants.{Both, Number};
 
@@ -274,10 +275,14 @@ fn command<'a>(alloc: Global) -> Result<Command<'a>, AllocError>
         .arg(progress_arg(alloc))
 }
 
-// The words of a goal that is said in several texts.
-fn goal_words<'a>(alloc: Global, texts: &[&'a str]) -> Result<Vec<&'a [u8]>, AllocError> {
+// The words of the goal, which may be said in several texts.
+fn goal_in<'a>(alloc: Global, matches: &ArgMatches<'a>) -> Result<Vec<&'a [u8]>, AllocError>
+    ensures { IfOk result (λ words. texts words.items
+        ≡ words_in (texts_of (codes "GOAL") (rows_of (found_of matches.now)))) }
+{
+    let said = matches.get_strs("GOAL").unwrap_or(&[]);
     let mut words = Vec::new(alloc);
-    for text in texts {
+    for text in said {
         let more = words_of(alloc, text.as_bytes())?;
         words.extend_from_slice(more.as_slice())?;
     }
@@ -441,7 +446,7 @@ fn question_of<'a>(alloc: Global, matches: &ArgMatches<'a>) -> Result<Question<'
 {
     Ok(Question {
         file: file_of(matches),
-        goal: goal_words(alloc, matches.get_strs("GOAL").unwrap_or(&[]))?,
+        goal: goal_in(alloc, matches)?,
         query: query_in(matches)?,
         from: text_of(matches, "from"),
         moves: moves_of(matches)?,
