@@ -6,7 +6,7 @@ use Rattle.std.specs.Str.{bytes_eq}
 use Rattle.std.proofs.lemmas.Grind.{flat_map-append}
 use Rattle.std.proofs.lemmas.List.{map-append}
 use Rattle.rd_text.specs.Words.{texts}
-use Rattle.rd_question.specs.Handlers.{behind_isr, isr_line, spaced}
+use Rattle.rd_question.specs.Handlers.{behind_isr, isr_line, each_behind_space}
 
 -- nothing stands before it
 abbrev pub is_first : {X : Type 0} → List X → Bool
@@ -15,21 +15,21 @@ is_first (x ∷ xs) = false
 
 -- what a word adds to the line of those before it
 abbrev pub added : Bool → List ℕ → List ℕ
-added first word = spaced (if first then behind_isr (word ∷ []) else word ∷ [])
+added first word = each_behind_space (if first then behind_isr (word ∷ []) else word ∷ [])
 
-behind_push : (words : List (List ℕ)) (word : List ℕ) → spaced (behind_isr (words ++ word ∷ []))
-    ≡ spaced (behind_isr words) ++ added (is_first words) word
+behind_push : (words : List (List ℕ)) (word : List ℕ) → each_behind_space (behind_isr (words ++ word ∷ []))
+    ≡ each_behind_space (behind_isr words) ++ added (is_first words) word
 behind_push [] word = refl
 behind_push (first ∷ words) word = go (bytes_eq first (codes "isr"))
   where
-    go : (is_isr : Bool) → spaced (if is_isr then words ++ word ∷ [] else first ∷ (words ++ word ∷ []))
-        ≡ spaced (if is_isr then words else first ∷ words) ++ spaced (word ∷ [])
+    go : (is_isr : Bool) → each_behind_space (if is_isr then words ++ word ∷ [] else first ∷ (words ++ word ∷ []))
+        ≡ each_behind_space (if is_isr then words else first ∷ words) ++ each_behind_space (word ∷ [])
     go true = flat_map-append (λ (w : List ℕ). 32 ∷ w) words (word ∷ [])
     go false = flat_map-append (λ (w : List ℕ). 32 ∷ w) (first ∷ words) (word ∷ [])
 
 line_push : (words : List (List ℕ)) (word : List ℕ) → isr_line words ++ added (is_first words) word ≡ isr_line (words ++ word ∷ [])
 line_push words word =
-    append_assoc (codes "isr") (spaced (behind_isr words)) (added (is_first words) word)
+    append_assoc (codes "isr") (each_behind_space (behind_isr words)) (added (is_first words) word)
     ∙ ap (λ (rest : List ℕ). codes "isr" ++ rest) (sym (behind_push words word))
 
 first-texts : (words : List (Bor (List ℕ))) → is_first (texts words) ≡ is_first words

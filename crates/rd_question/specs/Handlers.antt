@@ -30,12 +30,12 @@ behind_isr [] = []
 behind_isr (word ∷ words) = if bytes_eq word (codes "isr") then words else word ∷ words
 
 -- the words, each behind a space
-abbrev pub spaced : List (List ℕ) → List ℕ
-spaced words = flat_map (λ word. 32 ∷ word) words
+abbrev pub each_behind_space : List (List ℕ) → List ℕ
+each_behind_space words = flat_map (λ word. 32 ∷ word) words
 
 -- the line of a call that has these words: `isr`, which may already stand there, and the others
 abbrev pub isr_line : List (List ℕ) → List ℕ
-isr_line words = codes "isr" ++ spaced (behind_isr words)
+isr_line words = codes "isr" ++ each_behind_space (behind_isr words)
 
 -- The line is that of the call.
 abbrev pub IsLineOf : List ℕ → List ℕ → Type 0

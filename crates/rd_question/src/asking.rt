@@ -13,6 +13,7 @@ ghost use Rattle.rd_reach.specs.Searches.{IsForMost};
 ghost use Rattle.rd_start.specs.Requests.{IsOfAFile};
 ghost use Rattle.rd_state.specs.Settled.{IsSettled};
 ghost use Rattle.rd_state.specs.Valid.{IsValid};
+ghost use Rattle.rd_text.specs.Words.{texts};
 
 use crate::fault::ReachFault;
 use crate::options::Question;
@@ -232,7 +233,7 @@ pub(crate) fn respond<W: Write, E: Write>(
 ) -> Result<u8, ReachFault>
     requires { IsQuestion asked.now.question.now }
     ensures told { IfOk result (IsTold query asked.now.question.now asked.now.app.now
-        asked.now.lines.now) }
+        asked.now.lines.now (texts words.now)) }
     ensures within { IfOk result (λ status. status ≤ 2) }
 {
     let goal = goal_of(alloc, asked.app, words)?;

@@ -3,8 +3,8 @@
 ghost use Rattle.std.specs.Prelude.{◌≡◌, ◌⊎◌, ◌++◌, ◌∷◌, ℕ, Option, None, Some, [], slice_get};
 ghost use Rattle.std.specs.Prelude.{IfErr, IfOk, IfSome, IsErrOf, IsSome, OnOk, if◌then◌else◌};
 ghost use Rattle.std.specs.Prelude.{string_bytes};
-ghost use Rattle.rd_question.specs.Handlers.{AreLinesOf, HasCalls, IsLineOf, behind_isr, spaced};
-ghost use Rattle.rd_question.specs.Handlers.{IsUnlimited, IsWhyNotAfter, IsWrong};
+ghost use Rattle.rd_question.specs.Handlers.{AreLinesOf, HasCalls, IsLineOf, IsUnlimited};
+ghost use Rattle.rd_question.specs.Handlers.{IsWhyNotAfter, IsWrong, behind_isr, each_behind_space};
 ghost use Rattle.rd_question.specs.Handlers.{apart_said, follows_said, small_number, times_at};
 ghost use Rattle.rd_question.specs.Handlers.{times_said};
 ghost use Rattle.rd_question.specs.declared.handler.NoHandler.TheVariants.{After, Apart};
@@ -102,7 +102,7 @@ impl<T: Drop> From<AllocFailed<T>> for NoHandler {
 // Adds a word of a call to its line, unless it is an `isr` that stands first.
 fn add_word(line: &mut String, word: &str, first: bool) -> Result<(), AllocError>
     ensures { OnOk result (string_bytes line.new ≡ string_bytes line.old
-        ++ spaced (if first then behind_isr (word.now ∷ []) else word.now ∷ [])) }
+        ++ each_behind_space (if first then behind_isr (word.now ∷ []) else word.now ∷ [])) }
 {
     if first && word == "isr" {
         return Ok(());

@@ -1,6 +1,6 @@
 //! Where a search begins.
 
-ghost use Rattle.std.specs.Prelude.{IfOk};
+ghost use Rattle.std.specs.Prelude.{◌≡◌, [], IfOk, None, string_bytes};
 ghost use Rattle.rd_app.specs.Application.{priorities_of};
 ghost use Rattle.rd_origin.specs.Playing.{IsOrigin};
 ghost use Rattle.rd_origin.specs.RunView.{IsRunOf};
@@ -72,7 +72,9 @@ fn text_of_opened<R: Read + Drop>(
 pub(crate) fn lines_of<H: Files + AllocGlobal>(
     handle: &H,
     path: Option<&str>,
-) -> Result<String, ReachFault> {
+) -> Result<String, ReachFault>
+    ensures boot { path.entry ≡ None → IfOk result (λ lines. string_bytes lines ≡ []) }
+{
     match path {
         Some(path) => text_of_opened(handle.alloc(), path, fs::open(handle, path)),
         None => Ok(String::new(handle.alloc())),

@@ -15,7 +15,7 @@ IsLineFor call line = IsLineOf call.now (string_bytes line)
 pub loop-call-preserved : goal.loop-call-preserved
 loop-call-preserved c =
     let before = c.loop-call.yielded ++ c.in-Some.call ∷ [] in
-    subst (λ (lines : List (String Global)). AreEach IsLineFor before lines) (sym c.in_ok-push.ensures.items)
+    subst (λ (lines : List (String Global)). AreEach IsLineFor before lines) (sym {A = List (String Global)} c.in_ok-push.ensures.items)
     (AreEach-push IsLineFor c.loop-call.yielded c.loop-call.lines.items c.in-Some.call c.in_ok-line_of.field-0 c.loop-call.invariant c.in_ok-line_of.ensures)
 
 pub returns : goal.returns

@@ -6,4 +6,4 @@ use Rattle.rd_question.proofs.options.goal_in.Given as goal
 
 -- the words are those of the texts before
 abbrev pub invariant-loop-text : goal.invariant-loop-text
-invariant-loop-text l = texts l.words.items ≡ words_in (texts (take l.text-index l.said.now))
+invariant-loop-text l = texts l.words.items ≡ words_in (texts (take l.text-index l.said))
