@@ -1,7 +1,7 @@
 -- What stands in a draft by the signs that were read.
-use Rattle.std.proofs.Common.{◌≡◌, ◌∙◌, ◌<◌, ◌≤◌, ◌+◌, ◌-◌, ◌&&◌, ◌||◌, ℕ, Bool, true, false, not, List, [], ◌∷◌, ◌++◌, length, take, drop, nat_eq, get_or, Some, None, Result, Ok, Err, IfOk, refl, sym, ap, subst, arith, append_assoc}
+use Rattle.std.proofs.Common.{◌≡◌, ◌∙◌, ◌<◌, ◌≤◌, ◌+◌, ◌-◌, ◌&&◌, ◌||◌, ℕ, Bool, true, false, not, List, [], ◌∷◌, ◌++◌, length, take, drop, nat_eq, get_or, Some, None, Result, Ok, Err, IfOk, refl, sym, ap, subst, arith, append_assoc, inl, inr}
 use Rattle.std.specs.List.{fold}
-use Rattle.std.specs.Prelude.{slice_get}
+use Rattle.std.specs.Prelude.{codes, slice_get}
 use Rattle.std.proofs.lemmas.List.{append-nil, drop_more, get_or_append_left, take-append-drop}
 use Rattle.std.proofs.lemmas.Option.{get_or_from_slice_get, slice_get-get_or, slice_get_within}
 use Rattle.std.proofs.lemmas.List.Sums.{fold-append}
@@ -16,7 +16,7 @@ use Rattle.rd_goal.specs.declared.goal.GoalRow.TheVariants as row
 use Rattle.rd_goal.specs.declared.reading.PendingOperator.{PendingOperator}
 use Rattle.rd_goal.specs.declared.reading.PendingOperator.TheVariants as operator
 use Rattle.rd_goal.specs.Reading.{Ands, AreBegun, Denies, DraftView, EndsIn, HasFormula, IsBegunOn, IsJoined, IsRead, IsRowFor, IsSettled, Reads, IsWanting, Opens, Ors, Unfinished, WordsView, last_strength, least_behind, operator_of, signs_begun, strength_of, with_row}
-use Rattle.rd_goal.specs.Written.{AllOf, AnyOf, Claimed, Denied, Formula, Grouped, IsForm, IsGoalOfWords, Sign, StandFor, and_sign, close_sign, is_true_in, not_sign, open_sign, or_sign, signs_of}
+use Rattle.rd_goal.specs.Written.{AllOf, AnyOf, Claimed, Denied, Formula, Grouped, IsForm, IsGoalOfWords, Sign, StandFor, and_sign, close_sign, is_true_in, not_sign, open_sign, or_sign, signs_of, IsCutOff, Itself, WantsFormula}
 
 -- ---- rows
 
@@ -438,6 +438,41 @@ is_written app words end signs goal h over read = record {
   written = subst (λ (those : List Sign). StandFor app those words) read.written (subst (λ (all : List (List ℕ)). StandFor app signs all) (sym all) h.written);
   holds = read.holds;
 }
+  where
+    all : words ≡ h.words
+    all = h.ahead ∙ ap (λ (rest : List (List ℕ)). h.words ++ rest) over ∙ append-nil h.words
+
+-- ---- words that are cut off
+
+stand_last : (app : AppView) (front : List Sign) (word : List ℕ) (words : List (List ℕ)) → StandFor app (front ++ Itself word ∷ []) words
+    → (before : List (List ℕ)) × (words ≡ before ++ word ∷ [])
+stand_last app [] word [] h = absurd h
+stand_last app [] word (x ∷ words) h = ([], ap (λ (w : List ℕ). w ∷ words) h.0 ∙ ap (λ (rest : List (List ℕ)). word ∷ rest) h.1)
+stand_last app (sign ∷ front) word [] h = absurd h
+stand_last app (sign ∷ front) word (x ∷ words) h =
+    let rest = stand_last app front word words h.1 in
+    (x ∷ rest.0, ap (λ (those : List (List ℕ)). x ∷ those) rest.1)
+
+ends_so : (app : AppView) (front : List Sign) (word : List ℕ) (words : List (List ℕ)) → WantsFormula word
+    → StandFor app (front ++ Itself word ∷ []) words → IsCutOff words
+ends_so app front word words wants h = let last = stand_last app front word words h in inr (last.0, word, last.1, wants)
+
+cut_off-by : (app : AppView) (words : List (List ℕ)) (begun : List Unfinished) → StandFor app (signs_begun begun) words → IsCutOff words
+cut_off-by app words [] h = inl h
+cut_off-by app words (Opens ∷ before) h = ends_so app (signs_begun before) (codes "(") words (inl refl) h
+cut_off-by app words (Denies ∷ before) h = ends_so app (signs_begun before) (codes "not") words (inr (inl refl)) h
+cut_off-by app words (Ands one ∷ before) h =
+    ends_so app (signs_begun before ++ signs_of one) (codes "and") words (inr (inr (inl refl)))
+    (subst (λ (signs : List Sign). StandFor app signs words) (sym (append_assoc (signs_begun before) (signs_of one) (and_sign ∷ []))) h)
+cut_off-by app words (Ors one ∷ before) h =
+    ends_so app (signs_begun before ++ signs_of one) (codes "or") words (inr (inr (inr refl)))
+    (subst (λ (signs : List Sign). StandFor app signs words) (sym (append_assoc (signs_begun before) (signs_of one) (or_sign ∷ []))) h)
+
+pub cut_off : (app : AppView) (words : List (List ℕ)) (end : WordsView) (signs : List Sign) (draft : DraftView)
+    → Reads signs (record { app = app; ahead = words }) end → end.ahead ≡ [] → IsWanting draft signs → IsCutOff words
+cut_off app words end signs draft h over wanting =
+    cut_off-by app words wanting.begun
+    (subst (λ (those : List Sign). StandFor app those words) wanting.written (subst (λ (all : List (List ℕ)). StandFor app signs all) (sym all) h.written))
   where
     all : words ≡ h.words
     all = h.ahead ∙ ap (λ (rest : List (List ℕ)). h.words ++ rest) over ∙ append-nil h.words

@@ -1,5 +1,5 @@
 -- What is read of a goal's words so far, and what stands in its rows by then.
-use Rattle.std.specs.Prelude.{ℕ, ◌≡◌, ◌+◌, ◌-◌, ◌<◌, ◌≤◌, ◌++◌, ◌∷◌, Bool, true, false, List, []}
+use Rattle.std.specs.Prelude.{ℕ, ◌≡◌, ◌≢◌, ◌+◌, ◌-◌, ◌<◌, ◌≤◌, ◌++◌, ◌∷◌, Bool, true, false, List, []}
 use Rattle.std.specs.Prelude.{codes, drop, filter, if◌then◌else◌, length, take}
 use Rattle.rd_text.specs.Words.{is_some_word, is_space}
 use Rattle.rd_state.specs.Snapshot.{Snapshot}
@@ -15,8 +15,11 @@ use Rattle.rd_goal.specs.declared.claim.Claim.TheVariants.{Holds, Masked, Among,
 use Rattle.rd_goal.specs.declared.claim.Claim.TheVariants.{SomeFailed, Finished, Asleep}
 use Rattle.rd_goal.specs.declared.goal.GoalRow.{GoalRow}
 use Rattle.rd_goal.specs.declared.goal.GoalRow.TheVariants as row
+use Rattle.rd_goal.specs.declared.reading.NoGoal.{NoGoal}
+use Rattle.rd_goal.specs.declared.reading.NoGoal.TheVariants.{Ends}
 use Rattle.rd_goal.specs.declared.reading.PendingOperator.{PendingOperator}
 use Rattle.rd_goal.specs.declared.reading.PendingOperator.TheVariants as operator
+use Rattle.rd_goal.specs.declared.reading.Wanted.TheVariants.{Claim as ClaimWanted}
 use Rattle.rd_goal.specs.declared.words.Joining.{Joining}
 use Rattle.rd_goal.specs.declared.words.Joining.TheVariants as joining
 use Rattle.rd_state.specs.declared.phase.Place.{Place}
@@ -54,6 +57,10 @@ abbrev pub joining_word : Joining → List ℕ
 joining_word joining.And = codes "and"
 joining_word joining.Or = codes "or"
 joining_word joining.Close = codes ")"
+
+-- The words don't end where a claim is wanted.
+abbrev pub IsInside : NoGoal → Type 0
+IsInside why = why ≢ Ends ClaimWanted
 
 -- ---- claims
 

@@ -243,3 +243,15 @@ pub record IsGoalOfWords (app : AppView) (words : List (List ℕ)) (goal : List 
   pub proper : IsProper formula
   pub written : StandFor app (signs_of formula) words
   pub holds : (s : Snapshot) → holds_in goal s ≡ is_true_in s formula
+
+-- ---- no goals
+
+-- Behind this word a formula is wanted.
+abbrev pub WantsFormula : List ℕ → Type 0
+WantsFormula word = (word ≡ codes "(") ⊎ (word ≡ codes "not") ⊎ (word ≡ codes "and")
+    ⊎ (word ≡ codes "or")
+
+-- There is no word, or the last one wants a formula behind it.
+abbrev pub IsCutOff : List (List ℕ) → Type 0
+IsCutOff words = (words ≡ []) ⊎ ((before : List (List ℕ)) × (last : List ℕ)
+    × (words ≡ before ++ last ∷ []) × WantsFormula last)

@@ -1,13 +1,15 @@
 //! Claims as words.
 
-ghost use Rattle.std.specs.Prelude.{◌≡◌, ◌<◌, ◌∷◌, [], codes, ℕ, length, IfOk, IfSome};
+ghost use Rattle.std.specs.Prelude.{◌≡◌, ◌<◌, ◌∷◌, [], codes, ℕ, length, IfErr, IfOk, IfSome, IsErrOf};
 ghost use Rattle.rd_app.specs.Application.{Application};
 ghost use Rattle.rd_condition.specs.Conditions.{IsAmountOf};
 ghost use Rattle.rd_condition.specs.declared.condition.Condition.TheVariants as condition;
 ghost use Rattle.rd_goal.specs.declared.claim.Claim.TheVariants as claim;
 ghost use Rattle.rd_goal.specs.Claims.{IsClaimOf};
-ghost use Rattle.rd_goal.specs.Reading.{Reads, ReadsAbout, ReadsAmount, ReadsBehind, ReadsClaim};
-ghost use Rattle.rd_goal.specs.Reading.{ReadsPlace};
+ghost use Rattle.rd_goal.specs.Reading.{IsInside, Reads, ReadsAbout, ReadsAmount, ReadsBehind};
+ghost use Rattle.rd_goal.specs.Reading.{ReadsClaim, ReadsPlace};
+ghost use Rattle.rd_goal.specs.declared.reading.NoGoal.TheVariants.{Ends};
+ghost use Rattle.rd_goal.specs.declared.reading.Wanted.TheVariants.{Claim as ClaimWanted};
 ghost use Rattle.rd_goal.specs.Written.{IsAlone, Named, list_word, side_word};
 ghost use Rattle.rd_state.specs.declared.phase.Held.TheVariants as held;
 ghost use Rattle.rd_state.specs.declared.phase.Listed.TheVariants as listed;
@@ -28,6 +30,7 @@ fn compared(amount: Amount, reader: &mut GoalReader<'_, '_>) -> Result<Claim, No
     requires { IsAmountOf reader.old.app.runs amount }
     ensures claim { IfOk result (IsClaimOf reader.old.app.runs) }
     ensures read { IfOk result (ReadsAbout amount reader.old reader.new) }
+    ensures inside { IfErr result IsInside }
     ensures app { reader.new.app ≡ reader.old.app }
 {
     let comparison = reader.comparison()?;
@@ -46,6 +49,7 @@ fn masked(amount: Amount, reader: &mut GoalReader<'_, '_>) -> Result<Claim, NoGo
     requires { IsAmountOf reader.old.app.runs amount }
     ensures claim { IfOk result (IsClaimOf reader.old.app.runs) }
     ensures read { IfOk result (ReadsAbout amount reader.old reader.new) }
+    ensures inside { IfErr result IsInside }
     ensures app { reader.new.app ≡ reader.old.app }
 {
     if !reader.takes(b"&") {
@@ -67,6 +71,7 @@ fn against(amount: Amount, reader: &mut GoalReader<'_, '_>) -> Result<Claim, NoG
     requires { IsAmountOf reader.old.app.runs amount }
     ensures claim { IfOk result (IsClaimOf reader.old.app.runs) }
     ensures read { IfOk result (ReadsAbout amount reader.old reader.new) }
+    ensures inside { IfErr result IsInside }
     ensures app { reader.new.app ≡ reader.old.app }
 {
     let comparison = reader.comparison()?;
@@ -92,6 +97,7 @@ fn against(amount: Amount, reader: &mut GoalReader<'_, '_>) -> Result<Claim, NoG
 fn register(reader: &mut GoalReader<'_, '_>) -> Result<Amount, NoGoal>
     ensures amount { IfOk result (IsAmountOf reader.old.app.runs) }
     ensures read { IfOk result (ReadsAmount (codes "reg") reader.old reader.new) }
+    ensures inside { IfErr result IsInside }
     ensures app { reader.new.app ≡ reader.old.app }
 {
     let task = reader.task()?;
@@ -104,6 +110,7 @@ fn register(reader: &mut GoalReader<'_, '_>) -> Result<Amount, NoGoal>
 fn register_claim(reader: &mut GoalReader<'_, '_>) -> Result<Claim, NoGoal>
     ensures claim { IfOk result (IsClaimOf reader.old.app.runs) }
     ensures read { IfOk result (ReadsBehind (codes "reg") reader.old reader.new) }
+    ensures inside { IfErr result IsInside }
     ensures app { reader.new.app ≡ reader.old.app }
 {
     let amount = register(reader)?;
@@ -118,6 +125,7 @@ fn register_claim(reader: &mut GoalReader<'_, '_>) -> Result<Claim, NoGoal>
 fn value(reader: &mut GoalReader<'_, '_>) -> Result<Amount, NoGoal>
     ensures amount { IfOk result (IsAmountOf reader.old.app.runs) }
     ensures read { IfOk result (ReadsAmount (codes "note") reader.old reader.new) }
+    ensures inside { IfErr result IsInside }
     ensures app { reader.new.app ≡ reader.old.app }
 {
     let task = reader.task()?;
@@ -130,6 +138,7 @@ fn of_stream(side: Side, reader: &mut GoalReader<'_, '_>) -> Result<Place, NoGoa
     ensures read { IfOk result (λ place. (stream : ℕ)
         × (place ≡ sort.Held (held.Stream stream side))
         × Reads (Named kind.Stream stream ∷ []) reader.old reader.new) }
+    ensures inside { IfErr result IsInside }
     ensures app { reader.new.app ≡ reader.old.app }
 {
     let stream = reader.stream()?;
@@ -143,6 +152,7 @@ fn of_message(side: Side, reader: &mut GoalReader<'_, '_>) -> Result<Place, NoGo
     ensures read { IfOk result (λ place. (message : ℕ)
         × (place ≡ sort.Held (held.Message message side))
         × Reads (Named kind.Message message ∷ []) reader.old reader.new) }
+    ensures inside { IfErr result IsInside }
     ensures app { reader.new.app ≡ reader.old.app }
 {
     let message = reader.message()?;
@@ -154,6 +164,7 @@ fn of_message(side: Side, reader: &mut GoalReader<'_, '_>) -> Result<Place, NoGo
 // A side of the buffer of whichever kind has that name.
 fn of_buffer(side: Side, reader: &mut GoalReader<'_, '_>) -> Result<Place, NoGoal>
     ensures read { IfOk result (ReadsPlace (side_word side) reader.old reader.new) }
+    ensures inside { IfErr result IsInside }
     ensures app { reader.new.app ≡ reader.old.app }
 {
     if reader.names_stream()? {
@@ -166,6 +177,7 @@ fn of_buffer(side: Side, reader: &mut GoalReader<'_, '_>) -> Result<Place, NoGoa
 // One of a queue's lists.
 fn of_queue(list: WaitingList, reader: &mut GoalReader<'_, '_>) -> Result<Place, NoGoal>
     ensures read { IfOk result (ReadsPlace (list_word list) reader.old reader.new) }
+    ensures inside { IfErr result IsInside }
     ensures app { reader.new.app ≡ reader.old.app }
 {
     let queue = reader.queue()?;
@@ -177,6 +189,7 @@ fn of_queue(list: WaitingList, reader: &mut GoalReader<'_, '_>) -> Result<Place,
 // A queue set.
 fn of_queue_set(reader: &mut GoalReader<'_, '_>) -> Result<Place, NoGoal>
     ensures read { IfOk result (ReadsPlace (codes "select") reader.old reader.new) }
+    ensures inside { IfErr result IsInside }
     ensures app { reader.new.app ≡ reader.old.app }
 {
     let queue_set = reader.queue_set()?;
@@ -188,6 +201,7 @@ fn of_queue_set(reader: &mut GoalReader<'_, '_>) -> Result<Place, NoGoal>
 // An event group.
 fn of_group(reader: &mut GoalReader<'_, '_>) -> Result<Place, NoGoal>
     ensures read { IfOk result (ReadsPlace (codes "group") reader.old reader.new) }
+    ensures inside { IfErr result IsInside }
     ensures app { reader.new.app ≡ reader.old.app }
 {
     let group = reader.group()?;
@@ -199,6 +213,7 @@ fn of_group(reader: &mut GoalReader<'_, '_>) -> Result<Place, NoGoal>
 // A notification entry.
 fn of_entry(reader: &mut GoalReader<'_, '_>) -> Result<Place, NoGoal>
     ensures read { IfOk result (ReadsPlace (codes "note") reader.old reader.new) }
+    ensures inside { IfErr result IsInside }
     ensures app { reader.new.app ≡ reader.old.app }
 {
     let index = reader.index()?;
@@ -208,6 +223,7 @@ fn of_entry(reader: &mut GoalReader<'_, '_>) -> Result<Place, NoGoal>
 // The place that begins with this word, if one does.
 fn place(word: &[u8], reader: &mut GoalReader<'_, '_>) -> Result<Place, NoGoal>
     ensures read { IfOk result (ReadsPlace word.now reader.old reader.new) }
+    ensures inside { IfErr result IsInside }
     ensures app { reader.new.app ≡ reader.old.app }
 {
     match word {
@@ -230,6 +246,7 @@ fn place(word: &[u8], reader: &mut GoalReader<'_, '_>) -> Result<Place, NoGoal>
 fn waits(reader: &mut GoalReader<'_, '_>) -> Result<Claim, NoGoal>
     ensures claim { IfOk result (IsClaimOf reader.old.app.runs) }
     ensures read { IfOk result (ReadsBehind (codes "waits") reader.old reader.new) }
+    ensures inside { IfErr result IsInside }
     ensures app { reader.new.app ≡ reader.old.app }
 {
     let task = reader.task()?;
@@ -246,6 +263,7 @@ fn waits(reader: &mut GoalReader<'_, '_>) -> Result<Claim, NoGoal>
 fn failed(reader: &mut GoalReader<'_, '_>) -> Result<Claim, NoGoal>
     ensures claim { IfOk result (IsClaimOf reader.old.app.runs) }
     ensures read { IfOk result (ReadsBehind (codes "failed") reader.old reader.new) }
+    ensures inside { IfErr result IsInside }
     ensures app { reader.new.app ≡ reader.old.app }
 {
     if reader.is_at_operand() {
@@ -269,6 +287,7 @@ fn in_phase(task: usize, name: PhaseName) -> Claim
 fn at(reader: &mut GoalReader<'_, '_>) -> Result<Claim, NoGoal>
     ensures claim { IfOk result (IsClaimOf reader.old.app.runs) }
     ensures read { IfOk result (ReadsBehind (codes "at") reader.old reader.new) }
+    ensures inside { IfErr result IsInside }
     ensures app { reader.new.app ≡ reader.old.app }
 {
     let task = reader.task()?;
@@ -280,6 +299,7 @@ fn at(reader: &mut GoalReader<'_, '_>) -> Result<Claim, NoGoal>
 fn items(reader: &mut GoalReader<'_, '_>) -> Result<Amount, NoGoal>
     ensures amount { IfOk result (IsAmountOf reader.old.app.runs) }
     ensures read { IfOk result (ReadsAmount (codes "count") reader.old reader.new) }
+    ensures inside { IfErr result IsInside }
     ensures app { reader.new.app ≡ reader.old.app }
 {
     let queue = reader.queue()?;
@@ -290,6 +310,7 @@ fn items(reader: &mut GoalReader<'_, '_>) -> Result<Amount, NoGoal>
 fn bytes(reader: &mut GoalReader<'_, '_>) -> Result<Amount, NoGoal>
     ensures amount { IfOk result (IsAmountOf reader.old.app.runs) }
     ensures read { IfOk result (ReadsAmount (codes "bytes") reader.old reader.new) }
+    ensures inside { IfErr result IsInside }
     ensures app { reader.new.app ≡ reader.old.app }
 {
     let stream = reader.stream()?;
@@ -300,6 +321,7 @@ fn bytes(reader: &mut GoalReader<'_, '_>) -> Result<Amount, NoGoal>
 fn messages(reader: &mut GoalReader<'_, '_>) -> Result<Amount, NoGoal>
     ensures amount { IfOk result (IsAmountOf reader.old.app.runs) }
     ensures read { IfOk result (ReadsAmount (codes "msgs") reader.old reader.new) }
+    ensures inside { IfErr result IsInside }
     ensures app { reader.new.app ≡ reader.old.app }
 {
     let message = reader.message()?;
@@ -310,6 +332,7 @@ fn messages(reader: &mut GoalReader<'_, '_>) -> Result<Amount, NoGoal>
 fn bits(reader: &mut GoalReader<'_, '_>) -> Result<Amount, NoGoal>
     ensures amount { IfOk result (IsAmountOf reader.old.app.runs) }
     ensures read { IfOk result (ReadsAmount (codes "bits") reader.old reader.new) }
+    ensures inside { IfErr result IsInside }
     ensures app { reader.new.app ≡ reader.old.app }
 {
     let group = reader.group()?;
@@ -320,6 +343,7 @@ fn bits(reader: &mut GoalReader<'_, '_>) -> Result<Amount, NoGoal>
 fn pc(reader: &mut GoalReader<'_, '_>) -> Result<Amount, NoGoal>
     ensures amount { IfOk result (IsAmountOf reader.old.app.runs) }
     ensures read { IfOk result (ReadsAmount (codes "pc") reader.old reader.new) }
+    ensures inside { IfErr result IsInside }
     ensures app { reader.new.app ≡ reader.old.app }
 {
     let task = reader.task()?;
@@ -330,6 +354,7 @@ fn pc(reader: &mut GoalReader<'_, '_>) -> Result<Amount, NoGoal>
 fn amount(word: &[u8], reader: &mut GoalReader<'_, '_>) -> Result<Amount, NoGoal>
     ensures amount { IfOk result (IsAmountOf reader.old.app.runs) }
     ensures read { IfOk result (ReadsAmount word.now reader.old reader.new) }
+    ensures inside { IfErr result IsInside }
     ensures app { reader.new.app ≡ reader.old.app }
 {
     match word {
@@ -361,6 +386,7 @@ fn has_bits(amount: Amount) -> bool {
 fn of_amount(word: &[u8], reader: &mut GoalReader<'_, '_>) -> Result<Claim, NoGoal>
     ensures claim { IfOk result (IsClaimOf reader.old.app.runs) }
     ensures read { IfOk result (ReadsBehind word.now reader.old reader.new) }
+    ensures inside { IfErr result IsInside }
     ensures app { reader.new.app ≡ reader.old.app }
 {
     let amount = amount(word, reader)?;
@@ -375,6 +401,7 @@ fn of_amount(word: &[u8], reader: &mut GoalReader<'_, '_>) -> Result<Claim, NoGo
 fn in_named_phase(reader: &mut GoalReader<'_, '_>) -> Result<Claim, NoGoal>
     ensures claim { IfOk result (IsClaimOf reader.old.app.runs) }
     ensures read { IfOk result (ReadsBehind (codes "phase") reader.old reader.new) }
+    ensures inside { IfErr result IsInside }
     ensures app { reader.new.app ≡ reader.old.app }
 {
     let task = reader.task()?;
@@ -386,6 +413,7 @@ fn in_named_phase(reader: &mut GoalReader<'_, '_>) -> Result<Claim, NoGoal>
 fn ended(reader: &mut GoalReader<'_, '_>) -> Result<Claim, NoGoal>
     ensures claim { IfOk result (IsClaimOf reader.old.app.runs) }
     ensures read { IfOk result (ReadsBehind (codes "ended") reader.old reader.new) }
+    ensures inside { IfErr result IsInside }
     ensures app { reader.new.app ≡ reader.old.app }
 {
     let task = reader.task()?;
@@ -396,6 +424,7 @@ fn ended(reader: &mut GoalReader<'_, '_>) -> Result<Claim, NoGoal>
 fn runs(reader: &mut GoalReader<'_, '_>) -> Result<Claim, NoGoal>
     ensures claim { IfOk result (IsClaimOf reader.old.app.runs) }
     ensures read { IfOk result (ReadsBehind (codes "runs") reader.old reader.new) }
+    ensures inside { IfErr result IsInside }
     ensures app { reader.new.app ≡ reader.old.app }
 {
     let task = reader.task()?;
@@ -419,6 +448,7 @@ fn of_all(word: &[u8]) -> Option<Claim>
 fn begun_by(word: &[u8], reader: &mut GoalReader<'_, '_>) -> Result<Claim, NoGoal>
     ensures claim { IfOk result (IsClaimOf reader.old.app.runs) }
     ensures read { IfOk result (ReadsBehind word.now reader.old reader.new) }
+    ensures inside { IfErr result IsInside }
     ensures app { reader.new.app ≡ reader.old.app }
 {
     match word {
@@ -441,6 +471,7 @@ fn begun_by(word: &[u8], reader: &mut GoalReader<'_, '_>) -> Result<Claim, NoGoa
 pub(crate) fn claim(reader: &mut GoalReader<'_, '_>) -> Result<Claim, NoGoal>
     ensures claim { IfOk result (IsClaimOf reader.old.app.runs) }
     ensures read { IfOk result (ReadsClaim reader.old reader.new) }
+    ensures ends { IsErrOf result (Ends ClaimWanted) → reader.old.ahead ≡ [] }
     ensures app { reader.new.app ≡ reader.old.app }
 {
     let word = reader.next(Wanted::Claim)?;

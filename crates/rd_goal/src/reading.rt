@@ -1,12 +1,15 @@
 //! Goals as words: what a goal is read from.
 
 ghost use Rattle.std.specs.Prelude.{◌≡◌, ◌<◌, ◌≤◌, ◌++◌, ◌||◌, ◌∷◌, [], List, length, slice_index};
-ghost use Rattle.std.specs.Prelude.{IfOk, OnOk};
+ghost use Rattle.std.specs.Prelude.{IfErr, IfOk, IsErrOf, OnOk};
 ghost use Rattle.rd_goal.specs.Goals.{IsGoalOf, IsRowOf};
-ghost use Rattle.rd_goal.specs.Reading.{GoesOn, HasFormula, IsAmid, IsJoined, IsRead, IsSettled};
+ghost use Rattle.rd_goal.specs.Reading.{GoesOn, HasFormula, IsAmid, IsInside, IsJoined, IsRead};
+ghost use Rattle.rd_goal.specs.Reading.{IsSettled};
+ghost use Rattle.rd_goal.specs.declared.reading.NoGoal.TheVariants.{Ends};
+ghost use Rattle.rd_goal.specs.declared.reading.Wanted.TheVariants.{Claim as ClaimWanted};
 ghost use Rattle.rd_goal.specs.Reading.{IsTaken, IsWanting, parenthesis_in, part_of};
 ghost use Rattle.rd_goal.specs.Reading.{strength_of, with_row, word_in};
-ghost use Rattle.rd_goal.specs.Written.{IsGoalOfWords, Sign, close_sign, is_parenthesis, spaced};
+ghost use Rattle.rd_goal.specs.Written.{IsCutOff, IsGoalOfWords, Sign, close_sign, is_parenthesis, spaced};
 ghost use Rattle.rd_text.specs.Words.{is_space, texts, words_of};
 
 use crate::claim_words::claim;
@@ -81,12 +84,20 @@ pub enum NoGoal {
 }
 
 impl From<AllocError> for NoGoal {
+    ghost use Rattle.rd_goal.specs.declared.reading.NoGoal.TheVariants.{NoMemory as NoRoom};
+
+    ghost from_gives = { λ _ why. why ≡ NoRoom };
+
     fn from(_error: AllocError) -> NoGoal {
         NoGoal::NoMemory
     }
 }
 
 impl From<NoMemory> for NoGoal {
+    ghost use Rattle.rd_goal.specs.declared.reading.NoGoal.TheVariants.{NoMemory as NoRoom};
+
+    ghost from_gives = { λ _ why. why ≡ NoRoom };
+
     fn from(_error: NoMemory) -> NoGoal {
         NoGoal::NoMemory
     }
@@ -163,6 +174,7 @@ impl<'r, 'a> Draft<'r, 'a> {
     fn add(&mut self, row: GoalRow) -> Result<(), NoGoal>
         requires { IsRowOf self.old.words.app.runs row }
         ensures added { OnOk result (self.new ≡ with_row self.old self.old.operands row) }
+        ensures inside { IfErr result IsInside }
         ensures words { self.new.words ≡ self.old.words }
     {
         let number = self.goal.len();
@@ -177,6 +189,7 @@ impl<'r, 'a> Draft<'r, 'a> {
     fn pend(&mut self, operator: PendingOperator) -> Result<(), NoGoal>
         ensures pending { OnOk result (self.new
             ≡ record self.old { pending = self.old.pending ++ operator ∷ [] }) }
+        ensures inside { IfErr result IsInside }
         ensures words { self.new.words ≡ self.old.words }
     {
         self.pending.try_push(operator).map_err(|_| NoGoal::TooLong)
@@ -193,6 +206,7 @@ impl<'r, 'a> Draft<'r, 'a> {
     // Joins the last rows by an operator.
     fn join(&mut self, operator: PendingOperator) -> Result<(), NoGoal>
         ensures joined { OnOk result (IsJoined operator self.old self.new) }
+        ensures inside { IfErr result IsInside }
         ensures words { self.new.words ≡ self.old.words }
     {
         let other = self.operand();
@@ -216,6 +230,7 @@ impl<'r, 'a> Draft<'r, 'a> {
         requires { 0 < strength }
         ensures settled { OnOk result ((signs : List Sign) → HasFormula strength self.old signs
             → IsSettled strength self.new signs) }
+        ensures inside { IfErr result IsInside }
         ensures words { self.new.words ≡ self.old.words }
     {
         for _ in 0..MAX_ROWS {
@@ -234,6 +249,7 @@ impl<'r, 'a> Draft<'r, 'a> {
     fn close(&mut self) -> Result<(), NoGoal>
         ensures closed { OnOk result ((signs : List Sign) → HasFormula 3 self.old signs
             → HasFormula 3 self.new (signs ++ close_sign ∷ [])) }
+        ensures inside { IfErr result IsInside }
         ensures words { self.new.words ≡ self.old.words }
     {
         self.settle(PendingOperator::Either.strength())?;
@@ -249,6 +265,7 @@ impl<'r, 'a> Draft<'r, 'a> {
             → GoesOn self.old self.new signs is_wanted) }
         ensures less { IfOk result (λ is_wanted.
             length self.new.words.ahead < length self.old.words.ahead) }
+        ensures ends { IsErrOf result (Ends ClaimWanted) → self.old.words.ahead ≡ [] }
         ensures app { self.new.words.app ≡ self.old.words.app }
     {
         if self.reader.takes(b"not") {
@@ -270,6 +287,7 @@ impl<'r, 'a> Draft<'r, 'a> {
             → GoesOn self.old self.new signs is_wanted) }
         ensures less { IfOk result (λ is_wanted.
             length self.new.words.ahead < length self.old.words.ahead) }
+        ensures ends { IsErrOf result (Ends ClaimWanted) → self.old.words.ahead ≡ [] }
         ensures app { self.new.words.app ≡ self.old.words.app }
     {
         match self.reader.joining()? {
@@ -297,6 +315,7 @@ impl<'r, 'a> Draft<'r, 'a> {
             → GoesOn self.old self.new signs wants_next) }
         ensures less { IfOk result (λ wants_next.
             length self.new.words.ahead < length self.old.words.ahead) }
+        ensures ends { IsErrOf result (Ends ClaimWanted) → self.old.words.ahead ≡ [] }
         ensures app { self.new.words.app ≡ self.old.words.app }
     {
         if is_wanted {
@@ -311,6 +330,7 @@ impl<'r, 'a> Draft<'r, 'a> {
         ensures named { IfOk result (IsGoalOf self.entry.words.app.runs) }
         ensures read { IfOk result (λ goal. (signs : List Sign) → HasFormula 3 self.entry signs
             → IsRead signs goal) }
+        ensures inside { IfErr result IsInside }
     {
         let mut draft = self;
         draft.settle(PendingOperator::Either.strength())?;
@@ -332,9 +352,13 @@ impl<'r, 'a> Draft<'r, 'a> {
 /// - `at K N`, `waits K`, `waits K PLACE`, `runs K`, `ended K`, `failed K`, `failed`, `finished`,
 ///   `asleep`, as `Claim` says. PLACE is `recv Q`, `send Q`, `select S`, `read B`, `write B`, `note
 ///   I` or `group G`; `sread`, `swrite`, `mread` and `mwrite` say which kind of buffer it is.
+///
+/// An `Err` says which word is none that stands there, or that they end too early: where a claim is
+/// wanted, there is no word, or the last one is `(`, `not`, `and` or `or`.
 pub fn read_goal(alloc: Global, app: &App, words: &[&[u8]]) -> Result<Goal, NoGoal>
     ensures written { IfOk result (IsGoalOfWords app.now (texts words.now)) }
     ensures named { IfOk result (IsGoalOf app.now.runs) }
+    ensures ends { IsErrOf result (Ends ClaimWanted) → IsCutOff (texts words.now) }
 {
     let mut draft = Draft::new(alloc, GoalReader::new(app, words));
     let mut is_wanted = true;

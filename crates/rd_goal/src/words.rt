@@ -1,12 +1,13 @@
 //! The words of a goal, looked up in an application one after another.
 
-ghost use Rattle.std.specs.Prelude.{◌≡◌, ◌<◌, ◌∷◌, [], false, length, nat_eq, true};
-ghost use Rattle.std.specs.Prelude.{IfNone, IfOk, IfSome};
+ghost use Rattle.std.specs.Prelude.{◌≡◌, ◌≢◌, ◌<◌, ◌∷◌, [], false, length, nat_eq, true};
+ghost use Rattle.std.specs.Prelude.{IfErr, IfNone, IfOk, IfSome};
 ghost use Rattle.rd_app.specs.declared.instr.TheConstants.{REGISTERS};
 ghost use Rattle.rd_names.specs.Names.{names_of};
 ghost use Rattle.rd_text.specs.Words.{texts};
 ghost use Rattle.rd_text.specs.declared.kind.Kind.TheVariants as kind;
-ghost use Rattle.rd_goal.specs.Reading.{Reads, joining_word};
+ghost use Rattle.rd_goal.specs.Reading.{IsInside, Reads, joining_word};
+ghost use Rattle.rd_goal.specs.declared.reading.NoGoal.TheVariants.{Ends};
 ghost use Rattle.rd_goal.specs.Written.{Itself, Named, Numeral, comparison_word, phase_word};
 
 use crate::reading::{NoGoal, Wanted};
@@ -148,7 +149,9 @@ impl<'r, 'a> GoalReader<'r, 'a> {
 
     /// Whether the word that comes next is the name of a stream buffer, and of no message buffer,
     /// or the other way round.
-    pub(crate) fn names_stream(&self) -> Result<bool, NoGoal> {
+    pub(crate) fn names_stream(&self) -> Result<bool, NoGoal>
+        ensures { IfErr result IsInside }
+    {
         let Some(name) = self.words.get(self.read).and_then(|word| name(word)) else {
             return Ok(true);
         };
@@ -176,7 +179,9 @@ impl<'r, 'a> GoalReader<'r, 'a> {
     }
 
     /// That something else was wanted than the word that was read last.
-    pub(crate) fn wanted(&self, what: Wanted) -> NoGoal {
+    pub(crate) fn wanted(&self, what: Wanted) -> NoGoal
+        ensures { IsInside result }
+    {
         NoGoal::Wanted {
             what,
             at: self.read,
@@ -184,13 +189,16 @@ impl<'r, 'a> GoalReader<'r, 'a> {
     }
 
     /// That the parenthesis that was read last closes none.
-    pub(crate) fn unopened(&self) -> NoGoal {
+    pub(crate) fn unopened(&self) -> NoGoal
+        ensures { IsInside result }
+    {
         NoGoal::Unopened { at: self.read }
     }
 
     /// The next word, where something is wanted.
     pub(crate) fn next(&mut self, what: Wanted) -> Result<&'a [u8], NoGoal>
         ensures read { IfOk result (λ word. self.old.ahead ≡ word.now ∷ self.new.ahead) }
+        ensures ends { IfErr result (λ why. (why ≡ Ends what) × (self.old.ahead ≡ [])) }
         ensures app { self.new.app ≡ self.old.app }
     {
         match self.words.get(self.read) {
@@ -205,6 +213,7 @@ impl<'r, 'a> GoalReader<'r, 'a> {
     /// The next word, as a number.
     pub(crate) fn number(&mut self) -> Result<u32, NoGoal>
         ensures read { IfOk result (λ number. Reads (Numeral number ∷ []) self.old self.new) }
+        ensures inside { IfErr result IsInside }
         ensures app { self.new.app ≡ self.old.app }
     {
         let word = self.next(Wanted::Number)?;
@@ -218,6 +227,7 @@ impl<'r, 'a> GoalReader<'r, 'a> {
     fn below(&mut self, limit: usize, what: Wanted) -> Result<usize, NoGoal>
         ensures below { IfOk result (λ number. number < limit) }
         ensures read { IfOk result (λ number. Reads (Numeral number ∷ []) self.old self.new) }
+        ensures inside { what ≢ Wanted.Claim → IfErr result IsInside }
         ensures app { self.new.app ≡ self.old.app }
     {
         let word = self.next(what)?;
@@ -231,6 +241,7 @@ impl<'r, 'a> GoalReader<'r, 'a> {
     pub(crate) fn register(&mut self) -> Result<usize, NoGoal>
         ensures register { IfOk result (λ register. register < REGISTERS) }
         ensures read { IfOk result (λ register. Reads (Numeral register ∷ []) self.old self.new) }
+        ensures inside { IfErr result IsInside }
         ensures app { self.new.app ≡ self.old.app }
     {
         self.below(REGISTERS, Wanted::Register)
@@ -240,6 +251,7 @@ impl<'r, 'a> GoalReader<'r, 'a> {
     pub(crate) fn index(&mut self) -> Result<usize, NoGoal>
         ensures index { IfOk result (λ index. index < self.old.app.runs.entries) }
         ensures read { IfOk result (λ index. Reads (Numeral index ∷ []) self.old self.new) }
+        ensures inside { IfErr result IsInside }
         ensures app { self.new.app ≡ self.old.app }
     {
         let entries = self.app.program().entries();
@@ -250,6 +262,7 @@ impl<'r, 'a> GoalReader<'r, 'a> {
     pub(crate) fn instruction(&mut self, task: usize) -> Result<usize, NoGoal>
         requires { task < length self.old.app.runs.tasks }
         ensures read { IfOk result (λ pc. Reads (Numeral pc ∷ []) self.old self.new) }
+        ensures inside { IfErr result IsInside }
         ensures app { self.new.app ≡ self.old.app }
     {
         let instructions = self.app.code(task).len();
@@ -260,6 +273,7 @@ impl<'r, 'a> GoalReader<'r, 'a> {
     fn named(&mut self, kind: Kind, what: Wanted) -> Result<usize, NoGoal>
         ensures named { IfOk result (λ number. number < length (names_of kind self.old.app.names)) }
         ensures read { IfOk result (λ number. Reads (Named kind number ∷ []) self.old self.new) }
+        ensures inside { what ≢ Wanted.Claim → IfErr result IsInside }
         ensures app { self.new.app ≡ self.old.app }
     {
         let word = self.next(what)?;
@@ -276,6 +290,7 @@ impl<'r, 'a> GoalReader<'r, 'a> {
     pub(crate) fn queue(&mut self) -> Result<usize, NoGoal>
         ensures queue { IfOk result (λ queue. queue < length self.old.app.runs.objects.queues) }
         ensures read { IfOk result (λ queue. Reads (Named kind.Queue queue ∷ []) self.old self.new) }
+        ensures inside { IfErr result IsInside }
         ensures app { self.new.app ≡ self.old.app }
     {
         self.app.limits();
@@ -286,6 +301,7 @@ impl<'r, 'a> GoalReader<'r, 'a> {
     pub(crate) fn queue_set(&mut self) -> Result<usize, NoGoal>
         ensures queue_set { IfOk result (λ queue_set. queue_set < length self.old.app.runs.objects.queue_sets) }
         ensures read { IfOk result (λ queue_set. Reads (Named kind.QueueSet queue_set ∷ []) self.old self.new) }
+        ensures inside { IfErr result IsInside }
         ensures app { self.new.app ≡ self.old.app }
     {
         self.app.limits();
@@ -296,6 +312,7 @@ impl<'r, 'a> GoalReader<'r, 'a> {
     pub(crate) fn stream(&mut self) -> Result<usize, NoGoal>
         ensures stream { IfOk result (λ stream. stream < length self.old.app.runs.objects.streams) }
         ensures read { IfOk result (λ stream. Reads (Named kind.Stream stream ∷ []) self.old self.new) }
+        ensures inside { IfErr result IsInside }
         ensures app { self.new.app ≡ self.old.app }
     {
         self.app.limits();
@@ -306,6 +323,7 @@ impl<'r, 'a> GoalReader<'r, 'a> {
     pub(crate) fn message(&mut self) -> Result<usize, NoGoal>
         ensures message { IfOk result (λ message. message < length self.old.app.runs.objects.messages) }
         ensures read { IfOk result (λ message. Reads (Named kind.Message message ∷ []) self.old self.new) }
+        ensures inside { IfErr result IsInside }
         ensures app { self.new.app ≡ self.old.app }
     {
         self.app.limits();
@@ -316,6 +334,7 @@ impl<'r, 'a> GoalReader<'r, 'a> {
     pub(crate) fn group(&mut self) -> Result<usize, NoGoal>
         ensures group { IfOk result (λ group. group < length self.old.app.runs.objects.groups) }
         ensures read { IfOk result (λ group. Reads (Named kind.Group group ∷ []) self.old self.new) }
+        ensures inside { IfErr result IsInside }
         ensures app { self.new.app ≡ self.old.app }
     {
         self.app.limits();
@@ -326,6 +345,7 @@ impl<'r, 'a> GoalReader<'r, 'a> {
     pub(crate) fn task(&mut self) -> Result<usize, NoGoal>
         ensures task { IfOk result (λ task. task < length self.old.app.runs.tasks) }
         ensures read { IfOk result (λ task. Reads (Named kind.Task task ∷ []) self.old self.new) }
+        ensures inside { IfErr result IsInside }
         ensures app { self.new.app ≡ self.old.app }
     {
         self.app.limits();
@@ -336,6 +356,7 @@ impl<'r, 'a> GoalReader<'r, 'a> {
     pub(crate) fn comparison(&mut self) -> Result<Comparison, NoGoal>
         ensures read { IfOk result (λ comparison.
             Reads (Itself (comparison_word comparison) ∷ []) self.old self.new) }
+        ensures inside { IfErr result IsInside }
         ensures app { self.new.app ≡ self.old.app }
     {
         match comparison_of(self.next(Wanted::Comparison)?) {
@@ -348,6 +369,7 @@ impl<'r, 'a> GoalReader<'r, 'a> {
     pub(crate) fn joining(&mut self) -> Result<Joining, NoGoal>
         ensures read { IfOk result (λ joining.
             Reads (Itself (joining_word joining) ∷ []) self.old self.new) }
+        ensures inside { IfErr result IsInside }
         ensures app { self.new.app ≡ self.old.app }
     {
         match joining_of(self.next(Wanted::Join)?) {
@@ -360,6 +382,7 @@ impl<'r, 'a> GoalReader<'r, 'a> {
     pub(crate) fn phase(&mut self) -> Result<PhaseName, NoGoal>
         ensures read { IfOk result (λ name.
             Reads (Itself (phase_word name) ∷ []) self.old self.new) }
+        ensures inside { IfErr result IsInside }
         ensures app { self.new.app ≡ self.old.app }
     {
         match phase_of(self.next(Wanted::Phase)?) {

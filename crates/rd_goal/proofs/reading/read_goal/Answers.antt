@@ -1,7 +1,7 @@
 use Rattle.std.proofs.Common.{◌≡◌, ◌∙◌, ◌++◌, Bool, [], ap, arith, length, subst, sym}
 use Rattle.rd_text.specs.Words.{texts}
 use Rattle.rd_goal.specs.Reading.{DraftView, IsAmid}
-use Rattle.rd_goal.proofs.DraftLaws.{if_ok, is_written, no_items, none_left}
+use Rattle.rd_goal.proofs.DraftLaws.{cut_off, if_ok, is_written, no_items, none_left}
 use Rattle.rd_goal.proofs.WordLaws.{reads_both}
 use Rattle.rd_goal.proofs.reading.read_goal.Goals as goal
 use Rattle.rd_goal.proofs.reading.read_goal.Goals.{else-loop-test, then-loop-test+then-is_over}
@@ -30,3 +30,15 @@ returns-clause-written c =
     ] in
     let amid = subst (λ (b : Bool). IsAmid b c.loop.draft held.signs) c.if-is_wanted.false held.amid in
     if_ok c.end.result (λ goal read. is_written app words c.loop.draft.words held.signs goal held.reads over (read held.signs amid)) c.end.ensures.read
+
+pub returns-then-is_wanted-clause-ends : goal.returns-then-is_wanted-clause-ends
+returns-then-is_wanted-clause-ends c is =
+    let app = c.args.app.now in
+    let words = texts c.args.words.now in
+    let held = c.loop.invariant in
+    let over : c.loop.draft.words.ahead ≡ [] = elim c.loop-test.branch [
+      | else-loop-test w ↦ none_left c.loop.draft.words.ahead c.loop.counter (length c.args.words.now) held.less w.loop-test.false
+      | then-loop-test+then-is_over w ↦ sym (ap (λ (d : DraftView). d.words.ahead) w.draft.view_is) ∙ no_items w.draft.inside.reader.ahead w.if-is_over.ensures
+    ] in
+    let wanting = subst (λ (b : Bool). IsAmid b c.loop.draft held.signs) c.if-is_wanted.true held.amid in
+    cut_off app words c.loop.draft.words held.signs c.loop.draft held.reads over wanting
