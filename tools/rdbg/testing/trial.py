@@ -42,8 +42,8 @@ class Result(NamedTuple):
 
 
 def prepared(case: Case, folder: str) -> Tuple[Stage, Goal]:
-    """Where orders of a case are made, and its goal. Raises `Failure` where its file, its goal or an
-    interrupt is none."""
+    """Where orders of a case are made, and its goal. Raises `Failure` where its file, its goal or
+    an interrupt is none."""
     path = os.path.join(folder, case.file)
     source = load(path, dict(map(definition, case.consts)))
     if source.application is None:
