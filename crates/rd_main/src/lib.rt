@@ -2,10 +2,11 @@
 //! Page: `docs/FORMATS.md`. Definitions in reading order (`specs/`): `Running`.
 #![tactic(auto)]
 
-ghost use Rattle.std.specs.Prelude.{◌≡◌, ◌≢◌, ◌≤◌, length, map, string_bytes, IfErr};
+ghost use Rattle.std.specs.Prelude.{◌≡◌, ◌≢◌, ◌≤◌, length, map, string_bytes, IfErr, IsOk};
 ghost use Rattle.std.specs.IoError.{error_kind};
 ghost use Rattle.rd_start.specs.Requests.{words_read, AreRefused, IsWithinLimits};
 ghost use Rattle.rd_start.specs.declared.fault.Fault.TheVariants.{BadCommandLine};
+ghost use Rattle.rd_main.specs.Running.{AskForSomething};
 ghost use Rattle.rd_main.specs.declared.failure.Failure.TheVariants.{Start};
 
 pub mod alone;
@@ -32,10 +33,10 @@ use std::time::Clock;
 const DONE: u8 = 0;
 
 /// Runs the program on the words of its command line, without its own name, and answers its exit
-/// status: 0 at the end of all sessions and after help, 2 for a bad command line, 1 where no
-/// session begins for another cause, or where the history isn't what the sessions were answered.
-/// The cause is said in one line on `errors`; so is, with status 0, how many connections have
-/// failed, if some have.
+/// status: 0 at the end of all sessions and after help, where the words ask for one of these, 2 for
+/// a bad command line, 1 where no session begins for another cause, or where the history isn't what
+/// the sessions were answered. The cause is said in one line on `errors`; so is, with status 0, how
+/// many connections have failed, if some have.
 pub fn run_main<H, R: Read, W: Write, E: Write>(
     handle: &H,
     words: &[String],
@@ -49,6 +50,7 @@ where
     ensures statuses { result ≤ 2 }
     ensures no_words { length words.now ≡ 0 → result ≤ 1 }
     ensures bad_command_line { result ≡ 2 → AreRefused (words_read (map string_bytes words.now)) }
+    ensures done { result ≡ 0 → AskForSomething (words_read (map string_bytes words.now)) }
 {
     match run(handle, words, reader, writer, errors) {
         Ok(()) => DONE,
@@ -94,6 +96,7 @@ where
         → IfErr result (λ failure. failure ≢ Start BadCommandLine) }
     ensures bad_command_line { IfErr result (λ failure. failure ≡ Start BadCommandLine
         → AreRefused (words_read (map string_bytes words.now))) }
+    ensures asked { IsOk result → AskForSomething (words_read (map string_bytes words.now)) }
 {
     match options(handle.alloc(), words)? {
         StartRequest::Run { settings } => {
