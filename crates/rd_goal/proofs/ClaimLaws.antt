@@ -30,12 +30,12 @@ about_behind first amount old mid new claim h k = record {
   reads = reads_both h.signs k.signs old mid new h.reads k.reads;
 }
 
-pub behind_first : (first : List ℕ) (old mid new : WordsView) (claim : Claim) → old.ahead ≡ first ∷ mid.ahead → mid.app ≡ old.app
+pub behind_first : (first : List ℕ) (old mid new : WordsView) (claim : Claim) → old.ahead ≡ first ∷ mid.ahead → mid.source ≡ old.source
     → ReadsBehind first mid new claim → ReadsClaim old new claim
-behind_first first old mid new claim ahead app h = record {
+behind_first first old mid new claim ahead source h = record {
   signs = Itself first ∷ h.signs;
   form = h.form;
-  reads = reads_more (Itself first) h.signs old mid new (reads_itself old mid first ahead app) h.reads;
+  reads = reads_more (Itself first) h.signs old mid new (reads_itself old mid first ahead source) h.reads;
 }
 
 -- a claim that is one word

@@ -1,5 +1,5 @@
 -- What stands in a draft by the signs that were read.
-use Rattle.std.proofs.Common.{◌≡◌, ◌∙◌, ◌<◌, ◌≤◌, ◌+◌, ◌-◌, ◌&&◌, ◌||◌, ℕ, Bool, true, false, not, List, [], ◌∷◌, ◌++◌, length, take, drop, nat_eq, get_or, Some, None, Result, Ok, Err, IfOk, refl, sym, ap, subst, arith, append_assoc, inl, inr}
+use Rattle.std.proofs.Common.{◌≡◌, ◌∙◌, ◌<◌, ◌≤◌, ◌+◌, ◌-◌, ◌&&◌, ◌||◌, ℕ, Bool, true, false, not, List, [], ◌∷◌, ◌++◌, length, take, drop, nat_eq, get_or, Some, None, Result, Ok, Err, IfErr, IfOk, refl, sym, ap, subst, arith, append_assoc, inl, inr}
 use Rattle.std.specs.List.{fold}
 use Rattle.std.specs.Prelude.{codes, slice_get}
 use Rattle.std.proofs.lemmas.List.{append-nil, drop_more, get_or_append_left, take-append-drop}
@@ -15,7 +15,7 @@ use Rattle.rd_goal.specs.declared.goal.GoalRow.{GoalRow}
 use Rattle.rd_goal.specs.declared.goal.GoalRow.TheVariants as row
 use Rattle.rd_goal.specs.declared.reading.PendingOperator.{PendingOperator}
 use Rattle.rd_goal.specs.declared.reading.PendingOperator.TheVariants as operator
-use Rattle.rd_goal.specs.Reading.{Ands, AreBegun, Denies, DraftView, EndsIn, HasFormula, IsBegunOn, IsJoined, IsRead, IsRowFor, IsSettled, Reads, IsWanting, Opens, Ors, Unfinished, WordsView, last_strength, least_behind, operator_of, signs_begun, strength_of, with_row}
+use Rattle.rd_goal.specs.Reading.{Ands, AreBegun, Denies, DraftView, EndsIn, HasFormula, IsBegunOn, IsJoined, IsRead, IsRowFor, IsSettled, Reads, IsWanting, Opens, Ors, Unfinished, WordsView, last_strength, least_behind, operator_of, signs_begun, strength_of, unread, with_row}
 use Rattle.rd_goal.specs.Written.{AllOf, AnyOf, Claimed, Denied, Formula, Grouped, IsForm, IsGoalOfWords, Sign, StandFor, and_sign, close_sign, is_true_in, not_sign, open_sign, or_sign, signs_of, IsCutOff, Itself, WantsFormula}
 
 -- ---- rows
@@ -430,8 +430,12 @@ pub if_ok : {X E : Type 0} {P Q : X → Type 0} (r : Result X E) → ((x : X) �
 if_ok (Ok x) so h = so x h
 if_ok (Err e) so h = tt
 
+pub if_err : {X E : Type 0} {P Q : E → Type 0} (r : Result X E) → ((e : E) → P e → Q e) → IfErr r P → IfErr r Q
+if_err (Ok x) so h = tt
+if_err (Err e) so h = so e h
+
 pub is_written : (app : AppView) (words : List (List ℕ)) (end : WordsView) (signs : List Sign) (goal : List GoalRow)
-    → Reads signs (record { app = app; ahead = words }) end → end.ahead ≡ [] → IsRead signs goal → IsGoalOfWords app words goal
+    → Reads signs (unread app words) end → end.ahead ≡ [] → IsRead signs goal → IsGoalOfWords app words goal
 is_written app words end signs goal h over read = record {
   formula = read.formula;
   proper = read.proper;
@@ -469,7 +473,7 @@ cut_off-by app words (Ors one ∷ before) h =
     (subst (λ (signs : List Sign). StandFor app signs words) (sym (append_assoc (signs_begun before) (signs_of one) (or_sign ∷ []))) h)
 
 pub cut_off : (app : AppView) (words : List (List ℕ)) (end : WordsView) (signs : List Sign) (draft : DraftView)
-    → Reads signs (record { app = app; ahead = words }) end → end.ahead ≡ [] → IsWanting draft signs → IsCutOff words
+    → Reads signs (unread app words) end → end.ahead ≡ [] → IsWanting draft signs → IsCutOff words
 cut_off app words end signs draft h over wanting =
     cut_off-by app words wanting.begun
     (subst (λ (those : List Sign). StandFor app those words) wanting.written (subst (λ (all : List (List ℕ)). StandFor app signs all) (sym all) h.written))

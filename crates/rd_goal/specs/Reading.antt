@@ -7,7 +7,8 @@ use Rattle.rd_names.specs.Apps.{AppView}
 use Rattle.rd_condition.specs.declared.condition.Amount.{Amount}
 use Rattle.rd_condition.specs.declared.condition.Condition.TheVariants.{Compares, InPhase}
 use Rattle.rd_goal.specs.Goals.{holds_in, truth_among, truths_of}
-use Rattle.rd_goal.specs.Written.{Formula, IsForm, IsPlaceForm, IsProper, Itself, Numeral}
+use Rattle.rd_goal.specs.Written.{Formula, IsForm, IsPlaceForm, IsProper, IsWhyNoGoal, IsWordAt}
+use Rattle.rd_goal.specs.Written.{Itself, Numeral}
 use Rattle.rd_goal.specs.Written.{Sign, StandFor, and_sign, binding, compared_with, comparison_word, is_true_in}
 use Rattle.rd_goal.specs.Written.{not_sign, open_sign, or_sign, signs_of, signs_of_amount}
 use Rattle.rd_goal.specs.declared.claim.Claim.{Claim}
@@ -40,17 +41,32 @@ parenthesis_in byte = if is_space byte then [] else (byte ∷ []) ∷ []
 
 -- ---- words
 
--- the application that words stand in, and those that aren't read yet
-pub record WordsView : Type 0 where
+-- what a goal is read from: words, and the application that they stand in
+pub record Source : Type 0 where
   pub app : AppView
+  pub words : List (List ℕ)
+
+-- how many of the words are read, and those that aren't read yet
+pub record WordsView : Type 0 where
+  pub source : Source
+  pub read : ℕ
   pub ahead : List (List ℕ)
+
+-- the words of which none is read
+abbrev pub unread : AppView → List (List ℕ) → WordsView
+unread app words =
+    record { source = record { app = app; words = words }; read = 0; ahead = words }
+
+-- The word was read last.
+abbrev pub IsLast : WordsView → List ℕ → Type 0
+IsLast words word = IsWordAt words.source.words words.read word
 
 -- The words that stand for these are read.
 pub record Reads (signs : List Sign) (old new : WordsView) : Type 0 where
   pub words : List (List ℕ)
-  pub written : StandFor old.app signs words
+  pub written : StandFor old.source.app signs words
   pub ahead : old.ahead ≡ words ++ new.ahead
-  pub app : new.app ≡ old.app
+  pub source : new.source ≡ old.source
 
 -- what stands behind a formula, as a word
 abbrev pub joining_word : Joining → List ℕ
@@ -58,9 +74,14 @@ joining_word joining.And = codes "and"
 joining_word joining.Or = codes "or"
 joining_word joining.Close = codes ")"
 
--- The words don't end where a claim is wanted.
-abbrev pub IsInside : NoGoal → Type 0
-IsInside why = why ≢ Ends ClaimWanted
+-- The words are no goal for that cause.
+abbrev pub IsWhyNot : Source → NoGoal → Type 0
+IsWhyNot source why = IsWhyNoGoal source.app source.words why
+
+-- The same, and they don't end where a claim is wanted.
+pub record IsRefusal (source : Source) (why : NoGoal) : Type 0 where
+  pub right : IsWhyNot source why
+  pub inside : why ≢ Ends ClaimWanted
 
 -- ---- claims
 

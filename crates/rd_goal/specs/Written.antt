@@ -1,6 +1,9 @@
 -- How goals are written.
-use Rattle.std.specs.Prelude.{ℕ, ◌≡◌, ◌≤◌, ◌⊎◌, ◌&&◌, ◌||◌, ◌++◌, ◌∷◌, ◌==◌, Bool, not, List, []}
-use Rattle.std.specs.Prelude.{Some, codes, if◌then◌else◌, slice_get}
+use Rattle.std.specs.Prelude.{ℕ, ◌≡◌, ◌≢◌, ◌<◌, ◌≤◌, ◌⊎◌, ◌&&◌, ◌||◌, ◌+◌, ◌++◌, ◌∷◌, ◌==◌}
+use Rattle.std.specs.Prelude.{Bool, not, List, [], None, Some, codes, if◌then◌else◌, length}
+use Rattle.std.specs.Prelude.{slice_get}
+use Rattle.rd_app.specs.Application.{code_of}
+use Rattle.rd_app.specs.declared.instr.TheConstants.{REGISTERS}
 use Rattle.rd_text.specs.Words.{number_of}
 use Rattle.rd_text.specs.declared.kind.Kind.{Kind}
 use Rattle.rd_text.specs.declared.kind.Kind.TheVariants as kind
@@ -28,6 +31,10 @@ use Rattle.rd_goal.specs.declared.claim.Claim.{Claim}
 use Rattle.rd_goal.specs.declared.claim.Claim.TheVariants.{Holds, Masked, Among, At, Waits, Runs}
 use Rattle.rd_goal.specs.declared.claim.Claim.TheVariants.{SomeFailed, Finished, Asleep}
 use Rattle.rd_goal.specs.declared.goal.GoalRow.{GoalRow}
+use Rattle.rd_goal.specs.declared.reading.NoGoal.{NoGoal}
+use Rattle.rd_goal.specs.declared.reading.NoGoal.TheVariants as why
+use Rattle.rd_goal.specs.declared.reading.Wanted.{Wanted}
+use Rattle.rd_goal.specs.declared.reading.Wanted.TheVariants as wanted
 
 -- ---- texts
 
@@ -245,6 +252,82 @@ pub record IsGoalOfWords (app : AppView) (words : List (List ℕ)) (goal : List 
   pub holds : (s : Snapshot) → holds_in goal s ≡ is_true_in s formula
 
 -- ---- no goals
+
+-- The word stands at that place; the first one is 1.
+abbrev pub IsWordAt : List (List ℕ) → ℕ → List ℕ → Type 0
+IsWordAt words at word = (before : ℕ) × (at ≡ before + 1) × (slice_get words before ≡ Some word)
+
+-- The word is none of these.
+abbrev pub IsNoneOf : List (List ℕ) → List ℕ → Type 0
+IsNoneOf [] word = Unit {0}
+IsNoneOf (one ∷ others) word = (word ≢ one) × IsNoneOf others word
+
+-- The word is the name of something of that kind.
+abbrev pub IsNameOf : AppView → Kind → List ℕ → Type 0
+IsNameOf app kind word = (number : ℕ) × StandsFor app (Named kind number) word
+
+-- The word is no number below the limit.
+abbrev pub IsNoneBelow : ℕ → List ℕ → Type 0
+IsNoneBelow limit word = (number : ℕ) → number_of word ≡ Some number → limit ≤ number
+
+-- the words that begin a place, but for those that say which kind of buffer it is
+abbrev pub place_words : List (List ℕ)
+place_words = codes "recv" ∷ codes "send" ∷ codes "select" ∷ codes "read" ∷ codes "write"
+    ∷ codes "group" ∷ codes "note" ∷ []
+
+-- the words that begin a formula, but for a claim
+abbrev pub opening_words : List (List ℕ)
+opening_words = codes "not" ∷ codes "(" ∷ []
+
+-- the words that begin an amount, but for a register
+abbrev pub amount_words : List (List ℕ)
+amount_words = codes "count" ∷ codes "bytes" ∷ codes "msgs" ∷ codes "bits" ∷ codes "pc"
+    ∷ codes "note" ∷ codes "tick" ∷ []
+
+-- the words that begin another claim than that of an amount
+abbrev pub claim_words : List (List ℕ)
+claim_words = codes "reg" ∷ codes "phase" ∷ codes "at" ∷ codes "waits" ∷ codes "ended"
+    ∷ codes "runs" ∷ codes "failed" ∷ codes "finished" ∷ codes "asleep" ∷ []
+
+-- the words that may stand behind a formula
+abbrev pub joining_words : List (List ℕ)
+joining_words = codes "and" ∷ codes "or" ∷ codes ")" ∷ []
+
+-- The word isn't what is wanted.
+abbrev pub IsNot : AppView → Wanted → List ℕ → Type 0
+IsNot app wanted.Claim word =
+    IsNoneOf opening_words word × IsNoneOf claim_words word × IsNoneOf amount_words word
+IsNot app wanted.Number word = number_of word ≡ None
+IsNot app wanted.Register word = IsNoneBelow REGISTERS word
+IsNot app wanted.Index word = IsNoneBelow app.runs.entries word
+IsNot app wanted.Instruction word = (task : ℕ) × (task < length app.runs.tasks)
+    × IsNoneBelow (length (code_of app.runs task)) word
+IsNot app wanted.Queue word = ¬ IsNameOf app kind.Queue word
+IsNot app wanted.QueueSet word = ¬ IsNameOf app kind.QueueSet word
+IsNot app wanted.Stream word = ¬ IsNameOf app kind.Stream word
+IsNot app wanted.Message word = ¬ IsNameOf app kind.Message word
+IsNot app wanted.Group word = ¬ IsNameOf app kind.Group word
+IsNot app wanted.Task word = ¬ IsNameOf app kind.Task word
+IsNot app wanted.Comparison word = (comparison : Comparison) → word ≢ comparison_word comparison
+IsNot app wanted.Phase word = (name : PhaseName) → word ≢ phase_word name
+IsNot app wanted.Place word = IsNoneOf place_words word
+    × ((side : Side) → (word ≢ stream_word side) × (word ≢ message_word side))
+IsNot app wanted.Join word = IsNoneOf joining_words word
+
+-- The word at that place isn't what is wanted.
+abbrev pub IsWrongAt : AppView → List (List ℕ) → Wanted → ℕ → Type 0
+IsWrongAt app words what at = (word : List ℕ) × IsWordAt words at word × IsNot app what word
+
+-- The words are no goal for that cause.
+abbrev pub IsWhyNoGoal : AppView → List (List ℕ) → NoGoal → Type 0
+IsWhyNoGoal app words (why.Wanted what at) = IsWrongAt app words what at
+IsWhyNoGoal app words (why.Ends what) = Unit {0}
+IsWhyNoGoal app words (why.Either at) = (word : List ℕ) × IsWordAt words at word
+    × IsNameOf app kind.Stream word × IsNameOf app kind.Message word
+IsWhyNoGoal app words (why.Unopened at) = IsWordAt words at (codes ")")
+IsWhyNoGoal app words why.Unclosed = Unit {0}
+IsWhyNoGoal app words why.TooLong = Unit {0}
+IsWhyNoGoal app words why.NoMemory = Unit {0}
 
 -- Behind this word a formula is wanted.
 abbrev pub WantsFormula : List ℕ → Type 0

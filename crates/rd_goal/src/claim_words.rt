@@ -1,16 +1,19 @@
 //! Claims as words.
 
-ghost use Rattle.std.specs.Prelude.{◌≡◌, ◌<◌, ◌∷◌, [], codes, ℕ, length, IfErr, IfOk, IfSome, IsErrOf};
+ghost use Rattle.std.specs.Prelude.{◌≡◌, ◌≢◌, ◌<◌, ◌∷◌, ℕ, List, [], codes, length};
+ghost use Rattle.std.specs.Prelude.{IfErr, IfNone, IfOk, IfSome, IsErrOf};
 ghost use Rattle.rd_app.specs.Application.{Application};
 ghost use Rattle.rd_condition.specs.Conditions.{IsAmountOf};
 ghost use Rattle.rd_condition.specs.declared.condition.Condition.TheVariants as condition;
 ghost use Rattle.rd_goal.specs.declared.claim.Claim.TheVariants as claim;
 ghost use Rattle.rd_goal.specs.Claims.{IsClaimOf};
-ghost use Rattle.rd_goal.specs.Reading.{IsInside, Reads, ReadsAbout, ReadsAmount, ReadsBehind};
-ghost use Rattle.rd_goal.specs.Reading.{ReadsClaim, ReadsPlace};
+ghost use Rattle.rd_goal.specs.Reading.{IsLast, IsRefusal, Reads, ReadsAbout, ReadsAmount};
+ghost use Rattle.rd_goal.specs.Reading.{IsWhyNot, ReadsBehind, ReadsClaim, ReadsPlace};
 ghost use Rattle.rd_goal.specs.declared.reading.NoGoal.TheVariants.{Ends};
 ghost use Rattle.rd_goal.specs.declared.reading.Wanted.TheVariants.{Claim as ClaimWanted};
-ghost use Rattle.rd_goal.specs.Written.{IsAlone, Named, list_word, side_word};
+ghost use Rattle.rd_goal.specs.Written.{IsAlone, IsNoneOf, Named, claim_words, list_word};
+ghost use Rattle.rd_goal.specs.Written.{message_word, opening_words, place_words, side_word};
+ghost use Rattle.rd_goal.specs.Written.{stream_word};
 ghost use Rattle.rd_state.specs.declared.phase.Held.TheVariants as held;
 ghost use Rattle.rd_state.specs.declared.phase.Listed.TheVariants as listed;
 ghost use Rattle.rd_state.specs.declared.phase.Place.TheVariants as sort;
@@ -27,11 +30,11 @@ use rd_stream::side::Side;
 // The claim that compares this amount, of the words behind it.
 #[tactic(auto, using(crate::proofs::WordLaws::reads_more))]
 fn compared(amount: Amount, reader: &mut GoalReader<'_, '_>) -> Result<Claim, NoGoal>
-    requires { IsAmountOf reader.old.app.runs amount }
-    ensures claim { IfOk result (IsClaimOf reader.old.app.runs) }
+    requires { IsAmountOf reader.old.source.app.runs amount }
+    ensures claim { IfOk result (IsClaimOf reader.old.source.app.runs) }
     ensures read { IfOk result (ReadsAbout amount reader.old reader.new) }
-    ensures inside { IfErr result IsInside }
-    ensures app { reader.new.app ≡ reader.old.app }
+    ensures wrong { IfErr result (IsRefusal reader.old.source) }
+    ensures source { reader.new.source ≡ reader.old.source }
 {
     let comparison = reader.comparison()?;
     let bound = reader.number()?;
@@ -46,11 +49,11 @@ fn compared(amount: Amount, reader: &mut GoalReader<'_, '_>) -> Result<Claim, No
 
 // The claim that compares this amount, or some of its bits.
 fn masked(amount: Amount, reader: &mut GoalReader<'_, '_>) -> Result<Claim, NoGoal>
-    requires { IsAmountOf reader.old.app.runs amount }
-    ensures claim { IfOk result (IsClaimOf reader.old.app.runs) }
+    requires { IsAmountOf reader.old.source.app.runs amount }
+    ensures claim { IfOk result (IsClaimOf reader.old.source.app.runs) }
     ensures read { IfOk result (ReadsAbout amount reader.old reader.new) }
-    ensures inside { IfErr result IsInside }
-    ensures app { reader.new.app ≡ reader.old.app }
+    ensures wrong { IfErr result (IsRefusal reader.old.source) }
+    ensures source { reader.new.source ≡ reader.old.source }
 {
     if !reader.takes(b"&") {
         return compared(amount, reader);
@@ -68,11 +71,11 @@ fn masked(amount: Amount, reader: &mut GoalReader<'_, '_>) -> Result<Claim, NoGo
 
 // The claim that compares a register with a number or with another register.
 fn against(amount: Amount, reader: &mut GoalReader<'_, '_>) -> Result<Claim, NoGoal>
-    requires { IsAmountOf reader.old.app.runs amount }
-    ensures claim { IfOk result (IsClaimOf reader.old.app.runs) }
+    requires { IsAmountOf reader.old.source.app.runs amount }
+    ensures claim { IfOk result (IsClaimOf reader.old.source.app.runs) }
     ensures read { IfOk result (ReadsAbout amount reader.old reader.new) }
-    ensures inside { IfErr result IsInside }
-    ensures app { reader.new.app ≡ reader.old.app }
+    ensures wrong { IfErr result (IsRefusal reader.old.source) }
+    ensures source { reader.new.source ≡ reader.old.source }
 {
     let comparison = reader.comparison()?;
     if reader.takes(b"reg") {
@@ -95,10 +98,10 @@ fn against(amount: Amount, reader: &mut GoalReader<'_, '_>) -> Result<Claim, NoG
 
 // A register, behind `reg`.
 fn register(reader: &mut GoalReader<'_, '_>) -> Result<Amount, NoGoal>
-    ensures amount { IfOk result (IsAmountOf reader.old.app.runs) }
+    ensures amount { IfOk result (IsAmountOf reader.old.source.app.runs) }
     ensures read { IfOk result (ReadsAmount (codes "reg") reader.old reader.new) }
-    ensures inside { IfErr result IsInside }
-    ensures app { reader.new.app ≡ reader.old.app }
+    ensures wrong { IfErr result (IsRefusal reader.old.source) }
+    ensures source { reader.new.source ≡ reader.old.source }
 {
     let task = reader.task()?;
     let register = reader.register()?;
@@ -108,10 +111,10 @@ fn register(reader: &mut GoalReader<'_, '_>) -> Result<Amount, NoGoal>
 // The claim that compares a register, or some of its bits.
 #[tactic(auto, using(crate::proofs::ClaimLaws::about_behind))]
 fn register_claim(reader: &mut GoalReader<'_, '_>) -> Result<Claim, NoGoal>
-    ensures claim { IfOk result (IsClaimOf reader.old.app.runs) }
+    ensures claim { IfOk result (IsClaimOf reader.old.source.app.runs) }
     ensures read { IfOk result (ReadsBehind (codes "reg") reader.old reader.new) }
-    ensures inside { IfErr result IsInside }
-    ensures app { reader.new.app ≡ reader.old.app }
+    ensures wrong { IfErr result (IsRefusal reader.old.source) }
+    ensures source { reader.new.source ≡ reader.old.source }
 {
     let amount = register(reader)?;
     if reader.is_ahead(b"&") {
@@ -123,10 +126,10 @@ fn register_claim(reader: &mut GoalReader<'_, '_>) -> Result<Claim, NoGoal>
 
 // The value of a notification entry, behind `note`.
 fn value(reader: &mut GoalReader<'_, '_>) -> Result<Amount, NoGoal>
-    ensures amount { IfOk result (IsAmountOf reader.old.app.runs) }
+    ensures amount { IfOk result (IsAmountOf reader.old.source.app.runs) }
     ensures read { IfOk result (ReadsAmount (codes "note") reader.old reader.new) }
-    ensures inside { IfErr result IsInside }
-    ensures app { reader.new.app ≡ reader.old.app }
+    ensures wrong { IfErr result (IsRefusal reader.old.source) }
+    ensures source { reader.new.source ≡ reader.old.source }
 {
     let task = reader.task()?;
     let index = reader.index()?;
@@ -138,8 +141,8 @@ fn of_stream(side: Side, reader: &mut GoalReader<'_, '_>) -> Result<Place, NoGoa
     ensures read { IfOk result (λ place. (stream : ℕ)
         × (place ≡ sort.Held (held.Stream stream side))
         × Reads (Named kind.Stream stream ∷ []) reader.old reader.new) }
-    ensures inside { IfErr result IsInside }
-    ensures app { reader.new.app ≡ reader.old.app }
+    ensures wrong { IfErr result (IsRefusal reader.old.source) }
+    ensures source { reader.new.source ≡ reader.old.source }
 {
     let stream = reader.stream()?;
     Ok(Place::Held {
@@ -152,8 +155,8 @@ fn of_message(side: Side, reader: &mut GoalReader<'_, '_>) -> Result<Place, NoGo
     ensures read { IfOk result (λ place. (message : ℕ)
         × (place ≡ sort.Held (held.Message message side))
         × Reads (Named kind.Message message ∷ []) reader.old reader.new) }
-    ensures inside { IfErr result IsInside }
-    ensures app { reader.new.app ≡ reader.old.app }
+    ensures wrong { IfErr result (IsRefusal reader.old.source) }
+    ensures source { reader.new.source ≡ reader.old.source }
 {
     let message = reader.message()?;
     Ok(Place::Held {
@@ -164,8 +167,8 @@ fn of_message(side: Side, reader: &mut GoalReader<'_, '_>) -> Result<Place, NoGo
 // A side of the buffer of whichever kind has that name.
 fn of_buffer(side: Side, reader: &mut GoalReader<'_, '_>) -> Result<Place, NoGoal>
     ensures read { IfOk result (ReadsPlace (side_word side) reader.old reader.new) }
-    ensures inside { IfErr result IsInside }
-    ensures app { reader.new.app ≡ reader.old.app }
+    ensures wrong { IfErr result (IsRefusal reader.old.source) }
+    ensures source { reader.new.source ≡ reader.old.source }
 {
     if reader.names_stream()? {
         of_stream(side, reader)
@@ -177,8 +180,8 @@ fn of_buffer(side: Side, reader: &mut GoalReader<'_, '_>) -> Result<Place, NoGoa
 // One of a queue's lists.
 fn of_queue(list: WaitingList, reader: &mut GoalReader<'_, '_>) -> Result<Place, NoGoal>
     ensures read { IfOk result (ReadsPlace (list_word list) reader.old reader.new) }
-    ensures inside { IfErr result IsInside }
-    ensures app { reader.new.app ≡ reader.old.app }
+    ensures wrong { IfErr result (IsRefusal reader.old.source) }
+    ensures source { reader.new.source ≡ reader.old.source }
 {
     let queue = reader.queue()?;
     Ok(Place::Listed {
@@ -189,8 +192,8 @@ fn of_queue(list: WaitingList, reader: &mut GoalReader<'_, '_>) -> Result<Place,
 // A queue set.
 fn of_queue_set(reader: &mut GoalReader<'_, '_>) -> Result<Place, NoGoal>
     ensures read { IfOk result (ReadsPlace (codes "select") reader.old reader.new) }
-    ensures inside { IfErr result IsInside }
-    ensures app { reader.new.app ≡ reader.old.app }
+    ensures wrong { IfErr result (IsRefusal reader.old.source) }
+    ensures source { reader.new.source ≡ reader.old.source }
 {
     let queue_set = reader.queue_set()?;
     Ok(Place::Listed {
@@ -201,8 +204,8 @@ fn of_queue_set(reader: &mut GoalReader<'_, '_>) -> Result<Place, NoGoal>
 // An event group.
 fn of_group(reader: &mut GoalReader<'_, '_>) -> Result<Place, NoGoal>
     ensures read { IfOk result (ReadsPlace (codes "group") reader.old reader.new) }
-    ensures inside { IfErr result IsInside }
-    ensures app { reader.new.app ≡ reader.old.app }
+    ensures wrong { IfErr result (IsRefusal reader.old.source) }
+    ensures source { reader.new.source ≡ reader.old.source }
 {
     let group = reader.group()?;
     Ok(Place::Listed {
@@ -213,18 +216,60 @@ fn of_group(reader: &mut GoalReader<'_, '_>) -> Result<Place, NoGoal>
 // A notification entry.
 fn of_entry(reader: &mut GoalReader<'_, '_>) -> Result<Place, NoGoal>
     ensures read { IfOk result (ReadsPlace (codes "note") reader.old reader.new) }
-    ensures inside { IfErr result IsInside }
-    ensures app { reader.new.app ≡ reader.old.app }
+    ensures wrong { IfErr result (IsRefusal reader.old.source) }
+    ensures source { reader.new.source ≡ reader.old.source }
 {
     let index = reader.index()?;
     Ok(Place::Entry { index })
 }
 
+// The side of a stream buffer that this word is.
+fn stream_side_of(word: &[u8]) -> Option<Side>
+    ensures said { IfSome result (λ side. word.now ≡ stream_word side) }
+    ensures other { IfNone result ((side : Side) → word.now ≢ stream_word side) }
+{
+    match word {
+        b"sread" => Some(Side::Reader),
+        b"swrite" => Some(Side::Writer),
+        _ => None,
+    }
+}
+
+// The side of a message buffer that this word is.
+fn message_side_of(word: &[u8]) -> Option<Side>
+    ensures said { IfSome result (λ side. word.now ≡ message_word side) }
+    ensures other { IfNone result ((side : Side) → word.now ≢ message_word side) }
+{
+    match word {
+        b"mread" => Some(Side::Reader),
+        b"mwrite" => Some(Side::Writer),
+        _ => None,
+    }
+}
+
+// The place that begins with this word, which says which kind of buffer it is.
+fn of_one_kind(word: &[u8], reader: &mut GoalReader<'_, '_>) -> Result<Place, NoGoal>
+    requires last { IsLast reader.old word.now }
+    requires other { IsNoneOf place_words word.now }
+    ensures read { IfOk result (ReadsPlace word.now reader.old reader.new) }
+    ensures wrong { IfErr result (IsRefusal reader.old.source) }
+    ensures source { reader.new.source ≡ reader.old.source }
+{
+    if let Some(side) = stream_side_of(word) {
+        return of_stream(side, reader);
+    }
+    match message_side_of(word) {
+        Some(side) => of_message(side, reader),
+        None => Err(reader.wanted(Wanted::Place)),
+    }
+}
+
 // The place that begins with this word, if one does.
 fn place(word: &[u8], reader: &mut GoalReader<'_, '_>) -> Result<Place, NoGoal>
+    requires { IsLast reader.old word.now }
     ensures read { IfOk result (ReadsPlace word.now reader.old reader.new) }
-    ensures inside { IfErr result IsInside }
-    ensures app { reader.new.app ≡ reader.old.app }
+    ensures wrong { IfErr result (IsRefusal reader.old.source) }
+    ensures source { reader.new.source ≡ reader.old.source }
 {
     match word {
         b"recv" => of_queue(WaitingList::Receiving, reader),
@@ -232,22 +277,18 @@ fn place(word: &[u8], reader: &mut GoalReader<'_, '_>) -> Result<Place, NoGoal>
         b"select" => of_queue_set(reader),
         b"read" => of_buffer(Side::Reader, reader),
         b"write" => of_buffer(Side::Writer, reader),
-        b"sread" => of_stream(Side::Reader, reader),
-        b"swrite" => of_stream(Side::Writer, reader),
-        b"mread" => of_message(Side::Reader, reader),
-        b"mwrite" => of_message(Side::Writer, reader),
         b"group" => of_group(reader),
         b"note" => of_entry(reader),
-        _ => Err(reader.wanted(Wanted::Place)),
+        _ => of_one_kind(word, reader),
     }
 }
 
 // The claim that a task waits, wherever or there.
 fn waits(reader: &mut GoalReader<'_, '_>) -> Result<Claim, NoGoal>
-    ensures claim { IfOk result (IsClaimOf reader.old.app.runs) }
+    ensures claim { IfOk result (IsClaimOf reader.old.source.app.runs) }
     ensures read { IfOk result (ReadsBehind (codes "waits") reader.old reader.new) }
-    ensures inside { IfErr result IsInside }
-    ensures app { reader.new.app ≡ reader.old.app }
+    ensures wrong { IfErr result (IsRefusal reader.old.source) }
+    ensures source { reader.new.source ≡ reader.old.source }
 {
     let task = reader.task()?;
     match reader.operand() {
@@ -261,10 +302,10 @@ fn waits(reader: &mut GoalReader<'_, '_>) -> Result<Claim, NoGoal>
 
 // The claim that some task's call has failed, or this one's.
 fn failed(reader: &mut GoalReader<'_, '_>) -> Result<Claim, NoGoal>
-    ensures claim { IfOk result (IsClaimOf reader.old.app.runs) }
+    ensures claim { IfOk result (IsClaimOf reader.old.source.app.runs) }
     ensures read { IfOk result (ReadsBehind (codes "failed") reader.old reader.new) }
-    ensures inside { IfErr result IsInside }
-    ensures app { reader.new.app ≡ reader.old.app }
+    ensures wrong { IfErr result (IsRefusal reader.old.source) }
+    ensures source { reader.new.source ≡ reader.old.source }
 {
     if reader.is_at_operand() {
         let task = reader.task()?;
@@ -285,10 +326,10 @@ fn in_phase(task: usize, name: PhaseName) -> Claim
 
 // The claim that a task stands at an instruction.
 fn at(reader: &mut GoalReader<'_, '_>) -> Result<Claim, NoGoal>
-    ensures claim { IfOk result (IsClaimOf reader.old.app.runs) }
+    ensures claim { IfOk result (IsClaimOf reader.old.source.app.runs) }
     ensures read { IfOk result (ReadsBehind (codes "at") reader.old reader.new) }
-    ensures inside { IfErr result IsInside }
-    ensures app { reader.new.app ≡ reader.old.app }
+    ensures wrong { IfErr result (IsRefusal reader.old.source) }
+    ensures source { reader.new.source ≡ reader.old.source }
 {
     let task = reader.task()?;
     let pc = reader.instruction(task)?;
@@ -297,10 +338,10 @@ fn at(reader: &mut GoalReader<'_, '_>) -> Result<Claim, NoGoal>
 
 // How many items a queue has, behind `count`.
 fn items(reader: &mut GoalReader<'_, '_>) -> Result<Amount, NoGoal>
-    ensures amount { IfOk result (IsAmountOf reader.old.app.runs) }
+    ensures amount { IfOk result (IsAmountOf reader.old.source.app.runs) }
     ensures read { IfOk result (ReadsAmount (codes "count") reader.old reader.new) }
-    ensures inside { IfErr result IsInside }
-    ensures app { reader.new.app ≡ reader.old.app }
+    ensures wrong { IfErr result (IsRefusal reader.old.source) }
+    ensures source { reader.new.source ≡ reader.old.source }
 {
     let queue = reader.queue()?;
     Ok(Amount::Items { queue })
@@ -308,10 +349,10 @@ fn items(reader: &mut GoalReader<'_, '_>) -> Result<Amount, NoGoal>
 
 // How many bytes a stream buffer has, behind `bytes`.
 fn bytes(reader: &mut GoalReader<'_, '_>) -> Result<Amount, NoGoal>
-    ensures amount { IfOk result (IsAmountOf reader.old.app.runs) }
+    ensures amount { IfOk result (IsAmountOf reader.old.source.app.runs) }
     ensures read { IfOk result (ReadsAmount (codes "bytes") reader.old reader.new) }
-    ensures inside { IfErr result IsInside }
-    ensures app { reader.new.app ≡ reader.old.app }
+    ensures wrong { IfErr result (IsRefusal reader.old.source) }
+    ensures source { reader.new.source ≡ reader.old.source }
 {
     let stream = reader.stream()?;
     Ok(Amount::Bytes { stream })
@@ -319,10 +360,10 @@ fn bytes(reader: &mut GoalReader<'_, '_>) -> Result<Amount, NoGoal>
 
 // How many messages a message buffer has, behind `msgs`.
 fn messages(reader: &mut GoalReader<'_, '_>) -> Result<Amount, NoGoal>
-    ensures amount { IfOk result (IsAmountOf reader.old.app.runs) }
+    ensures amount { IfOk result (IsAmountOf reader.old.source.app.runs) }
     ensures read { IfOk result (ReadsAmount (codes "msgs") reader.old reader.new) }
-    ensures inside { IfErr result IsInside }
-    ensures app { reader.new.app ≡ reader.old.app }
+    ensures wrong { IfErr result (IsRefusal reader.old.source) }
+    ensures source { reader.new.source ≡ reader.old.source }
 {
     let message = reader.message()?;
     Ok(Amount::Messages { message })
@@ -330,10 +371,10 @@ fn messages(reader: &mut GoalReader<'_, '_>) -> Result<Amount, NoGoal>
 
 // The bits of an event group, behind `bits`.
 fn bits(reader: &mut GoalReader<'_, '_>) -> Result<Amount, NoGoal>
-    ensures amount { IfOk result (IsAmountOf reader.old.app.runs) }
+    ensures amount { IfOk result (IsAmountOf reader.old.source.app.runs) }
     ensures read { IfOk result (ReadsAmount (codes "bits") reader.old reader.new) }
-    ensures inside { IfErr result IsInside }
-    ensures app { reader.new.app ≡ reader.old.app }
+    ensures wrong { IfErr result (IsRefusal reader.old.source) }
+    ensures source { reader.new.source ≡ reader.old.source }
 {
     let group = reader.group()?;
     Ok(Amount::Bits { group })
@@ -341,10 +382,10 @@ fn bits(reader: &mut GoalReader<'_, '_>) -> Result<Amount, NoGoal>
 
 // The instruction that a task stands at, behind `pc`.
 fn pc(reader: &mut GoalReader<'_, '_>) -> Result<Amount, NoGoal>
-    ensures amount { IfOk result (IsAmountOf reader.old.app.runs) }
+    ensures amount { IfOk result (IsAmountOf reader.old.source.app.runs) }
     ensures read { IfOk result (ReadsAmount (codes "pc") reader.old reader.new) }
-    ensures inside { IfErr result IsInside }
-    ensures app { reader.new.app ≡ reader.old.app }
+    ensures wrong { IfErr result (IsRefusal reader.old.source) }
+    ensures source { reader.new.source ≡ reader.old.source }
 {
     let task = reader.task()?;
     Ok(Amount::Pc { task })
@@ -352,10 +393,12 @@ fn pc(reader: &mut GoalReader<'_, '_>) -> Result<Amount, NoGoal>
 
 // The amount, but for a register, that begins with this word.
 fn amount(word: &[u8], reader: &mut GoalReader<'_, '_>) -> Result<Amount, NoGoal>
-    ensures amount { IfOk result (IsAmountOf reader.old.app.runs) }
+    requires last { IsLast reader.old word.now }
+    requires other { IsNoneOf opening_words word.now × IsNoneOf claim_words word.now }
+    ensures amount { IfOk result (IsAmountOf reader.old.source.app.runs) }
     ensures read { IfOk result (ReadsAmount word.now reader.old reader.new) }
-    ensures inside { IfErr result IsInside }
-    ensures app { reader.new.app ≡ reader.old.app }
+    ensures wrong { IfErr result (IsRefusal reader.old.source) }
+    ensures source { reader.new.source ≡ reader.old.source }
 {
     match word {
         b"count" => items(reader),
@@ -384,10 +427,12 @@ fn has_bits(amount: Amount) -> bool {
 // The claim that begins with this word and compares an amount, but for a register.
 #[tactic(auto, using(crate::proofs::ClaimLaws::about_behind))]
 fn of_amount(word: &[u8], reader: &mut GoalReader<'_, '_>) -> Result<Claim, NoGoal>
-    ensures claim { IfOk result (IsClaimOf reader.old.app.runs) }
+    requires last { IsLast reader.old word.now }
+    requires other { IsNoneOf opening_words word.now × IsNoneOf claim_words word.now }
+    ensures claim { IfOk result (IsClaimOf reader.old.source.app.runs) }
     ensures read { IfOk result (ReadsBehind word.now reader.old reader.new) }
-    ensures inside { IfErr result IsInside }
-    ensures app { reader.new.app ≡ reader.old.app }
+    ensures wrong { IfErr result (IsRefusal reader.old.source) }
+    ensures source { reader.new.source ≡ reader.old.source }
 {
     let amount = amount(word, reader)?;
     if has_bits(amount) {
@@ -399,10 +444,10 @@ fn of_amount(word: &[u8], reader: &mut GoalReader<'_, '_>) -> Result<Claim, NoGo
 
 // The claim that a task's phase is called so.
 fn in_named_phase(reader: &mut GoalReader<'_, '_>) -> Result<Claim, NoGoal>
-    ensures claim { IfOk result (IsClaimOf reader.old.app.runs) }
+    ensures claim { IfOk result (IsClaimOf reader.old.source.app.runs) }
     ensures read { IfOk result (ReadsBehind (codes "phase") reader.old reader.new) }
-    ensures inside { IfErr result IsInside }
-    ensures app { reader.new.app ≡ reader.old.app }
+    ensures wrong { IfErr result (IsRefusal reader.old.source) }
+    ensures source { reader.new.source ≡ reader.old.source }
 {
     let task = reader.task()?;
     let name = reader.phase()?;
@@ -411,10 +456,10 @@ fn in_named_phase(reader: &mut GoalReader<'_, '_>) -> Result<Claim, NoGoal>
 
 // The claim that the task's script has ended.
 fn ended(reader: &mut GoalReader<'_, '_>) -> Result<Claim, NoGoal>
-    ensures claim { IfOk result (IsClaimOf reader.old.app.runs) }
+    ensures claim { IfOk result (IsClaimOf reader.old.source.app.runs) }
     ensures read { IfOk result (ReadsBehind (codes "ended") reader.old reader.new) }
-    ensures inside { IfErr result IsInside }
-    ensures app { reader.new.app ≡ reader.old.app }
+    ensures wrong { IfErr result (IsRefusal reader.old.source) }
+    ensures source { reader.new.source ≡ reader.old.source }
 {
     let task = reader.task()?;
     Ok(in_phase(task, PhaseName::Ended))
@@ -422,10 +467,10 @@ fn ended(reader: &mut GoalReader<'_, '_>) -> Result<Claim, NoGoal>
 
 // The claim that the task is on a core.
 fn runs(reader: &mut GoalReader<'_, '_>) -> Result<Claim, NoGoal>
-    ensures claim { IfOk result (IsClaimOf reader.old.app.runs) }
+    ensures claim { IfOk result (IsClaimOf reader.old.source.app.runs) }
     ensures read { IfOk result (ReadsBehind (codes "runs") reader.old reader.new) }
-    ensures inside { IfErr result IsInside }
-    ensures app { reader.new.app ≡ reader.old.app }
+    ensures wrong { IfErr result (IsRefusal reader.old.source) }
+    ensures source { reader.new.source ≡ reader.old.source }
 {
     let task = reader.task()?;
     Ok(Claim::Runs { task })
@@ -435,6 +480,7 @@ fn runs(reader: &mut GoalReader<'_, '_>) -> Result<Claim, NoGoal>
 fn of_all(word: &[u8]) -> Option<Claim>
     ensures named { IfSome result (λ claim. (app : Application) → IsClaimOf app claim) }
     ensures said { IfSome result (IsAlone word.now) }
+    ensures other { IfNone result (IsNoneOf (codes "finished" ∷ codes "asleep" ∷ []) word.now) }
 {
     match word {
         b"finished" => Some(Claim::Finished),
@@ -446,10 +492,12 @@ fn of_all(word: &[u8]) -> Option<Claim>
 // The claim that begins with this word.
 #[tactic(auto, using(crate::proofs::ClaimLaws::behind_alone))]
 fn begun_by(word: &[u8], reader: &mut GoalReader<'_, '_>) -> Result<Claim, NoGoal>
-    ensures claim { IfOk result (IsClaimOf reader.old.app.runs) }
+    requires last { IsLast reader.old word.now }
+    requires other { IsNoneOf opening_words word.now }
+    ensures claim { IfOk result (IsClaimOf reader.old.source.app.runs) }
     ensures read { IfOk result (ReadsBehind word.now reader.old reader.new) }
-    ensures inside { IfErr result IsInside }
-    ensures app { reader.new.app ≡ reader.old.app }
+    ensures wrong { IfErr result (IsRefusal reader.old.source) }
+    ensures source { reader.new.source ≡ reader.old.source }
 {
     match word {
         b"reg" => register_claim(reader),
@@ -469,10 +517,13 @@ fn begun_by(word: &[u8], reader: &mut GoalReader<'_, '_>) -> Result<Claim, NoGoa
 /// The claim that the next words are.
 #[tactic(auto, using(crate::proofs::ClaimLaws::behind_first))]
 pub(crate) fn claim(reader: &mut GoalReader<'_, '_>) -> Result<Claim, NoGoal>
-    ensures claim { IfOk result (IsClaimOf reader.old.app.runs) }
+    requires { (word : List ℕ) (rest : List (List ℕ)) → reader.old.ahead ≡ word ∷ rest
+        → IsNoneOf opening_words word }
+    ensures claim { IfOk result (IsClaimOf reader.old.source.app.runs) }
     ensures read { IfOk result (ReadsClaim reader.old reader.new) }
+    ensures wrong { IfErr result (IsWhyNot reader.old.source) }
     ensures ends { IsErrOf result (Ends ClaimWanted) → reader.old.ahead ≡ [] }
-    ensures app { reader.new.app ≡ reader.old.app }
+    ensures source { reader.new.source ≡ reader.old.source }
 {
     let word = reader.next(Wanted::Claim)?;
     begun_by(word, reader)

@@ -1,15 +1,15 @@
 //! Goals as words: what a goal is read from.
 
-ghost use Rattle.std.specs.Prelude.{◌≡◌, ◌<◌, ◌≤◌, ◌++◌, ◌||◌, ◌∷◌, [], List, length, slice_index};
-ghost use Rattle.std.specs.Prelude.{IfErr, IfOk, IsErrOf, OnOk};
+ghost use Rattle.std.specs.Prelude.{◌≡◌, ◌<◌, ◌≤◌, ◌++◌, ◌||◌, ◌∷◌, List, [], codes, length};
+ghost use Rattle.std.specs.Prelude.{slice_index, IfErr, IfOk, IsErrOf, OnOk};
 ghost use Rattle.rd_goal.specs.Goals.{IsGoalOf, IsRowOf};
-ghost use Rattle.rd_goal.specs.Reading.{GoesOn, HasFormula, IsAmid, IsInside, IsJoined, IsRead};
-ghost use Rattle.rd_goal.specs.Reading.{IsSettled};
+ghost use Rattle.rd_goal.specs.Reading.{GoesOn, HasFormula, IsAmid, IsJoined, IsLast, IsRead};
+ghost use Rattle.rd_goal.specs.Reading.{IsRefusal, IsSettled, IsTaken, IsWanting, IsWhyNot};
+ghost use Rattle.rd_goal.specs.Reading.{parenthesis_in, part_of, strength_of, with_row, word_in};
 ghost use Rattle.rd_goal.specs.declared.reading.NoGoal.TheVariants.{Ends};
 ghost use Rattle.rd_goal.specs.declared.reading.Wanted.TheVariants.{Claim as ClaimWanted};
-ghost use Rattle.rd_goal.specs.Reading.{IsTaken, IsWanting, parenthesis_in, part_of};
-ghost use Rattle.rd_goal.specs.Reading.{strength_of, with_row, word_in};
-ghost use Rattle.rd_goal.specs.Written.{IsCutOff, IsGoalOfWords, Sign, close_sign, is_parenthesis, spaced};
+ghost use Rattle.rd_goal.specs.Written.{IsCutOff, IsGoalOfWords, IsWhyNoGoal, Sign, close_sign};
+ghost use Rattle.rd_goal.specs.Written.{is_parenthesis, spaced};
 ghost use Rattle.rd_text.specs.Words.{is_space, texts, words_of};
 
 use crate::claim_words::claim;
@@ -136,7 +136,7 @@ impl<'r, 'a> Model for Draft<'r, 'a> {
       pending = d.pending.items;
     } };
 
-    ghost invariant = { λ d. IsGoalOf d.reader.app.runs d.goal };
+    ghost invariant = { λ d. IsGoalOf d.reader.source.app.runs d.goal };
 }
 
 impl PendingOperator {
@@ -172,9 +172,9 @@ impl<'r, 'a> Draft<'r, 'a> {
 
     // Adds a row, which no other joins yet.
     fn add(&mut self, row: GoalRow) -> Result<(), NoGoal>
-        requires { IsRowOf self.old.words.app.runs row }
+        requires { IsRowOf self.old.words.source.app.runs row }
         ensures added { OnOk result (self.new ≡ with_row self.old self.old.operands row) }
-        ensures inside { IfErr result IsInside }
+        ensures wrong { IfErr result (IsRefusal self.old.words.source) }
         ensures words { self.new.words ≡ self.old.words }
     {
         let number = self.goal.len();
@@ -189,7 +189,7 @@ impl<'r, 'a> Draft<'r, 'a> {
     fn pend(&mut self, operator: PendingOperator) -> Result<(), NoGoal>
         ensures pending { OnOk result (self.new
             ≡ record self.old { pending = self.old.pending ++ operator ∷ [] }) }
-        ensures inside { IfErr result IsInside }
+        ensures wrong { IfErr result (IsRefusal self.old.words.source) }
         ensures words { self.new.words ≡ self.old.words }
     {
         self.pending.try_push(operator).map_err(|_| NoGoal::TooLong)
@@ -206,7 +206,7 @@ impl<'r, 'a> Draft<'r, 'a> {
     // Joins the last rows by an operator.
     fn join(&mut self, operator: PendingOperator) -> Result<(), NoGoal>
         ensures joined { OnOk result (IsJoined operator self.old self.new) }
-        ensures inside { IfErr result IsInside }
+        ensures wrong { IfErr result (IsRefusal self.old.words.source) }
         ensures words { self.new.words ≡ self.old.words }
     {
         let other = self.operand();
@@ -224,13 +224,13 @@ impl<'r, 'a> Draft<'r, 'a> {
         }
     }
 
-    // Joins by the last operators, as far as they bind so much or more. (Each turn adds a row: there
-    // is room for no more turns.)
+    // Joins by the last operators, as far as they bind so much or more. (Each turn adds a row:
+    // there is room for no more turns.)
     fn settle(&mut self, strength: u8) -> Result<(), NoGoal>
         requires { 0 < strength }
         ensures settled { OnOk result ((signs : List Sign) → HasFormula strength self.old signs
             → IsSettled strength self.new signs) }
-        ensures inside { IfErr result IsInside }
+        ensures wrong { IfErr result (IsRefusal self.old.words.source) }
         ensures words { self.new.words ≡ self.old.words }
     {
         for _ in 0..MAX_ROWS {
@@ -247,9 +247,10 @@ impl<'r, 'a> Draft<'r, 'a> {
 
     // Closes a parenthesis.
     fn close(&mut self) -> Result<(), NoGoal>
+        requires { IsLast self.old.words (codes ")") }
         ensures closed { OnOk result ((signs : List Sign) → HasFormula 3 self.old signs
             → HasFormula 3 self.new (signs ++ close_sign ∷ [])) }
-        ensures inside { IfErr result IsInside }
+        ensures wrong { IfErr result (IsRefusal self.old.words.source) }
         ensures words { self.new.words ≡ self.old.words }
     {
         self.settle(PendingOperator::Either.strength())?;
@@ -260,13 +261,15 @@ impl<'r, 'a> Draft<'r, 'a> {
     }
 
     // Reads what begins a formula, and answers whether another one is wanted behind it.
+    #[tactic(auto, using(crate::proofs::WordLaws::why_refused))]
     fn begin(&mut self) -> Result<bool, NoGoal>
-        ensures goes_on { IfOk result (λ is_wanted. (signs : List Sign) → IsWanting self.old signs
-            → GoesOn self.old self.new signs is_wanted) }
+        ensures goes_on { IfOk result (λ is_wanted. (signs : List Sign)
+            → IsWanting self.old signs → GoesOn self.old self.new signs is_wanted) }
         ensures less { IfOk result (λ is_wanted.
             length self.new.words.ahead < length self.old.words.ahead) }
+        ensures wrong { IfErr result (IsWhyNot self.old.words.source) }
         ensures ends { IsErrOf result (Ends ClaimWanted) → self.old.words.ahead ≡ [] }
-        ensures app { self.new.words.app ≡ self.old.words.app }
+        ensures source { self.new.words.source ≡ self.old.words.source }
     {
         if self.reader.takes(b"not") {
             self.pend(PendingOperator::Not)?;
@@ -282,13 +285,15 @@ impl<'r, 'a> Draft<'r, 'a> {
     }
 
     // Reads what follows a formula, and answers whether another one is wanted behind it.
+    #[tactic(auto, using(crate::proofs::WordLaws::why_refused))]
     fn go_on(&mut self) -> Result<bool, NoGoal>
-        ensures goes_on { IfOk result (λ is_wanted. (signs : List Sign) → HasFormula 3 self.old signs
-            → GoesOn self.old self.new signs is_wanted) }
+        ensures goes_on { IfOk result (λ is_wanted. (signs : List Sign)
+            → HasFormula 3 self.old signs → GoesOn self.old self.new signs is_wanted) }
         ensures less { IfOk result (λ is_wanted.
             length self.new.words.ahead < length self.old.words.ahead) }
+        ensures wrong { IfErr result (IsWhyNot self.old.words.source) }
         ensures ends { IsErrOf result (Ends ClaimWanted) → self.old.words.ahead ≡ [] }
-        ensures app { self.new.words.app ≡ self.old.words.app }
+        ensures source { self.new.words.source ≡ self.old.words.source }
     {
         match self.reader.joining()? {
             Joining::And => {
@@ -308,15 +313,16 @@ impl<'r, 'a> Draft<'r, 'a> {
         }
     }
 
-    // Reads on, where a formula is wanted or one has ended, and answers whether another one is wanted
-    // then.
+    // Reads on, where a formula is wanted or one has ended, and answers whether another one is
+    // wanted then.
     fn advance(&mut self, is_wanted: bool) -> Result<bool, NoGoal>
-        ensures goes_on { IfOk result (λ wants_next. (signs : List Sign) → IsAmid is_wanted self.old signs
-            → GoesOn self.old self.new signs wants_next) }
+        ensures goes_on { IfOk result (λ wants_next. (signs : List Sign)
+            → IsAmid is_wanted self.old signs → GoesOn self.old self.new signs wants_next) }
         ensures less { IfOk result (λ wants_next.
             length self.new.words.ahead < length self.old.words.ahead) }
+        ensures wrong { IfErr result (IsWhyNot self.old.words.source) }
         ensures ends { IsErrOf result (Ends ClaimWanted) → self.old.words.ahead ≡ [] }
-        ensures app { self.new.words.app ≡ self.old.words.app }
+        ensures source { self.new.words.source ≡ self.old.words.source }
     {
         if is_wanted {
             self.begin()
@@ -327,10 +333,10 @@ impl<'r, 'a> Draft<'r, 'a> {
 
     // The goal, where its last formula has ended.
     fn end(self) -> Result<Goal, NoGoal>
-        ensures named { IfOk result (IsGoalOf self.entry.words.app.runs) }
+        ensures named { IfOk result (IsGoalOf self.entry.words.source.app.runs) }
         ensures read { IfOk result (λ goal. (signs : List Sign) → HasFormula 3 self.entry signs
             → IsRead signs goal) }
-        ensures inside { IfErr result IsInside }
+        ensures wrong { IfErr result (IsRefusal self.entry.words.source) }
     {
         let mut draft = self;
         draft.settle(PendingOperator::Either.strength())?;
@@ -353,11 +359,16 @@ impl<'r, 'a> Draft<'r, 'a> {
 ///   `asleep`, as `Claim` says. PLACE is `recv Q`, `send Q`, `select S`, `read B`, `write B`, `note
 ///   I` or `group G`; `sread`, `swrite`, `mread` and `mwrite` say which kind of buffer it is.
 ///
-/// An `Err` says which word is none that stands there, or that they end too early: where a claim is
-/// wanted, there is no word, or the last one is `(`, `not`, `and` or `or`.
+/// An `Err` says why they are none. `Wanted`: the word with that number isn't what is wanted: no
+/// name of such a thing, no number or none so small, none of the words that may stand there.
+/// `Either`: that word names a stream buffer and a message buffer. `Unopened`: it is `)`, and
+/// closes nothing. `Ends`: the words end too early; where a claim is wanted, there is no word, or
+/// the last one is `(`, `not`, `and` or `or`. `Unclosed`, `TooLong` and `NoMemory` are as `NoGoal`
+/// says.
 pub fn read_goal(alloc: Global, app: &App, words: &[&[u8]]) -> Result<Goal, NoGoal>
     ensures written { IfOk result (IsGoalOfWords app.now (texts words.now)) }
     ensures named { IfOk result (IsGoalOf app.now.runs) }
+    ensures wrong { IfErr result (IsWhyNoGoal app.now (texts words.now)) }
     ensures ends { IsErrOf result (Ends ClaimWanted) → IsCutOff (texts words.now) }
 {
     let mut draft = Draft::new(alloc, GoalReader::new(app, words));
@@ -385,7 +396,8 @@ fn ends_word(byte: u8) -> bool
 
 // Adds a part of a text as a word, where it isn't empty.
 fn add_word<'a>(words: &mut Vec<&'a [u8]>, part: &'a [u8]) -> Result<(), AllocError>
-    ensures { OnOk result (texts words.new.items ≡ texts words.old.items ++ word_in part.entry.now) }
+    ensures { OnOk result (texts words.new.items
+        ≡ texts words.old.items ++ word_in part.entry.now) }
 {
     if part.is_empty() {
         return Ok(());

@@ -1,14 +1,17 @@
 //! The words of a goal, looked up in an application one after another.
 
-ghost use Rattle.std.specs.Prelude.{◌≡◌, ◌≢◌, ◌<◌, ◌∷◌, [], false, length, nat_eq, true};
+ghost use Rattle.std.specs.Prelude.{◌≡◌, ◌≢◌, ◌<◌, ◌∷◌, ℕ, List, [], codes, false, length, nat_eq};
+ghost use Rattle.std.specs.Prelude.{true};
 ghost use Rattle.std.specs.Prelude.{IfErr, IfNone, IfOk, IfSome};
 ghost use Rattle.rd_app.specs.declared.instr.TheConstants.{REGISTERS};
 ghost use Rattle.rd_names.specs.Names.{names_of};
 ghost use Rattle.rd_text.specs.Words.{texts};
 ghost use Rattle.rd_text.specs.declared.kind.Kind.TheVariants as kind;
-ghost use Rattle.rd_goal.specs.Reading.{IsInside, Reads, joining_word};
+ghost use Rattle.rd_goal.specs.Reading.{IsLast, IsRefusal, Reads, joining_word, unread};
 ghost use Rattle.rd_goal.specs.declared.reading.NoGoal.TheVariants.{Ends};
-ghost use Rattle.rd_goal.specs.Written.{Itself, Named, Numeral, comparison_word, phase_word};
+ghost use Rattle.rd_goal.specs.Written.{IsNameOf, IsNoneBelow, IsNoneOf, IsNot, IsWrongAt};
+ghost use Rattle.rd_goal.specs.Written.{Itself, Named, Numeral, comparison_word, joining_words};
+ghost use Rattle.rd_goal.specs.Written.{phase_word};
 
 use crate::reading::{NoGoal, Wanted};
 use rd_app::instr::REGISTERS;
@@ -45,14 +48,20 @@ impl<'r, 'a> Model for GoalReader<'r, 'a> {
 
     ghost Value = { WordsView };
 
-    ghost view = { λ r. record { app = r.app.now; ahead = drop r.read (texts r.words.now) } };
+    ghost view = { λ r. record {
+      source = record { app = r.app.now; words = texts r.words.now };
+      read = r.read;
+      ahead = drop r.read (texts r.words.now);
+    } };
 
     ghost invariant = { λ r. r.read ≤ length r.words.now };
 }
 
 // How amounts are compared that are compared by this word.
 fn comparison_of(word: &[u8]) -> Option<Comparison>
-    ensures { IfSome result (λ comparison. word.now ≡ comparison_word comparison) }
+    ensures said { IfSome result (λ comparison. word.now ≡ comparison_word comparison) }
+    ensures other { IfNone result ((comparison : Comparison)
+        → word.now ≢ comparison_word comparison) }
 {
     match word {
         b"=" => Some(Comparison::Equal),
@@ -64,7 +73,8 @@ fn comparison_of(word: &[u8]) -> Option<Comparison>
 
 // What is called so of phases.
 fn phase_of(word: &[u8]) -> Option<PhaseName>
-    ensures { IfSome result (λ name. word.now ≡ phase_word name) }
+    ensures said { IfSome result (λ name. word.now ≡ phase_word name) }
+    ensures other { IfNone result ((name : PhaseName) → word.now ≢ phase_word name) }
 {
     match word {
         b"run" => Some(PhaseName::Run),
@@ -79,7 +89,8 @@ fn phase_of(word: &[u8]) -> Option<PhaseName>
 
 // What this word is behind a formula.
 fn joining_of(word: &[u8]) -> Option<Joining>
-    ensures { IfSome result (λ joining. word.now ≡ joining_word joining) }
+    ensures said { IfSome result (λ joining. word.now ≡ joining_word joining) }
+    ensures other { IfNone result (IsNoneOf joining_words word.now) }
 {
     match word {
         b"and" => Some(Joining::And),
@@ -92,7 +103,7 @@ fn joining_of(word: &[u8]) -> Option<Joining>
 impl<'r, 'a> GoalReader<'r, 'a> {
     /// Reads these words in this application.
     pub(crate) fn new(app: &'r App, words: &'r [&'a [u8]]) -> GoalReader<'r, 'a>
-        ensures { result ≡ record { app = app.now; ahead = texts words.now } }
+        ensures { result ≡ unread app.now (texts words.now) }
     {
         GoalReader {
             app,
@@ -103,7 +114,7 @@ impl<'r, 'a> GoalReader<'r, 'a> {
 
     /// The application.
     pub(crate) fn app(&self) -> &'r App
-        ensures { result.now ≡ self.now.app }
+        ensures { result.now ≡ self.now.source.app }
     {
         self.app
     }
@@ -132,8 +143,9 @@ impl<'r, 'a> GoalReader<'r, 'a> {
     /// That word, which is read now, if there is such a one.
     pub(crate) fn operand(&mut self) -> Option<&'a [u8]>
         ensures read { IfSome result (λ word. self.old.ahead ≡ word.now ∷ self.new.ahead) }
+        ensures last { IfSome result (λ word. IsLast self.new word.now) }
         ensures stays { IfNone result (self.new ≡ self.old) }
-        ensures app { self.new.app ≡ self.old.app }
+        ensures source { self.new.source ≡ self.old.source }
     {
         if !self.is_at_operand() {
             return None;
@@ -150,9 +162,12 @@ impl<'r, 'a> GoalReader<'r, 'a> {
     /// Whether the word that comes next is the name of a stream buffer, and of no message buffer,
     /// or the other way round.
     pub(crate) fn names_stream(&self) -> Result<bool, NoGoal>
-        ensures { IfErr result IsInside }
+        ensures { IfErr result (IsRefusal self.now.source) }
     {
-        let Some(name) = self.words.get(self.read).and_then(|word| name(word)) else {
+        let Some(word) = self.words.get(self.read) else {
+            return Ok(true);
+        };
+        let Some(name) = name(word) else {
             return Ok(true);
         };
         let is_stream = self.app.find(Kind::Stream, name).is_some();
@@ -167,7 +182,9 @@ impl<'r, 'a> GoalReader<'r, 'a> {
     pub(crate) fn takes(&mut self, wanted: &[u8]) -> bool
         ensures read { result ≡ true → self.old.ahead ≡ wanted.now ∷ self.new.ahead }
         ensures stays { result ≡ false → self.new ≡ self.old }
-        ensures app { self.new.app ≡ self.old.app }
+        ensures other { (rest : List (List ℕ)) → result ≡ false
+            → self.old.ahead ≢ wanted.now ∷ rest }
+        ensures source { self.new.source ≡ self.old.source }
     {
         match self.words.get(self.read) {
             Some(word) if *word == wanted => {
@@ -180,7 +197,8 @@ impl<'r, 'a> GoalReader<'r, 'a> {
 
     /// That something else was wanted than the word that was read last.
     pub(crate) fn wanted(&self, what: Wanted) -> NoGoal
-        ensures { IsInside result }
+        requires { IsWrongAt self.now.source.app self.now.source.words what self.now.read }
+        ensures { IsRefusal self.now.source result }
     {
         NoGoal::Wanted {
             what,
@@ -190,7 +208,8 @@ impl<'r, 'a> GoalReader<'r, 'a> {
 
     /// That the parenthesis that was read last closes none.
     pub(crate) fn unopened(&self) -> NoGoal
-        ensures { IsInside result }
+        requires { IsLast self.now (codes ")") }
+        ensures { IsRefusal self.now.source result }
     {
         NoGoal::Unopened { at: self.read }
     }
@@ -198,8 +217,10 @@ impl<'r, 'a> GoalReader<'r, 'a> {
     /// The next word, where something is wanted.
     pub(crate) fn next(&mut self, what: Wanted) -> Result<&'a [u8], NoGoal>
         ensures read { IfOk result (λ word. self.old.ahead ≡ word.now ∷ self.new.ahead) }
+        ensures last { IfOk result (λ word. IsLast self.new word.now) }
         ensures ends { IfErr result (λ why. (why ≡ Ends what) × (self.old.ahead ≡ [])) }
-        ensures app { self.new.app ≡ self.old.app }
+        ensures wrong { what ≢ Wanted.Claim → IfErr result (IsRefusal self.old.source) }
+        ensures source { self.new.source ≡ self.old.source }
     {
         match self.words.get(self.read) {
             Some(word) => {
@@ -213,8 +234,8 @@ impl<'r, 'a> GoalReader<'r, 'a> {
     /// The next word, as a number.
     pub(crate) fn number(&mut self) -> Result<u32, NoGoal>
         ensures read { IfOk result (λ number. Reads (Numeral number ∷ []) self.old self.new) }
-        ensures inside { IfErr result IsInside }
-        ensures app { self.new.app ≡ self.old.app }
+        ensures wrong { IfErr result (IsRefusal self.old.source) }
+        ensures source { self.new.source ≡ self.old.source }
     {
         let word = self.next(Wanted::Number)?;
         match number(word) {
@@ -225,10 +246,13 @@ impl<'r, 'a> GoalReader<'r, 'a> {
 
     // The next word, as a number below a limit.
     fn below(&mut self, limit: usize, what: Wanted) -> Result<usize, NoGoal>
+        requires inside { what ≢ Wanted.Claim }
+        requires limit { (word : List ℕ) → IsNoneBelow limit word
+            → IsNot self.old.source.app what word }
         ensures below { IfOk result (λ number. number < limit) }
         ensures read { IfOk result (λ number. Reads (Numeral number ∷ []) self.old self.new) }
-        ensures inside { what ≢ Wanted.Claim → IfErr result IsInside }
-        ensures app { self.new.app ≡ self.old.app }
+        ensures wrong { IfErr result (IsRefusal self.old.source) }
+        ensures source { self.new.source ≡ self.old.source }
     {
         let word = self.next(what)?;
         match number(word) {
@@ -241,18 +265,18 @@ impl<'r, 'a> GoalReader<'r, 'a> {
     pub(crate) fn register(&mut self) -> Result<usize, NoGoal>
         ensures register { IfOk result (λ register. register < REGISTERS) }
         ensures read { IfOk result (λ register. Reads (Numeral register ∷ []) self.old self.new) }
-        ensures inside { IfErr result IsInside }
-        ensures app { self.new.app ≡ self.old.app }
+        ensures wrong { IfErr result (IsRefusal self.old.source) }
+        ensures source { self.new.source ≡ self.old.source }
     {
         self.below(REGISTERS, Wanted::Register)
     }
 
     /// The next word, as the index of a notification entry.
     pub(crate) fn index(&mut self) -> Result<usize, NoGoal>
-        ensures index { IfOk result (λ index. index < self.old.app.runs.entries) }
+        ensures index { IfOk result (λ index. index < self.old.source.app.runs.entries) }
         ensures read { IfOk result (λ index. Reads (Numeral index ∷ []) self.old self.new) }
-        ensures inside { IfErr result IsInside }
-        ensures app { self.new.app ≡ self.old.app }
+        ensures wrong { IfErr result (IsRefusal self.old.source) }
+        ensures source { self.new.source ≡ self.old.source }
     {
         let entries = self.app.program().entries();
         self.below(entries, Wanted::Index)
@@ -260,10 +284,10 @@ impl<'r, 'a> GoalReader<'r, 'a> {
 
     /// The next word, as the number of an instruction of the task's script.
     pub(crate) fn instruction(&mut self, task: usize) -> Result<usize, NoGoal>
-        requires { task < length self.old.app.runs.tasks }
+        requires { task < length self.old.source.app.runs.tasks }
         ensures read { IfOk result (λ pc. Reads (Numeral pc ∷ []) self.old self.new) }
-        ensures inside { IfErr result IsInside }
-        ensures app { self.new.app ≡ self.old.app }
+        ensures wrong { IfErr result (IsRefusal self.old.source) }
+        ensures source { self.new.source ≡ self.old.source }
     {
         let instructions = self.app.code(task).len();
         self.below(instructions, Wanted::Instruction)
@@ -271,12 +295,17 @@ impl<'r, 'a> GoalReader<'r, 'a> {
 
     // The next word, as the number of the thing of that kind that it names.
     fn named(&mut self, kind: Kind, what: Wanted) -> Result<usize, NoGoal>
-        ensures named { IfOk result (λ number. number < length (names_of kind self.old.app.names)) }
+        requires inside { what ≢ Wanted.Claim }
+        requires kind { (word : List ℕ) → ¬ IsNameOf self.old.source.app kind word
+            → IsNot self.old.source.app what word }
+        ensures named { IfOk result (λ number.
+            number < length (names_of kind self.old.source.app.names)) }
         ensures read { IfOk result (λ number. Reads (Named kind number ∷ []) self.old self.new) }
-        ensures inside { what ≢ Wanted.Claim → IfErr result IsInside }
-        ensures app { self.new.app ≡ self.old.app }
+        ensures wrong { IfErr result (IsRefusal self.old.source) }
+        ensures source { self.new.source ≡ self.old.source }
     {
         let word = self.next(what)?;
+        self.app.limits();
         let Some(name) = name(word) else {
             return Err(self.wanted(what));
         };
@@ -288,10 +317,12 @@ impl<'r, 'a> GoalReader<'r, 'a> {
 
     /// The next word, as a queue.
     pub(crate) fn queue(&mut self) -> Result<usize, NoGoal>
-        ensures queue { IfOk result (λ queue. queue < length self.old.app.runs.objects.queues) }
-        ensures read { IfOk result (λ queue. Reads (Named kind.Queue queue ∷ []) self.old self.new) }
-        ensures inside { IfErr result IsInside }
-        ensures app { self.new.app ≡ self.old.app }
+        ensures queue { IfOk result (λ queue.
+            queue < length self.old.source.app.runs.objects.queues) }
+        ensures read { IfOk result (λ queue.
+            Reads (Named kind.Queue queue ∷ []) self.old self.new) }
+        ensures wrong { IfErr result (IsRefusal self.old.source) }
+        ensures source { self.new.source ≡ self.old.source }
     {
         self.app.limits();
         self.named(Kind::Queue, Wanted::Queue)
@@ -299,10 +330,12 @@ impl<'r, 'a> GoalReader<'r, 'a> {
 
     /// The next word, as a queue set.
     pub(crate) fn queue_set(&mut self) -> Result<usize, NoGoal>
-        ensures queue_set { IfOk result (λ queue_set. queue_set < length self.old.app.runs.objects.queue_sets) }
-        ensures read { IfOk result (λ queue_set. Reads (Named kind.QueueSet queue_set ∷ []) self.old self.new) }
-        ensures inside { IfErr result IsInside }
-        ensures app { self.new.app ≡ self.old.app }
+        ensures queue_set { IfOk result (λ queue_set.
+            queue_set < length self.old.source.app.runs.objects.queue_sets) }
+        ensures read { IfOk result (λ queue_set.
+            Reads (Named kind.QueueSet queue_set ∷ []) self.old self.new) }
+        ensures wrong { IfErr result (IsRefusal self.old.source) }
+        ensures source { self.new.source ≡ self.old.source }
     {
         self.app.limits();
         self.named(Kind::QueueSet, Wanted::QueueSet)
@@ -310,10 +343,12 @@ impl<'r, 'a> GoalReader<'r, 'a> {
 
     /// The next word, as a stream buffer.
     pub(crate) fn stream(&mut self) -> Result<usize, NoGoal>
-        ensures stream { IfOk result (λ stream. stream < length self.old.app.runs.objects.streams) }
-        ensures read { IfOk result (λ stream. Reads (Named kind.Stream stream ∷ []) self.old self.new) }
-        ensures inside { IfErr result IsInside }
-        ensures app { self.new.app ≡ self.old.app }
+        ensures stream { IfOk result (λ stream.
+            stream < length self.old.source.app.runs.objects.streams) }
+        ensures read { IfOk result (λ stream.
+            Reads (Named kind.Stream stream ∷ []) self.old self.new) }
+        ensures wrong { IfErr result (IsRefusal self.old.source) }
+        ensures source { self.new.source ≡ self.old.source }
     {
         self.app.limits();
         self.named(Kind::Stream, Wanted::Stream)
@@ -321,10 +356,12 @@ impl<'r, 'a> GoalReader<'r, 'a> {
 
     /// The next word, as a message buffer.
     pub(crate) fn message(&mut self) -> Result<usize, NoGoal>
-        ensures message { IfOk result (λ message. message < length self.old.app.runs.objects.messages) }
-        ensures read { IfOk result (λ message. Reads (Named kind.Message message ∷ []) self.old self.new) }
-        ensures inside { IfErr result IsInside }
-        ensures app { self.new.app ≡ self.old.app }
+        ensures message { IfOk result (λ message.
+            message < length self.old.source.app.runs.objects.messages) }
+        ensures read { IfOk result (λ message.
+            Reads (Named kind.Message message ∷ []) self.old self.new) }
+        ensures wrong { IfErr result (IsRefusal self.old.source) }
+        ensures source { self.new.source ≡ self.old.source }
     {
         self.app.limits();
         self.named(Kind::Message, Wanted::Message)
@@ -332,10 +369,12 @@ impl<'r, 'a> GoalReader<'r, 'a> {
 
     /// The next word, as an event group.
     pub(crate) fn group(&mut self) -> Result<usize, NoGoal>
-        ensures group { IfOk result (λ group. group < length self.old.app.runs.objects.groups) }
-        ensures read { IfOk result (λ group. Reads (Named kind.Group group ∷ []) self.old self.new) }
-        ensures inside { IfErr result IsInside }
-        ensures app { self.new.app ≡ self.old.app }
+        ensures group { IfOk result (λ group.
+            group < length self.old.source.app.runs.objects.groups) }
+        ensures read { IfOk result (λ group.
+            Reads (Named kind.Group group ∷ []) self.old self.new) }
+        ensures wrong { IfErr result (IsRefusal self.old.source) }
+        ensures source { self.new.source ≡ self.old.source }
     {
         self.app.limits();
         self.named(Kind::Group, Wanted::Group)
@@ -343,10 +382,10 @@ impl<'r, 'a> GoalReader<'r, 'a> {
 
     /// The next word, as a task.
     pub(crate) fn task(&mut self) -> Result<usize, NoGoal>
-        ensures task { IfOk result (λ task. task < length self.old.app.runs.tasks) }
+        ensures task { IfOk result (λ task. task < length self.old.source.app.runs.tasks) }
         ensures read { IfOk result (λ task. Reads (Named kind.Task task ∷ []) self.old self.new) }
-        ensures inside { IfErr result IsInside }
-        ensures app { self.new.app ≡ self.old.app }
+        ensures wrong { IfErr result (IsRefusal self.old.source) }
+        ensures source { self.new.source ≡ self.old.source }
     {
         self.app.limits();
         self.named(Kind::Task, Wanted::Task)
@@ -356,8 +395,8 @@ impl<'r, 'a> GoalReader<'r, 'a> {
     pub(crate) fn comparison(&mut self) -> Result<Comparison, NoGoal>
         ensures read { IfOk result (λ comparison.
             Reads (Itself (comparison_word comparison) ∷ []) self.old self.new) }
-        ensures inside { IfErr result IsInside }
-        ensures app { self.new.app ≡ self.old.app }
+        ensures wrong { IfErr result (IsRefusal self.old.source) }
+        ensures source { self.new.source ≡ self.old.source }
     {
         match comparison_of(self.next(Wanted::Comparison)?) {
             Some(comparison) => Ok(comparison),
@@ -369,8 +408,9 @@ impl<'r, 'a> GoalReader<'r, 'a> {
     pub(crate) fn joining(&mut self) -> Result<Joining, NoGoal>
         ensures read { IfOk result (λ joining.
             Reads (Itself (joining_word joining) ∷ []) self.old self.new) }
-        ensures inside { IfErr result IsInside }
-        ensures app { self.new.app ≡ self.old.app }
+        ensures last { IfOk result (λ joining. IsLast self.new (joining_word joining)) }
+        ensures wrong { IfErr result (IsRefusal self.old.source) }
+        ensures source { self.new.source ≡ self.old.source }
     {
         match joining_of(self.next(Wanted::Join)?) {
             Some(joining) => Ok(joining),
@@ -382,8 +422,8 @@ impl<'r, 'a> GoalReader<'r, 'a> {
     pub(crate) fn phase(&mut self) -> Result<PhaseName, NoGoal>
         ensures read { IfOk result (λ name.
             Reads (Itself (phase_word name) ∷ []) self.old self.new) }
-        ensures inside { IfErr result IsInside }
-        ensures app { self.new.app ≡ self.old.app }
+        ensures wrong { IfErr result (IsRefusal self.old.source) }
+        ensures source { self.new.source ≡ self.old.source }
     {
         match phase_of(self.next(Wanted::Phase)?) {
             Some(name) => Ok(name),

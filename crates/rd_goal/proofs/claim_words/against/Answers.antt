@@ -10,7 +10,7 @@ returns-then-takes-clause-read c =
     let old = c.args.reader.now in
     let comparison = Itself (comparison_word c.in_ok-comparison.comparison) in
     let other = c.in_ok-other.ensures.read in
-    let taken = reads_itself c.comparison.new.self c.takes.new.self (codes "reg") (c.if-takes.ensures.read refl) c.if-takes.ensures.app in
+    let taken = reads_itself c.comparison.new.self c.takes.new.self (codes "reg") (c.if-takes.ensures.read refl) c.if-takes.ensures.source in
     let behind = reads_more (Itself (codes "reg")) other.signs c.comparison.new.self c.takes.new.self c.register.new.reader taken other.reads in
     record {
       signs = comparison ∷ Itself (codes "reg") ∷ other.signs;

@@ -12,7 +12,7 @@ returns-clause-read c =
     let bound = Numeral c.in_ok-bound.bound in
     let compared = reads_more comparison (bound ∷ []) c.number.new.self c.comparison.new.self c.number-2.new.self c.in_ok-comparison.ensures.read c.in_ok-bound.ensures.read in
     let masked = reads_more mask (comparison ∷ bound ∷ []) c.takes.new.self c.number.new.self c.number-2.new.self c.in_ok-mask.ensures.read compared in
-    let first = reads_itself old c.takes.new.self (codes "&") (c.if-not-takes.ensures.read refl) c.if-not-takes.ensures.app in
+    let first = reads_itself old c.takes.new.self (codes "&") (c.if-not-takes.ensures.read refl) c.if-not-takes.ensures.source in
     record {
       signs = Itself (codes "&") ∷ mask ∷ comparison ∷ bound ∷ [];
       about = (refl, refl);

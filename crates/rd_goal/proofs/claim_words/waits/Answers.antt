@@ -8,7 +8,7 @@ returns-in_ok-place-in-Some-clause-read c =
     let place = c.in_ok-place-in-Some.ensures.read in
     let word = c.in-Some.word.now in
     let there = reads_more (Itself word) place.signs c.task.new.self c.operand.new.self c.place.new.reader
-    (reads_itself c.task.new.self c.operand.new.self word c.in-Some.ensures.read c.in-Some.ensures.app) place.reads in
+    (reads_itself c.task.new.self c.operand.new.self word c.in-Some.ensures.read c.in-Some.ensures.source) place.reads in
     record {
       signs = named_task c.in_ok-task.task ∷ Itself word ∷ place.signs;
       form = (Itself word ∷ place.signs, place.form, refl);

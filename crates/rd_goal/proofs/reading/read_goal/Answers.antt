@@ -1,8 +1,8 @@
-use Rattle.std.proofs.Common.{◌≡◌, ◌∙◌, ◌++◌, Bool, [], ap, arith, length, subst, sym}
+use Rattle.std.proofs.Common.{◌≡◌, ◌∙◌, ◌++◌, Bool, IfErr, [], rules, ap, arith, length, subst, sym}
 use Rattle.rd_text.specs.Words.{texts}
-use Rattle.rd_goal.specs.Reading.{DraftView, IsAmid}
-use Rattle.rd_goal.proofs.DraftLaws.{cut_off, if_ok, is_written, no_items, none_left}
-use Rattle.rd_goal.proofs.WordLaws.{reads_both}
+use Rattle.rd_goal.specs.Reading.{DraftView, IsAmid, IsWhyNot, Source, unread}
+use Rattle.rd_goal.proofs.DraftLaws.{cut_off, if_err, if_ok, is_written, no_items, none_left}
+use Rattle.rd_goal.proofs.WordLaws.{reads_both, why_refused}
 use Rattle.rd_goal.proofs.reading.read_goal.Goals as goal
 use Rattle.rd_goal.proofs.reading.read_goal.Goals.{else-loop-test, then-loop-test+then-is_over}
 
@@ -13,7 +13,7 @@ loop-preserved c =
     record {
       signs = held.signs ++ more.more;
       reads =
-          reads_both held.signs more.more (record { app = c.args.app.now; ahead = texts c.args.words.now }) c.loop.draft.words c.advance.new.self.words
+          reads_both held.signs more.more (unread c.args.app.now (texts c.args.words.now)) c.loop.draft.words c.advance.new.self.words
           held.reads more.reads;
       amid = more.amid;
       less = let was = held.less in let less = c.in_ok-is_wanted.ensures.less in omega (arith, was, less);
@@ -30,6 +30,15 @@ returns-clause-written c =
     ] in
     let amid = subst (λ (b : Bool). IsAmid b c.loop.draft held.signs) c.if-is_wanted.false held.amid in
     if_ok c.end.result (λ goal read. is_written app words c.loop.draft.words held.signs goal held.reads over (read held.signs amid)) c.end.ensures.read
+
+pub returns-in_err-is_wanted-clause-wrong : goal.returns-in_err-is_wanted-clause-wrong
+returns-in_err-is_wanted-clause-wrong c =
+    subst (λ (source : Source). IfErr c.from_residual.result (IsWhyNot source)) c.loop.invariant.reads.source (search rules)
+
+pub returns-clause-wrong : goal.returns-clause-wrong
+returns-clause-wrong c =
+    let source : Source = record { app = c.args.app.now; words = texts c.args.words.now } in
+    if_err c.end.result (λ why refused. why_refused c.loop.draft.words.source source why c.loop.invariant.reads.source refused) c.end.ensures.wrong
 
 pub returns-then-is_wanted-clause-ends : goal.returns-then-is_wanted-clause-ends
 returns-then-is_wanted-clause-ends c is =

@@ -16,7 +16,7 @@ returns-then-takes-clause-goes_on c signs h =
       more = not_sign ∷ [];
       reads =
           reads_along (not_sign ∷ []) c.self.inside.reader c.args.self.now.words words c.pend.new.self.words old (sym c.in_ok-pend.ensures.words)
-          (reads_itself c.self.inside.reader words (codes "not") (c.if-takes.ensures.read refl) c.if-takes.ensures.app);
+          (reads_itself c.self.inside.reader words (codes "not") (c.if-takes.ensures.read refl) c.if-takes.ensures.source);
       amid = subst (λ (d : DraftView). IsWanting d (signs ++ not_sign ∷ [])) (sym c.in_ok-pend.ensures.pending) (denies (record draft { words = words }) signs was);
     }
 
@@ -30,7 +30,7 @@ returns-then-takes-2-clause-goes_on c signs h =
       more = open_sign ∷ [];
       reads =
           reads_along (open_sign ∷ []) c.takes.new.self c.args.self.now.words words c.pend-then-takes-2.new.self.words old (sym c.in_ok-pend-2.ensures.words)
-          (reads_itself c.takes.new.self words (codes "(") (c.if-takes-2.ensures.read refl) c.if-takes-2.ensures.app);
+          (reads_itself c.takes.new.self words (codes "(") (c.if-takes-2.ensures.read refl) c.if-takes-2.ensures.source);
       amid = subst (λ (d : DraftView). IsWanting d (signs ++ open_sign ∷ [])) (sym c.in_ok-pend-2.ensures.pending) (opens (record draft { words = words }) signs was);
     }
 
