@@ -336,61 +336,6 @@ fn at(reader: &mut GoalReader<'_, '_>) -> Result<Claim, NoGoal>
     Ok(Claim::At { task, pc })
 }
 
-// How many items a queue has, behind `count`.
-fn items(reader: &mut GoalReader<'_, '_>) -> Result<Amount, NoGoal>
-    ensures amount { IfOk result (IsAmountOf reader.old.source.app.runs) }
-    ensures read { IfOk result (ReadsAmount (codes "count") reader.old reader.new) }
-    ensures wrong { IfErr result (IsRefusal reader.old.source) }
-    ensures source { reader.new.source ≡ reader.old.source }
-{
-    let queue = reader.queue()?;
-    Ok(Amount::Items { queue })
-}
-
-// How many bytes a stream buffer has, behind `bytes`.
-fn bytes(reader: &mut GoalReader<'_, '_>) -> Result<Amount, NoGoal>
-    ensures amount { IfOk result (IsAmountOf reader.old.source.app.runs) }
-    ensures read { IfOk result (ReadsAmount (codes "bytes") reader.old reader.new) }
-    ensures wrong { IfErr result (IsRefusal reader.old.source) }
-    ensures source { reader.new.source ≡ reader.old.source }
-{
-    let stream = reader.stream()?;
-    Ok(Amount::Bytes { stream })
-}
-
-// How many messages a message buffer has, behind `msgs`.
-fn messages(reader: &mut GoalReader<'_, '_>) -> Result<Amount, NoGoal>
-    ensures amount { IfOk result (IsAmountOf reader.old.source.app.runs) }
-    ensures read { IfOk result (ReadsAmount (codes "msgs") reader.old reader.new) }
-    ensures wrong { IfErr result (IsRefusal reader.old.source) }
-    ensures source { reader.new.source ≡ reader.old.source }
-{
-    let message = reader.message()?;
-    Ok(Amount::Messages { message })
-}
-
-// The bits of an event group, behind `bits`.
-fn bits(reader: &mut GoalReader<'_, '_>) -> Result<Amount, NoGoal>
-    ensures amount { IfOk result (IsAmountOf reader.old.source.app.runs) }
-    ensures read { IfOk result (ReadsAmount (codes "bits") reader.old reader.new) }
-    ensures wrong { IfErr result (IsRefusal reader.old.source) }
-    ensures source { reader.new.source ≡ reader.old.source }
-{
-    let group = reader.group()?;
-    Ok(Amount::Bits { group })
-}
-
-// The instruction that a task stands at, behind `pc`.
-fn pc(reader: &mut GoalReader<'_, '_>) -> Result<Amount, NoGoal>
-    ensures amount { IfOk result (IsAmountOf reader.old.source.app.runs) }
-    ensures read { IfOk result (ReadsAmount (codes "pc") reader.old reader.new) }
-    ensures wrong { IfErr result (IsRefusal reader.old.source) }
-    ensures source { reader.new.source ≡ reader.old.source }
-{
-    let task = reader.task()?;
-    Ok(Amount::Pc { task })
-}
-
 // The amount, but for a register, that begins with this word.
 fn amount(word: &[u8], reader: &mut GoalReader<'_, '_>) -> Result<Amount, NoGoal>
     requires last { IsLast reader.old word.now }
@@ -401,11 +346,26 @@ fn amount(word: &[u8], reader: &mut GoalReader<'_, '_>) -> Result<Amount, NoGoal
     ensures source { reader.new.source ≡ reader.old.source }
 {
     match word {
-        b"count" => items(reader),
-        b"bytes" => bytes(reader),
-        b"msgs" => messages(reader),
-        b"bits" => bits(reader),
-        b"pc" => pc(reader),
+        b"count" => {
+            let queue = reader.queue()?;
+            Ok(Amount::Items { queue })
+        }
+        b"bytes" => {
+            let stream = reader.stream()?;
+            Ok(Amount::Bytes { stream })
+        }
+        b"msgs" => {
+            let message = reader.message()?;
+            Ok(Amount::Messages { message })
+        }
+        b"bits" => {
+            let group = reader.group()?;
+            Ok(Amount::Bits { group })
+        }
+        b"pc" => {
+            let task = reader.task()?;
+            Ok(Amount::Pc { task })
+        }
         b"note" => value(reader),
         b"tick" => Ok(Amount::Tick),
         _ => Err(reader.wanted(Wanted::Claim)),

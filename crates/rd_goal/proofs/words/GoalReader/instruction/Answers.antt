@@ -1,4 +1,4 @@
-use Rattle.std.proofs.Common.{◌∙◌, ap, length, subst, sym}
+use Rattle.std.proofs.Common.{◌∙◌, ap, length, subst}
 use Rattle.rd_app.specs.Application.{code_of}
 use Rattle.rd_goal.specs.Reading.{WordsView}
 use Rattle.rd_goal.specs.Written.{IsNoneBelow}
