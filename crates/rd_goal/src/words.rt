@@ -1,8 +1,7 @@
 //! The words of a goal, looked up in an application one after another.
 
 ghost use Rattle.std.specs.Prelude.{◌≡◌, ◌≢◌, ◌<◌, ◌∷◌, ℕ, List, [], codes, false, length, nat_eq};
-ghost use Rattle.std.specs.Prelude.{true};
-ghost use Rattle.std.specs.Prelude.{IfErr, IfNone, IfOk, IfSome};
+ghost use Rattle.std.specs.Prelude.{true, IfErr, IfNone, IfOk, IfSome};
 ghost use Rattle.rd_app.specs.declared.instr.TheConstants.{REGISTERS};
 ghost use Rattle.rd_names.specs.Names.{names_of};
 ghost use Rattle.rd_text.specs.Words.{texts};
