@@ -6,7 +6,8 @@ use Rattle.clap.specs.Words.{Row, Text}
 use Rattle.rd_text.specs.Words.{number_of}
 use Rattle.rd_question.specs.CommandLine.{IsFaultIn, IsFaultOfHandler, IsOneOfOption, IsSaidIn, IsWrongIn, SaysOne}
 use Rattle.std.specs.Prelude.{codes}
-use Rattle.rd_question.specs.Handlers.{IsUnlimited, IsWhyNotAfter, IsWrong, apart_said, follows_said, small_number, times_in, times_said}
+use Rattle.rd_question.specs.Handlers.{IsUnlimited, IsWhyNotAfter, IsWrong, apart_said, follows_said, times_in, times_said}
+use Rattle.rd_question.specs.Numbers.{small_number}
 use Rattle.rd_question.specs.declared.fault.ReachFault.{ReachFault}
 use Rattle.rd_question.specs.declared.handler.Handler.{Handler}
 use Rattle.rd_question.specs.declared.handler.NoHandler.{NoHandler}

@@ -21,9 +21,10 @@ use Rattle.rd_goal.specs.Written.{spaced}
 use Rattle.rd_start.specs.Requests.{HasNumber, number_asked}
 use Rattle.rd_dealt.specs.Parts.{PartOf}
 use Rattle.rd_question.specs.Asked.{AreEach}
-use Rattle.rd_question.specs.Handlers.{HasCalls, small_number, times_in}
-use Rattle.rd_question.specs.Paces.{IsCrossed, IsOutOfForm, IsWritten}
-use Rattle.rd_question.specs.Parts.{IsPart}
+use Rattle.rd_question.specs.Handlers.{HasCalls, times_in}
+use Rattle.rd_question.specs.Numbers.{small_number}
+use Rattle.rd_question.specs.Paces.{IsNoPace, IsWritten}
+use Rattle.rd_question.specs.Parts.{IsNoPart, IsPart}
 use Rattle.rd_question.specs.declared.fault.ReachFault.{ReachFault}
 use Rattle.rd_question.specs.declared.fault.ReachFault.TheVariants as fault
 use Rattle.rd_question.specs.declared.handler.NoHandler.{NoHandler}
@@ -34,7 +35,6 @@ use Rattle.rd_question.specs.declared.options.ReachRequest.{ReachRequest}
 use Rattle.rd_question.specs.declared.options.ReachRequest.TheVariants.{Ask, Engine, Help}
 use Rattle.rd_question.specs.declared.options.TheConstants.{MAX_MEMORY, MAX_MOVES, MAX_STATES}
 use Rattle.rd_question.specs.declared.pace.NoPace.{NoPace}
-use Rattle.rd_question.specs.declared.pace.NoPace.TheVariants.{Crossed, Form}
 use Rattle.rd_question.specs.declared.pace.Pace.{Pace}
 use Rattle.rd_question.specs.declared.pace.TheConstants.{NO_PACE}
 use Rattle.rd_question.specs.declared.part_word.NoPart.{NoPart}
@@ -241,20 +241,15 @@ IsBadLine cause = (text : String Global) × (cause ≡ fault.Words text)
 abbrev pub AreBothOn : List Row → Type 0
 AreBothOn rows = (is_on (codes "lost") rows ≡ true) × (is_on (codes "doomed") rows ≡ true)
 
--- The text writes no pace, for that.
-abbrev pub IsNoPace : NoPace → Text → Type 0
-IsNoPace Form text = IsOutOfForm text
-IsNoPace Crossed text = IsCrossed text
-
 -- What is said of the pace is none, and this says why.
 abbrev pub IsBadPace : List Row → ReachFault → Type 0
 IsBadPace rows cause = (why : NoPace) × (text : Text) × (cause ≡ fault.Pace why)
     × (first_of (codes "pace") rows ≡ Some text) × IsNoPace why text
 
--- A part is said.
+-- What is said of the part is none.
 abbrev pub IsBadPart : List Row → ReachFault → Type 0
 IsBadPart rows cause = (why : NoPart) × (text : Text) × (cause ≡ fault.Part why)
-    × (first_of (codes "part") rows ≡ Some text)
+    × (first_of (codes "part") rows ≡ Some text) × IsNoPart text
 
 -- An interrupt is wrong, and this says why.
 abbrev pub IsBadIsr : List Row → ReachFault → Type 0

@@ -1,7 +1,7 @@
 -- How an interrupt is said: what it calls, how often it comes, which one it follows, and how far it is
 -- apart.
 use denote.Ref.{Bor}
-use Rattle.std.specs.Prelude.{◌≡◌, ◌⊎◌, ℕ, ◌==◌, ◌&&◌, if◌then◌else◌, nat_le, List, [], ◌∷◌, ◌++◌}
+use Rattle.std.specs.Prelude.{◌≡◌, ◌⊎◌, ℕ, ◌==◌, if◌then◌else◌, List, [], ◌∷◌, ◌++◌}
 use Rattle.std.specs.Prelude.{Option, None, Some, String, codes, option_and_then, option_map, slice_get}
 use Rattle.std.specs.Prelude.{string_bytes}
 use Rattle.std.specs.Iterator.{Drains}
@@ -12,6 +12,7 @@ use Rattle.std.specs.declared.alloc.Global.{Global}
 use Rattle.std.specs.declared.str.SplitWhitespace.{SplitWhitespace}
 use Rattle.rd_text.specs.Words.{number_of, texts}
 use Rattle.rd_question.specs.Asked.{AreEach}
+use Rattle.rd_question.specs.Numbers.{small_number}
 use Rattle.rd_question.specs.declared.handler.Handler.{Handler}
 use Rattle.rd_question.specs.declared.handler.NoHandler.{NoHandler}
 use Rattle.rd_question.specs.declared.handler.Said.{Said}
@@ -55,11 +56,6 @@ abbrev pub HasCalls : List ℕ → Handler → Type 0
 HasCalls text handler = AreLinesOf text handler.lines.items
 
 -- ---- how often, and when
-
--- the number of at least so much that a text writes, up to 255
-abbrev pub small_number : ℕ → List ℕ → Option ℕ
-small_number least text =
-    option_and_then (λ n. if nat_le least n && nat_le n 255 then Some n else None) (number_of text)
 
 -- how often it comes at the most that says so in this text, where that is limited
 abbrev pub times_in : List ℕ → Option (Option ℕ)

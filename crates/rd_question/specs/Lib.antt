@@ -3,6 +3,8 @@ pub mod Asked
 pub mod CommandLine
 pub mod EngineView
 pub mod Handlers
+pub mod IsrWords
+pub mod Numbers
 pub mod Paces
 pub mod Parts
 pub mod Questions

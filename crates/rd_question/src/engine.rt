@@ -1,7 +1,9 @@
 //! The engine: an application, where searches of it begin, and what is asked for beside the goal.
 
-ghost use Rattle.std.specs.Prelude.{◌≡◌, ◌++◌, ◌∷◌, [], IfOk, OnErr, OnOk};
+ghost use Rattle.std.specs.Prelude.{◌≡◌, ◌⊎◌, ◌++◌, ◌∷◌, [], IfOk, None, OnErr, OnOk, string_bytes};
+ghost use Rattle.rd_question.specs.EngineView.{LeadOn, MayCome, view_of};
 ghost use Rattle.rd_question.specs.Questions.{IsQuestion};
+ghost use Rattle.rd_start.specs.Requests.{IsOfAFile};
 ghost use Rattle.rd_question.specs.Said.{BeginsElsewhere, HasOneMore, IsSet, IsWithinLimits};
 
 use crate::asking::{application, respond};
@@ -43,7 +45,11 @@ impl<'a> Model for Engine<'a> {
 }
 
 // The same lines, of which the last has an end as well.
-fn ended(lines: String) -> Result<String, AllocError> {
+fn ended(lines: String) -> Result<String, AllocError>
+    ensures same { IfOk result (λ ended. (string_bytes ended ≡ string_bytes lines)
+        ⊎ (string_bytes ended ≡ string_bytes lines ++ 10 ∷ [])) }
+    ensures none { string_bytes lines ≡ [] → IfOk result (λ ended. string_bytes ended ≡ []) }
+{
     let mut lines = lines;
     if !lines.is_empty() && !lines.ends_with('\n') {
         lines.push_str("\n")?;
@@ -56,7 +62,10 @@ fn lines_from<H: Files + AllocGlobal>(
     handle: &H,
     app: &App,
     path: Option<&str>,
-) -> Result<String, ReachFault> {
+) -> Result<String, ReachFault>
+    ensures boot { path.entry ≡ None → IfOk result (λ lines. string_bytes lines ≡ []) }
+    ensures leads { IfOk result (λ lines. LeadOn app.now (string_bytes lines)) }
+{
     let lines = ended(lines_of(handle, path)?)?;
     let _start = start_of(handle.alloc(), app, path, lines.as_str())?;
     Ok(lines)
@@ -71,6 +80,12 @@ impl<'a> Engine<'a> {
         question: Question<'a>,
     ) -> Result<Engine<'a>, ReachFault>
         requires { IsQuestion question }
+        ensures asked { IfOk result (λ engine.
+            engine ≡ view_of engine.app engine.lines question.entry) }
+        ensures file { IfOk result (λ engine. IsOfAFile engine.app) }
+        ensures boot { question.entry.from ≡ None → IfOk result (λ engine. engine.lines ≡ []) }
+        ensures leads { IfOk result (λ engine. LeadOn engine.app engine.lines) }
+        ensures isrs { IfOk result (λ engine. MayCome engine.app engine.isrs) }
     {
         let app = application(handle, question.file)?;
         let lines = lines_from(handle, &app, question.from)?;
@@ -110,6 +125,7 @@ impl<'a> Engine<'a> {
     pub(crate) fn add_command(&mut self, alloc: Global, command: &str) -> Result<(), ReachFault>
         ensures added { OnOk result (self.new
             ≡ record self.old { lines = self.old.lines ++ (command.now ++ 10 ∷ []) }) }
+        ensures leads { OnOk result (LeadOn self.new.app self.new.lines) }
         ensures err { OnErr result (self.new ≡ self.old) }
     {
         let lines = format!(in alloc; "{}{command}\n", self.lines)?;

@@ -1,19 +1,21 @@
 //! What a line says to the engine.
 
-ghost use Rattle.std.specs.Prelude.{◌≡◌, ◌≤◌, codes, IfOk, IfSome};
+ghost use Rattle.std.specs.Prelude.{◌≡◌, ◌≤◌, None, codes, IfErr, IfOk, IfSome};
 ghost use Rattle.std.specs.Result.{result_ok};
 ghost use Rattle.std.specs.List.{after_first, before_first};
 ghost use Rattle.rd_question.specs.Said.{IsLimitSaid, IsLine, IsLineWithinLimits, IsPaceSaid};
 ghost use Rattle.rd_question.specs.Said.{IsSaid, IsSetting, IsSwitchSaid, IsWithinLimits, is_blank};
-ghost use Rattle.rd_question.specs.Said.{number_within};
+ghost use Rattle.rd_question.specs.Said.{IsWhyNoLine, IsWhyNoSetting, IsWhyUnsaid};
+ghost use Rattle.rd_question.specs.Numbers.{number_within};
+ghost use Rattle.rd_question.specs.declared.fault.ReachFault.TheVariants as fault;
 
 use crate::engine_isr::said_of;
 use crate::fault::ReachFault;
 use crate::handler::Said;
+use crate::numbers::number_within;
 use crate::options::{MAX_MEMORY, MAX_MOVES, MAX_STATES};
 use crate::pace::{NO_PACE, Pace, pace_of};
 use crate::query::Query;
-use rd_text::words::number;
 
 /// How many surprises an order may have at the most, where they are counted.
 pub const MAX_SURPRISES: usize = 255;
@@ -61,7 +63,7 @@ pub enum EngineLine<'a> {
 }
 
 // The number that a word writes, which is one of these.
-fn number_within(
+fn limit_of(
     word: &str,
     option: &'static str,
     least: usize,
@@ -69,20 +71,20 @@ fn number_within(
 ) -> Result<usize, ReachFault>
     ensures exact { result_ok result ≡ number_within least most word.now }
     ensures within { IfOk result (λ number. number ≤ most) }
+    ensures wrong { IfErr result (λ cause. (cause ≡ fault.Number option.entry least most)
+        × (number_within least most word.now ≡ None)) }
 {
-    match number(word.as_bytes()) {
-        Some(number) if least <= number as usize && number as usize <= most => Ok(number as usize),
-        Some(_) | None => Err(ReachFault::Number {
-            option,
-            least,
-            most,
-        }),
-    }
+    number_within(word, least, most).ok_or(ReachFault::Number {
+        option,
+        least,
+        most,
+    })
 }
 
 // The pace that is said, or none.
 fn pace_within(word: &str) -> Result<Pace, ReachFault>
-    ensures { IfOk result (IsPaceSaid word.now) }
+    ensures said { IfOk result (IsPaceSaid word.now) }
+    ensures wrong { IfErr result (IsWhyNoSetting (codes "pace") word.now) }
 {
     if word == "none" {
         return Ok(NO_PACE);
@@ -92,12 +94,13 @@ fn pace_within(word: &str) -> Result<Pace, ReachFault>
 
 // How many surprises are said, or that they aren't counted.
 fn surprises_within(word: &str) -> Result<Option<u8>, ReachFault>
-    ensures { IfOk result (IsLimitSaid MAX_SURPRISES word.now) }
+    ensures said { IfOk result (IsLimitSaid MAX_SURPRISES word.now) }
+    ensures wrong { IfErr result (IsWhyNoSetting (codes "surprises") word.now) }
 {
     if word == "none" {
         return Ok(None);
     }
-    let most = number_within(word, "--surprises", 0, MAX_SURPRISES)?;
+    let most = limit_of(word, "--surprises", 0, MAX_SURPRISES)?;
     Ok(Some(most as u8))
 }
 
@@ -105,17 +108,19 @@ fn surprises_within(word: &str) -> Result<Option<u8>, ReachFault>
 fn moves_within(word: &str) -> Result<Option<u32>, ReachFault>
     ensures said { IfOk result (IsLimitSaid MAX_MOVES word.now) }
     ensures limit { IfOk result (λ most. IfSome most (λ number. number ≤ MAX_MOVES)) }
+    ensures wrong { IfErr result (IsWhyNoSetting (codes "moves") word.now) }
 {
     if word == "none" {
         return Ok(None);
     }
-    let most = number_within(word, "--moves", 0, MAX_MOVES)?;
+    let most = limit_of(word, "--moves", 0, MAX_MOVES)?;
     Ok(Some(most as u32))
 }
 
 // Whether it is said to be on.
 fn switch_of(word: &str) -> Result<bool, ReachFault>
-    ensures { IfOk result (IsSwitchSaid word.now) }
+    ensures said { IfOk result (IsSwitchSaid word.now) }
+    ensures wrong { IfErr result (IsWhyNoSetting (codes "exact") word.now) }
 {
     match word {
         "on" => Ok(true),
@@ -128,6 +133,7 @@ fn switch_of(word: &str) -> Result<bool, ReachFault>
 fn isr_within(words: &str) -> Result<EngineSetting<'_>, ReachFault>
     ensures said { IfOk result (IsSetting (codes "isr") words.entry.now) }
     ensures limits { IfOk result IsWithinLimits }
+    ensures wrong { IfErr result (IsWhyNoSetting (codes "isr") words.entry.now) }
 {
     if words == "none" {
         return Ok(EngineSetting::NoIsrs);
@@ -141,6 +147,7 @@ fn isr_within(words: &str) -> Result<EngineSetting<'_>, ReachFault>
 fn setting_of<'a>(keyword: &str, operand: &'a str) -> Result<EngineSetting<'a>, ReachFault>
     ensures said { IfOk result (IsSetting keyword.now operand.entry.now) }
     ensures limits { IfOk result IsWithinLimits }
+    ensures wrong { IfErr result (IsWhyNoSetting keyword.now operand.entry.now) }
 {
     match keyword {
         "pace" => {
@@ -156,11 +163,11 @@ fn setting_of<'a>(keyword: &str, operand: &'a str) -> Result<EngineSetting<'a>, 
             Ok(EngineSetting::Moves { most })
         }
         "states" => {
-            let most = number_within(operand, "--states", 1, MAX_STATES)?;
+            let most = limit_of(operand, "--states", 1, MAX_STATES)?;
             Ok(EngineSetting::States { most })
         }
         "memory" => {
-            let most = number_within(operand, "--memory", 1, MAX_MEMORY)?;
+            let most = limit_of(operand, "--memory", 1, MAX_MEMORY)?;
             Ok(EngineSetting::Memory { most })
         }
         "exact" => {
@@ -200,6 +207,7 @@ fn start_in(path: &str) -> EngineLine<'_>
 fn line_in<'a>(keyword: &str, operand: &'a str) -> Result<EngineLine<'a>, ReachFault>
     ensures said { IfOk result (IsLine keyword.now operand.entry.now) }
     ensures limits { IfOk result IsLineWithinLimits }
+    ensures wrong { IfErr result (IsWhyNoLine keyword.now operand.entry.now) }
 {
     match keyword {
         "reach" => Ok(EngineLine::Ask {
@@ -236,6 +244,7 @@ fn line_in<'a>(keyword: &str, operand: &'a str) -> Result<EngineLine<'a>, ReachF
 pub fn line_of(text: &str) -> Result<EngineLine<'_>, ReachFault>
     ensures said { IfOk result (IsSaid text.entry.now) }
     ensures limits { IfOk result IsLineWithinLimits }
+    ensures wrong { IfErr result (IsWhyUnsaid text.entry.now) }
 {
     let (keyword, operand) = in_two(text.trim());
     line_in(keyword, operand.trim())

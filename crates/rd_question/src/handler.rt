@@ -5,11 +5,11 @@ ghost use Rattle.std.specs.Prelude.{IfErr, IfOk, IfSome, IsErrOf, IsSome, OnOk, 
 ghost use Rattle.std.specs.Prelude.{string_bytes};
 ghost use Rattle.rd_question.specs.Handlers.{AreLinesOf, HasCalls, IsLineOf, IsUnlimited};
 ghost use Rattle.rd_question.specs.Handlers.{IsWhyNotAfter, IsWrong, behind_isr, each_behind_space};
-ghost use Rattle.rd_question.specs.Handlers.{apart_said, follows_said, small_number, times_at};
-ghost use Rattle.rd_question.specs.Handlers.{times_said};
+ghost use Rattle.rd_question.specs.Handlers.{apart_said, follows_said, times_at, times_said};
 ghost use Rattle.rd_question.specs.declared.handler.NoHandler.TheVariants.{After, Apart};
 ghost use Rattle.rd_question.specs.declared.handler.NoHandler.TheVariants.{Times, Unlimited};
 
+use crate::numbers::small_number;
 use rd_text::words::number;
 use std::alloc::{AllocError, AllocFailed, Global};
 use thiserror::Error;
@@ -133,17 +133,6 @@ fn lines_of(alloc: Global, calls: &str) -> Result<Vec<String>, AllocError>
         lines.push(line_of(alloc, call)?)?;
     }
     Ok(lines)
-}
-
-// The number of at least so much that a text is, at most 255.
-fn small_number(text: &str, least: u32) -> Option<u8>
-    ensures { result ≡ small_number least text.now }
-{
-    let number = number(text.as_bytes())?;
-    if number < least {
-        return None;
-    }
-    u8::try_from(number).ok()
 }
 
 // How often one comes of which this is said.

@@ -1,6 +1,7 @@
 //! What can still come in an application: the words that ask it, the answer, and what is told of it.
 //! Page: `docs/REACHING.md`. Definitions in reading order (`specs/`): `Asked`, `EngineView`,
-//! `Handlers`, `Paces`, `Parts`, `CommandLine`, `Questions`, `Statuses`, `Said`.
+//! `Numbers`, `Handlers`, `IsrWords`, `Paces`, `Parts`, `CommandLine`, `Questions`, `Statuses`,
+//! `Said`.
 #![tactic(auto)]
 
 ghost use Rattle.std.specs.Prelude.{◌≡◌, ◌≢◌, ◌≤◌, IfOk, map, string_bytes};
@@ -15,6 +16,7 @@ pub mod fault;
 pub mod handler;
 mod input;
 mod isr_options;
+mod numbers;
 pub mod options;
 pub mod pace;
 pub mod part_word;

@@ -2,12 +2,11 @@
 
 ghost use Rattle.std.specs.Prelude.{◌≡◌, ◌<◌, ◌≤◌, ℕ, Some, false, true};
 ghost use Rattle.std.specs.Prelude.{IfErr, IfOk, IfSome, IsErrOf};
-ghost use Rattle.rd_text.specs.Words.{number_of};
 ghost use Rattle.rd_question.specs.Paces.{CanCome, IsCrossed, IsLeast, IsMost, IsNoLeast, IsNoMost};
-ghost use Rattle.rd_question.specs.Paces.{IsNoSmall, IsOutOfForm, IsWritten};
+ghost use Rattle.rd_question.specs.Paces.{IsOutOfForm, IsWritten};
 ghost use Rattle.rd_question.specs.declared.pace.NoPace.TheVariants.{Crossed, Form};
 
-use rd_text::words::number;
+use crate::numbers::small_number;
 use thiserror::Error;
 
 /// How many moves the task on a busy core makes from one tick to the next.
@@ -36,27 +35,15 @@ pub enum NoPace {
     Crossed,
 }
 
-// The number of at most 255 that a text writes.
-fn number_in(text: &str) -> Result<u8, NoPace>
-    ensures ok { IfOk result (λ number. number_of text.now ≡ Some number) }
-    ensures err { IfErr result (λ cause. (cause ≡ Form) × IsNoSmall text.now) }
-{
-    match number(text.as_bytes()) {
-        Some(number) if number <= 255 => Ok(number as u8),
-        _ => Err(NoPace::Form),
-    }
-}
-
 // The least number of moves, which is 0 where nothing is said.
 fn least_of(text: &str) -> Result<u8, NoPace>
     ensures ok { IfOk result (IsLeast text.now) }
     ensures err { IfErr result (λ cause. (cause ≡ Form) × IsNoLeast text.now) }
 {
     if text.is_empty() {
-        Ok(0)
-    } else {
-        number_in(text)
+        return Ok(0);
     }
+    small_number(text, 0).ok_or(NoPace::Form)
 }
 
 // The largest number of moves, of which there is none where nothing is said.
@@ -68,10 +55,7 @@ fn most_of(text: &str) -> Result<Option<u8>, NoPace>
     if text.is_empty() {
         return Ok(None);
     }
-    let most = number_in(text)?;
-    if most == 0 {
-        return Err(NoPace::Form);
-    }
+    let most = small_number(text, 1).ok_or(NoPace::Form)?;
     Ok(Some(most))
 }
 

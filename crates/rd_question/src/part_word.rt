@@ -1,11 +1,10 @@
 //! The part of all orders that a command line asks for.
 
-ghost use Rattle.std.specs.Prelude.{◌≡◌, IfOk, Some};
-ghost use Rattle.rd_text.specs.Words.{number_of};
-ghost use Rattle.rd_question.specs.Parts.{IsPart};
+ghost use Rattle.std.specs.Prelude.{IfErr, IfOk};
+ghost use Rattle.rd_question.specs.Parts.{IsNoPart, IsPart};
 
+use crate::numbers::small_number;
 use rd_dealt::part::Part;
-use rd_text::words::number;
 use thiserror::Error;
 
 /// Why a word is no part.
@@ -17,22 +16,14 @@ pub enum NoPart {
     Form,
 }
 
-// The number of at most 255 that a text writes.
-fn number_in(text: &str) -> Result<u8, NoPart>
-    ensures { IfOk result (λ number. number_of text.now ≡ Some number) }
-{
-    match number(text.as_bytes()) {
-        Some(number) if number <= 255 => Ok(number as u8),
-        _ => Err(NoPart::Form),
-    }
-}
-
-/// The part that a word is: `K/N`, the Kth of N, where N is 255 at the most. `Form` where it is none.
+/// The part that a word is: `K/N`, the Kth of N, where N is 255 at the most. `Form` exactly where it
+/// is none.
 pub fn part_of(word: &str) -> Result<Part, NoPart>
-    ensures { IfOk result (IsPart word.now) }
+    ensures part { IfOk result (IsPart word.now) }
+    ensures none { IfErr result (λ cause. IsNoPart word.now) }
 {
-    let (first, second) = word.split_once("/").ok_or(NoPart::Form)?;
-    let (number, parts) = (number_in(first)?, number_in(second)?);
-    let part = Part::new(number, parts).ok_or(NoPart::Form)?;
-    Ok(part)
+    let (first, second) = word.split_once('/').ok_or(NoPart::Form)?;
+    let number = small_number(first, 1).ok_or(NoPart::Form)?;
+    let parts = small_number(second, 1).ok_or(NoPart::Form)?;
+    Part::new(number, parts).ok_or(NoPart::Form)
 }

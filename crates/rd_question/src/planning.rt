@@ -1,11 +1,13 @@
 //! The schedule that a question asks for.
 
-ghost use Rattle.std.specs.Prelude.{◌≡◌, ◌≢◌, [], false, All, IfErr, IfOk, IsErrOf, string_bytes};
-ghost use Rattle.rd_app.specs.Profiles.{has_interrupts};
+ghost use Rattle.std.specs.Prelude.{◌≡◌, ◌⊎◌, String, All, IfErr, IfOk, string_bytes};
+ghost use Rattle.std.specs.declared.alloc.Global.{Global as Heap};
 ghost use Rattle.rd_command.specs.Bindings.{known_of};
 ghost use Rattle.rd_moves.specs.Carried.{IsCarriedOf};
-ghost use Rattle.rd_question.specs.declared.handler.NoHandler.TheVariants.{NoIsr};
-ghost use Rattle.rd_question.specs.Asked.{AreEach, IsCallOf, IsIsrFor, IsPlanOf};
+ghost use Rattle.rd_question.specs.declared.handler.NoHandler.TheVariants.{Call, NoMemory};
+ghost use Rattle.rd_question.specs.declared.handler.NoHandler.TheVariants.{Unknown};
+ghost use Rattle.rd_question.specs.Asked.{AreEach, IsCallOf, IsIsrFor, IsPlanOf, IsWhyNoCall};
+ghost use Rattle.rd_question.specs.Asked.{IsWhyNoCalls, IsWhyNoIsrs, IsWhyNoPlan};
 ghost use Rattle.rd_reach.specs.Explored.{AreIsrsOf};
 ghost use Rattle.rd_reach.specs.Plans.{IsrPlan};
 
@@ -24,7 +26,8 @@ use std::alloc::Global;
 
 // A line that is no call of an interrupt.
 fn no_call(alloc: Global, line: &str) -> NoHandler
-    ensures { result ≢ NoIsr }
+    ensures { (result ≡ NoMemory)
+        ⊎ ((call : String Heap) × (result ≡ Call call) × (line.now ≡ string_bytes call)) }
 {
     match String::from_str(alloc, line) {
         Ok(call) => NoHandler::Call { call },
@@ -34,7 +37,8 @@ fn no_call(alloc: Global, line: &str) -> NoHandler
 
 // A line that names what isn't there.
 fn unknown(alloc: Global, line: &str) -> NoHandler
-    ensures { result ≢ NoIsr }
+    ensures { (result ≡ NoMemory)
+        ⊎ ((call : String Heap) × (result ≡ Unknown call) × (line.now ≡ string_bytes call)) }
 {
     match String::from_str(alloc, line) {
         Ok(call) => NoHandler::Unknown { call },
@@ -47,7 +51,7 @@ fn call_of(alloc: Global, app: &App, known: &Known, line: &str) -> Result<Carrie
     requires known { known.now ≡ known_of app.now }
     ensures said { IfOk result (IsCallOf app.now line.now) }
     ensures named { IfOk result (IsCarriedOf app.now.runs) }
-    ensures err { IfErr result (λ cause. cause ≢ NoIsr) }
+    ensures wrong { IfErr result (IsWhyNoCall app.now line.now) }
 {
     let mut behind = Behind::new();
     let Ok(command) = parse_line(line.as_bytes(), &mut behind) else {
@@ -85,7 +89,7 @@ fn calls_of(
     ensures said { IfOk result (λ calls.
         AreEach (λ line call. IsCallOf app.now (string_bytes line) call) lines.now calls.items) }
     ensures named { IfOk result (λ calls. All (IsCarriedOf app.now.runs) calls.items) }
-    ensures err { IfErr result (λ cause. cause ≢ NoIsr) }
+    ensures wrong { IfErr result (IsWhyNoCalls app.now lines.now) }
 {
     let mut calls = Vec::new(alloc);
     for line in lines {
@@ -106,7 +110,7 @@ fn isrs_of(
     ensures said { IfOk result (λ isrs. AreEach (IsIsrFor app.now) handlers.now isrs.items) }
     ensures named { IfOk result (λ isrs.
         All (λ (isr : IsrPlan). All (IsCarriedOf app.now.runs) isr.calls) isrs.items) }
-    ensures err { IfErr result (λ cause. cause ≢ NoIsr) }
+    ensures wrong { IfErr result (IsWhyNoIsrs app.now handlers.now) }
 {
     let mut isrs = Vec::new(alloc);
     for handler in handlers {
@@ -119,13 +123,12 @@ fn isrs_of(
 
 /// The schedule that a question asks for, of an application. `NoIsr` where its profile has no
 /// interrupts, `Call` and `Unknown` where a call of one is none or names what isn't there,
-/// `TooMany` where there are more than 16.
+/// `TooMany` where there are more than 16, `NoMemory` where there is no memory for it.
 #[tactic(auto, using(crate::proofs::AskedLaws::is_plan, crate::proofs::AskedLaws::are_isrs))]
 pub fn schedule_of(alloc: Global, app: &App, question: &Question<'_>) -> Result<Schedule, NoHandler>
     ensures plan { IfOk result (IsPlanOf app.now question.now) }
     ensures isrs { IfOk result (AreIsrsOf app.now.runs) }
-    ensures no_isr { IsErrOf result NoIsr → (has_interrupts app.now.runs.profile ≡ false)
-        × (question.now.isrs.items ≢ []) }
+    ensures wrong { IfErr result (IsWhyNoPlan app.now question.now) }
 {
     let handlers = question.isrs.as_slice();
     if !handlers.is_empty() && !app.profile().has_interrupts() {

@@ -1,0 +1,5 @@
+use Rattle.std.proofs.Common.{inr, refl, sym}
+use Rattle.rd_question.proofs.planning.unknown.Goals as goal
+
+pub returns-in-Ok : goal.returns-in-Ok
+returns-in-Ok c = inr (c.in-Ok.call, refl, sym c.in-Ok.ensures.ok)
