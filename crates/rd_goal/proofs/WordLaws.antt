@@ -1,8 +1,8 @@
 -- Words that are read, one behind another.
-use Rattle.std.proofs.Common.{◌≡◌, ◌∙◌, ◌<◌, ◌≤◌, ◌+◌, ◌-◌, ℕ, Bool, true, false, List, [], ◌∷◌, ◌++◌, Bor, Some, None, length, drop, get_or, refl, sym, ap, subst, arith, append_assoc, position, if◌then◌else◌, option_map}
+use Rattle.std.proofs.Common.{◌≡◌, ◌∙◌, ◌<◌, ◌≤◌, ◌+◌, ◌-◌, ℕ, Bool, true, false, List, [], ◌∷◌, ◌++◌, Bor, Option, Some, None, length, drop, get_or, refl, sym, ap, subst, arith, append_assoc, position, if◌then◌else◌, option_map}
 use Rattle.std.specs.List.{list_all, position_or_len}
 use Rattle.std.specs.Option.{is_some}
-use Rattle.std.specs.Prelude.{slice_get}
+use Rattle.std.specs.Prelude.{option_and_then, slice_get}
 use Rattle.std.specs.Str.{bytes_eq}
 use Rattle.std.proofs.lemmas.Grind.{common_steps}
 use Rattle.std.proofs.lemmas.List.Sums.{fails_before_first}
@@ -12,10 +12,12 @@ use Rattle.std.proofs.lemmas.List.Quantifiers.{position-Some}
 use Rattle.std.proofs.lemmas.Option.{get_or_from_slice_get, slice_get-get_or, slice_get-map, slice_get_read, slice_get_within}
 use Rattle.std.proofs.lemmas.Slice.Eq.{bytes_eq-Decides}
 use Rattle.rd_text.specs.Words.{is_name, name_of, number_of, texts}
+use Rattle.rd_text.specs.declared.kind.Kind.{Kind}
 use Rattle.rd_names.specs.Apps.{AppView}
+use Rattle.rd_names.specs.Names.{names_of}
 use Rattle.rd_goal.specs.declared.reading.NoGoal.{NoGoal}
 use Rattle.rd_goal.specs.declared.reading.Wanted.{Wanted}
-use Rattle.rd_goal.specs.Reading.{IsLast, IsRefusal, IsWhyNot, Reads, Source, WordsView}
+use Rattle.rd_goal.specs.Reading.{IsLast, IsRefusal, IsWhyNot, Reads, Source, WordsView, is_name_next}
 use Rattle.rd_goal.specs.Written.{IsNoneBelow, IsNot, IsWordAt, IsWrongAt, Itself, Sign, StandFor, StandsFor}
 
 -- ---- what is ahead
@@ -165,3 +167,15 @@ no_name names word named none number is =
 
 pub is_its_name : (word name : List ℕ) → name_of word ≡ Some name → name ≡ word
 is_its_name word name is = by_name word name (is_name word) is
+
+-- the word that comes next is no name, or that of something by its place among the names
+pub no_name_next : (kind : Kind) (app : AppView) (ahead rest : List (List ℕ)) (word : List ℕ) → ahead ≡ word ∷ rest → name_of word ≡ None → is_name_next kind app ahead ≡ false
+no_name_next kind app ahead rest word is none =
+    ap (is_name_next kind app) is
+    ∙ ap (λ (name : Option (List ℕ)). is_some (option_and_then (λ n. position (bytes_eq n) (names_of kind app.names)) name)) none
+
+pub name_next : (kind : Kind) (app : AppView) (ahead rest : List (List ℕ)) (word name : List ℕ) → ahead ≡ word ∷ rest → name_of word ≡ Some name
+    → is_name_next kind app ahead ≡ is_some (position (bytes_eq name) (names_of kind app.names))
+name_next kind app ahead rest word name is named =
+    ap (is_name_next kind app) is
+    ∙ ap (λ (n : Option (List ℕ)). is_some (option_and_then (λ m. position (bytes_eq m) (names_of kind app.names)) n)) named

@@ -1,10 +1,15 @@
 -- What is read of a goal's words so far, and what stands in its rows by then.
 use Rattle.std.specs.Prelude.{ℕ, ◌≡◌, ◌≢◌, ◌+◌, ◌-◌, ◌<◌, ◌≤◌, ◌++◌, ◌∷◌, Bool, true, false, List, []}
-use Rattle.std.specs.Prelude.{codes, drop, filter, if◌then◌else◌, length, take}
-use Rattle.rd_text.specs.Words.{is_some_word, is_space}
+use Rattle.std.specs.Prelude.{◌&&◌, codes, drop, filter, if◌then◌else◌, length, nat_eq, not, take}
+use Rattle.std.specs.Prelude.{is_some, option_and_then, position}
+use Rattle.std.specs.Str.{bytes_eq}
+use Rattle.rd_text.specs.Words.{is_some_word, is_space, name_of}
+use Rattle.rd_text.specs.declared.kind.Kind.{Kind}
 use Rattle.rd_state.specs.Snapshot.{Snapshot}
 use Rattle.rd_names.specs.Apps.{AppView}
+use Rattle.rd_names.specs.Names.{names_of}
 use Rattle.rd_condition.specs.declared.condition.Amount.{Amount}
+use Rattle.rd_condition.specs.declared.condition.Amount.TheVariants as amount
 use Rattle.rd_condition.specs.declared.condition.Condition.TheVariants.{Compares, InPhase}
 use Rattle.rd_goal.specs.Goals.{holds_in, truth_among, truths_of}
 use Rattle.rd_goal.specs.Written.{Formula, IsForm, IsPlaceForm, IsProper, IsWhyNoGoal, IsWordAt}
@@ -61,6 +66,22 @@ unread app words =
 abbrev pub IsLast : WordsView → List ℕ → Type 0
 IsLast words word = IsWordAt words.source.words words.read word
 
+-- the word that comes next is this one
+abbrev pub is_next : List (List ℕ) → List ℕ → Bool
+is_next [] word = false
+is_next (next ∷ others) word = bytes_eq next word
+
+-- the word that comes next belongs to the claim that is being read: it doesn't stand behind a formula
+abbrev pub is_operand_next : List (List ℕ) → Bool
+is_operand_next ahead = not (nat_eq (length ahead) 0) && not (is_next ahead (codes "and"))
+    && not (is_next ahead (codes "or")) && not (is_next ahead (codes ")"))
+
+-- the word that comes next names something of that kind
+abbrev pub is_name_next : Kind → AppView → List (List ℕ) → Bool
+is_name_next kind app [] = false
+is_name_next kind app (next ∷ others) =
+    is_some (option_and_then (λ name. position (bytes_eq name) (names_of kind app.names)) (name_of next))
+
 -- The words that stand for these are read.
 pub record Reads (signs : List Sign) (old new : WordsView) : Type 0 where
   pub words : List (List ℕ)
@@ -84,6 +105,17 @@ pub record IsRefusal (source : Source) (why : NoGoal) : Type 0 where
   pub inside : why ≢ Ends ClaimWanted
 
 -- ---- claims
+
+-- some bits of the amount can be compared
+abbrev pub has_bits : Amount → Bool
+has_bits (amount.Items queue) = false
+has_bits (amount.Bytes stream) = false
+has_bits (amount.Messages message) = false
+has_bits (amount.Bits group) = true
+has_bits (amount.Register task register) = true
+has_bits (amount.Pc task) = false
+has_bits (amount.Value task index) = true
+has_bits amount.Tick = false
 
 -- The claim compares the amount, and behind that is written so.
 abbrev pub IsAbout : Amount → Claim → List Sign → Type 0

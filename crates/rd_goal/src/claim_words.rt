@@ -8,7 +8,7 @@ ghost use Rattle.rd_condition.specs.declared.condition.Condition.TheVariants as 
 ghost use Rattle.rd_goal.specs.declared.claim.Claim.TheVariants as claim;
 ghost use Rattle.rd_goal.specs.Claims.{IsClaimOf};
 ghost use Rattle.rd_goal.specs.Reading.{IsLast, IsRefusal, Reads, ReadsAbout, ReadsAmount};
-ghost use Rattle.rd_goal.specs.Reading.{IsWhyNot, ReadsBehind, ReadsClaim, ReadsPlace};
+ghost use Rattle.rd_goal.specs.Reading.{IsWhyNot, ReadsBehind, ReadsClaim, ReadsPlace, has_bits};
 ghost use Rattle.rd_goal.specs.declared.reading.NoGoal.TheVariants.{Ends};
 ghost use Rattle.rd_goal.specs.declared.reading.Wanted.TheVariants.{Claim as ClaimWanted};
 ghost use Rattle.rd_goal.specs.Written.{IsAlone, IsNoneOf, Named, claim_words, list_word};
@@ -373,7 +373,9 @@ fn amount(word: &[u8], reader: &mut GoalReader<'_, '_>) -> Result<Amount, NoGoal
 }
 
 // Whether a claim may compare some bits of the amount.
-fn has_bits(amount: Amount) -> bool {
+fn has_bits(amount: Amount) -> bool
+    ensures { result ≡ has_bits amount }
+{
     match amount {
         Amount::Bits { .. } | Amount::Value { .. } | Amount::Register { .. } => true,
         Amount::Items { .. }

@@ -1,12 +1,13 @@
 //! The words of a goal, looked up in an application one after another.
 
 ghost use Rattle.std.specs.Prelude.{◌≡◌, ◌≢◌, ◌<◌, ◌∷◌, ℕ, List, [], codes, false, length, nat_eq};
-ghost use Rattle.std.specs.Prelude.{true, IfErr, IfNone, IfOk, IfSome};
+ghost use Rattle.std.specs.Prelude.{is_some, not, true, IfErr, IfNone, IfOk, IfSome};
 ghost use Rattle.rd_app.specs.declared.instr.TheConstants.{REGISTERS};
 ghost use Rattle.rd_names.specs.Names.{names_of};
 ghost use Rattle.rd_text.specs.Words.{texts};
 ghost use Rattle.rd_text.specs.declared.kind.Kind.TheVariants as kind;
-ghost use Rattle.rd_goal.specs.Reading.{IsLast, IsRefusal, Reads, joining_word, unread};
+ghost use Rattle.rd_goal.specs.Reading.{IsLast, IsRefusal, Reads, is_name_next, is_next};
+ghost use Rattle.rd_goal.specs.Reading.{is_operand_next, joining_word, unread};
 ghost use Rattle.rd_goal.specs.declared.reading.NoGoal.TheVariants.{Ends};
 ghost use Rattle.rd_goal.specs.Written.{IsNameOf, IsNoneBelow, IsNoneOf, IsNot, IsWrongAt};
 ghost use Rattle.rd_goal.specs.Written.{Itself, Named, Numeral, comparison_word, joining_words};
@@ -126,7 +127,9 @@ impl<'r, 'a> GoalReader<'r, 'a> {
     }
 
     /// Whether the word that comes next is this one.
-    pub(crate) fn is_ahead(&self, wanted: &[u8]) -> bool {
+    pub(crate) fn is_ahead(&self, wanted: &[u8]) -> bool
+        ensures { result ≡ is_next self.now.ahead wanted.now }
+    {
         match self.words.get(self.read) {
             Some(word) => *word == wanted,
             None => false,
@@ -135,12 +138,15 @@ impl<'r, 'a> GoalReader<'r, 'a> {
 
     /// Whether the word that comes next belongs to the claim that is being read: there is one, and
     /// it doesn't join the claim to others.
-    pub(crate) fn is_at_operand(&self) -> bool {
+    pub(crate) fn is_at_operand(&self) -> bool
+        ensures { result ≡ is_operand_next self.now.ahead }
+    {
         !self.is_over() && !self.is_ahead(b"and") && !self.is_ahead(b"or") && !self.is_ahead(b")")
     }
 
     /// That word, which is read now, if there is such a one.
     pub(crate) fn operand(&mut self) -> Option<&'a [u8]>
+        ensures operand { is_some result ≡ is_operand_next self.old.ahead }
         ensures read { IfSome result (λ word. self.old.ahead ≡ word.now ∷ self.new.ahead) }
         ensures last { IfSome result (λ word. IsLast self.new word.now) }
         ensures stays { IfNone result (self.new ≡ self.old) }
@@ -161,7 +167,9 @@ impl<'r, 'a> GoalReader<'r, 'a> {
     /// Whether the word that comes next is the name of a stream buffer, and of no message buffer,
     /// or the other way round.
     pub(crate) fn names_stream(&self) -> Result<bool, NoGoal>
-        ensures { IfErr result (IsRefusal self.now.source) }
+        ensures stream { IfOk result (λ is_stream.
+            is_stream ≡ not (is_name_next kind.Message self.now.source.app self.now.ahead)) }
+        ensures wrong { IfErr result (IsRefusal self.now.source) }
     {
         let Some(word) = self.words.get(self.read) else {
             return Ok(true);

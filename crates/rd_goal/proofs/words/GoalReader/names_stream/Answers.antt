@@ -1,15 +1,16 @@
 use Rattle.std.proofs.Common.{◌≡◌, ◌∙◌, ◌+◌, ℕ, List, Some, ap, subst, sym}
 use Rattle.std.specs.Option.{is_some}
-use Rattle.std.specs.Prelude.{slice_get}
+use Rattle.std.specs.Prelude.{not, position, slice_get}
+use Rattle.std.specs.Str.{bytes_eq}
 use Rattle.rd_names.specs.Names.{names_of}
 use Rattle.rd_text.specs.declared.kind.Kind.TheVariants as kind
 use Rattle.rd_goal.specs.Reading.{IsRefusal, WordsView}
 use Rattle.rd_goal.specs.declared.reading.NoGoal.TheVariants.{Either}
-use Rattle.rd_goal.proofs.WordLaws.{is_found, is_its_name, is_word_at}
+use Rattle.rd_goal.proofs.WordLaws.{is_found, is_its_name, is_word_at, name_next, next_ahead, no_name_next}
 use Rattle.rd_goal.proofs.words.GoalReader.names_stream.Goals as goal
 
-pub returns-then-is_message : goal.returns-then-is_message
-returns-then-is_message c =
+pub returns-then-is_message-clause-wrong : goal.returns-then-is_message-clause-wrong
+returns-then-is_message-clause-wrong c =
     let inside = c.self.inside in
     let word = c.in-Some.word.now.now in
     let name = c.in-Some-name.name.now in
@@ -27,3 +28,20 @@ returns-then-is_message c =
       );
       inside = λ is. absurd cc;
     })
+
+pub returns-in_default-name-clause-stream : goal.returns-in_default-name-clause-stream
+returns-in_default-name-clause-stream c =
+    let now = c.args.self.now in
+    let here = sym (ap (λ (v : WordsView). v.ahead) c.self.view_is)
+    ∙ next_ahead c.self.inside.words.now c.self.inside.read c.in-Some.word.now c.in-Some.ensures.lookup.3.0 c.in-Some.ensures.lookup.1 in
+    ap not (sym (no_name_next kind.Message now.source.app now.ahead _ c.in-Some.word.now.now here (sym c.in_default-name.ensures)))
+
+pub returns-clause-stream : goal.returns-clause-stream
+returns-clause-stream c =
+    let now = c.args.self.now in
+    let name = c.in-Some-name.name.now in
+    let here = sym (ap (λ (v : WordsView). v.ahead) c.self.view_is)
+    ∙ next_ahead c.self.inside.words.now c.self.inside.read c.in-Some.word.now c.in-Some.ensures.lookup.3.0 c.in-Some.ensures.lookup.1 in
+    let found = c.is_some-is_message.ensures ∙ ap is_some c.find-2.ensures
+    ∙ ap (λ (v : WordsView). is_some (position (bytes_eq name) (names_of kind.Message v.source.app.names))) c.self.view_is in
+    ap not (found ∙ sym (name_next kind.Message now.source.app now.ahead _ c.in-Some.word.now.now name here (sym c.in-Some-name.ensures)))
