@@ -17,7 +17,7 @@ use Rattle.rd_names.specs.Apps.{AppView}
 use Rattle.rd_names.specs.Names.{names_of}
 use Rattle.rd_goal.specs.declared.reading.NoGoal.{NoGoal}
 use Rattle.rd_goal.specs.declared.reading.Wanted.{Wanted}
-use Rattle.rd_goal.specs.Reading.{IsLast, IsRefusal, IsWhyNot, Reads, Source, WordsView, is_name_next}
+use Rattle.rd_goal.specs.Reading.{IsLast, IsRefusal, IsWhyNot, Reads, GoalSource, WordsView, is_name_next}
 use Rattle.rd_goal.specs.Written.{IsNoneBelow, IsNot, IsWordAt, IsWrongAt, Itself, Sign, StandFor, StandsFor}
 
 -- ---- what is ahead
@@ -53,10 +53,10 @@ not_below limit found word there large number is =
 
 pub is_wrong : (what : Wanted) (old new : WordsView) (word : List ℕ) → IsLast new word → new.source ≡ old.source → IsNot old.source.app what word
     → IsWrongAt new.source.app new.source.words what new.read
-is_wrong what old new word last same is_not = (word, last, subst (λ (source : Source). IsNot source.app what word) (sym same) is_not)
+is_wrong what old new word last same is_not = (word, last, subst (λ (source : GoalSource). IsNot source.app what word) (sym same) is_not)
 
-pub why_refused : (source other : Source) (why : NoGoal) → source ≡ other → IsRefusal source why → IsWhyNot other why
-why_refused source other why same h = subst (λ (s : Source). IsWhyNot s why) same h.right
+pub why_refused : (source other : GoalSource) (why : NoGoal) → source ≡ other → IsRefusal source why → IsWhyNot other why
+why_refused source other why same h = subst (λ (s : GoalSource). IsWhyNot s why) same h.right
 
 -- ---- how many are ahead
 
@@ -74,7 +74,7 @@ stand_both app (sign ∷ one) other (word ∷ words) more h k = (h.0, stand_both
 pub reads_both : (one other : List Sign) (old mid new : WordsView) → Reads one old mid → Reads other mid new → Reads (one ++ other) old new
 reads_both one other old mid new h k = record {
   words = h.words ++ k.words;
-  written = stand_both old.source.app one other h.words k.words h.written (subst (λ (source : Source). StandFor source.app other k.words) h.source k.written);
+  written = stand_both old.source.app one other h.words k.words h.written (subst (λ (source : GoalSource). StandFor source.app other k.words) h.source k.written);
   ahead = h.ahead ∙ ap (λ ahead. h.words ++ ahead) k.ahead ∙ sym (append_assoc h.words k.words new.ahead);
   source = k.source ∙ h.source;
 }

@@ -14,7 +14,8 @@ use Rattle.rd_condition.specs.declared.condition.Condition.TheVariants.{Compares
 use Rattle.rd_goal.specs.Goals.{holds_in, truth_among, truths_of}
 use Rattle.rd_goal.specs.Written.{Formula, IsForm, IsPlaceForm, IsProper, IsWhyNoGoal, IsWordAt}
 use Rattle.rd_goal.specs.Written.{Itself, Numeral}
-use Rattle.rd_goal.specs.Written.{Sign, StandFor, and_sign, binding, compared_with, comparison_word, is_true_in}
+use Rattle.rd_goal.specs.Written.{Sign, StandFor, and_sign, binding, compared_with}
+use Rattle.rd_goal.specs.Written.{comparison_word, is_true_in}
 use Rattle.rd_goal.specs.Written.{not_sign, open_sign, or_sign, signs_of, signs_of_amount}
 use Rattle.rd_goal.specs.declared.claim.Claim.{Claim}
 use Rattle.rd_goal.specs.declared.claim.Claim.TheVariants.{Holds, Masked, Among, At, Waits, Runs}
@@ -47,13 +48,13 @@ parenthesis_in byte = if is_space byte then [] else (byte ∷ []) ∷ []
 -- ---- words
 
 -- what a goal is read from: words, and the application that they stand in
-pub record Source : Type 0 where
+pub record GoalSource : Type 0 where
   pub app : AppView
   pub words : List (List ℕ)
 
 -- how many of the words are read, and those that aren't read yet
 pub record WordsView : Type 0 where
-  pub source : Source
+  pub source : GoalSource
   pub read : ℕ
   pub ahead : List (List ℕ)
 
@@ -71,7 +72,7 @@ abbrev pub is_next : List (List ℕ) → List ℕ → Bool
 is_next [] word = false
 is_next (next ∷ others) word = bytes_eq next word
 
--- the word that comes next belongs to the claim that is being read: it doesn't stand behind a formula
+-- the word that comes next belongs to the claim that is being read: it joins nothing
 abbrev pub is_operand_next : List (List ℕ) → Bool
 is_operand_next ahead = not (nat_eq (length ahead) 0) && not (is_next ahead (codes "and"))
     && not (is_next ahead (codes "or")) && not (is_next ahead (codes ")"))
@@ -96,11 +97,11 @@ joining_word joining.Or = codes "or"
 joining_word joining.Close = codes ")"
 
 -- The words are no goal for that cause.
-abbrev pub IsWhyNot : Source → NoGoal → Type 0
+abbrev pub IsWhyNot : GoalSource → NoGoal → Type 0
 IsWhyNot source why = IsWhyNoGoal source.app source.words why
 
 -- The same, and they don't end where a claim is wanted.
-pub record IsRefusal (source : Source) (why : NoGoal) : Type 0 where
+pub record IsRefusal (source : GoalSource) (why : NoGoal) : Type 0 where
   pub right : IsWhyNot source why
   pub inside : why ≢ Ends ClaimWanted
 
@@ -284,7 +285,7 @@ IsAmid true draft signs = IsWanting draft signs
 IsAmid false draft signs = HasFormula 3 draft signs
 
 -- More is read, and by then a formula is wanted next, or not.
-pub record GoesOn (old new : DraftView) (signs : List Sign) (is_wanted : Bool) : Type 0 where
+pub record ReadsOn (old new : DraftView) (signs : List Sign) (is_wanted : Bool) : Type 0 where
   pub more : List Sign
   pub reads : Reads more old.words new.words
   pub amid : IsAmid is_wanted new (signs ++ more)

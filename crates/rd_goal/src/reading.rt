@@ -3,7 +3,7 @@
 ghost use Rattle.std.specs.Prelude.{◌≡◌, ◌<◌, ◌≤◌, ◌++◌, ◌||◌, ◌∷◌, List, [], codes, length};
 ghost use Rattle.std.specs.Prelude.{slice_index, IfErr, IfOk, IsErrOf, OnOk};
 ghost use Rattle.rd_goal.specs.Goals.{IsGoalOf, IsRowOf};
-ghost use Rattle.rd_goal.specs.Reading.{GoesOn, HasFormula, IsAmid, IsJoined, IsLast, IsRead};
+ghost use Rattle.rd_goal.specs.Reading.{HasFormula, IsAmid, IsJoined, IsLast, IsRead, ReadsOn};
 ghost use Rattle.rd_goal.specs.Reading.{IsRefusal, IsSettled, IsTaken, IsWanting, IsWhyNot};
 ghost use Rattle.rd_goal.specs.Reading.{parenthesis_in, part_of, strength_of, with_row, word_in};
 ghost use Rattle.rd_goal.specs.declared.reading.NoGoal.TheVariants.{Ends};
@@ -264,7 +264,7 @@ impl<'r, 'a> Draft<'r, 'a> {
     #[tactic(auto, using(crate::proofs::WordLaws::why_refused))]
     fn begin(&mut self) -> Result<bool, NoGoal>
         ensures goes_on { IfOk result (λ is_wanted. (signs : List Sign)
-            → IsWanting self.old signs → GoesOn self.old self.new signs is_wanted) }
+            → IsWanting self.old signs → ReadsOn self.old self.new signs is_wanted) }
         ensures less { IfOk result (λ is_wanted.
             length self.new.words.ahead < length self.old.words.ahead) }
         ensures wrong { IfErr result (IsWhyNot self.old.words.source) }
@@ -288,7 +288,7 @@ impl<'r, 'a> Draft<'r, 'a> {
     #[tactic(auto, using(crate::proofs::WordLaws::why_refused))]
     fn go_on(&mut self) -> Result<bool, NoGoal>
         ensures goes_on { IfOk result (λ is_wanted. (signs : List Sign)
-            → HasFormula 3 self.old signs → GoesOn self.old self.new signs is_wanted) }
+            → HasFormula 3 self.old signs → ReadsOn self.old self.new signs is_wanted) }
         ensures less { IfOk result (λ is_wanted.
             length self.new.words.ahead < length self.old.words.ahead) }
         ensures wrong { IfErr result (IsWhyNot self.old.words.source) }
@@ -317,7 +317,7 @@ impl<'r, 'a> Draft<'r, 'a> {
     // wanted then.
     fn advance(&mut self, is_wanted: bool) -> Result<bool, NoGoal>
         ensures goes_on { IfOk result (λ wants_next. (signs : List Sign)
-            → IsAmid is_wanted self.old signs → GoesOn self.old self.new signs wants_next) }
+            → IsAmid is_wanted self.old signs → ReadsOn self.old self.new signs wants_next) }
         ensures less { IfOk result (λ wants_next.
             length self.new.words.ahead < length self.old.words.ahead) }
         ensures wrong { IfErr result (IsWhyNot self.old.words.source) }

@@ -1,6 +1,6 @@
 use Rattle.std.proofs.Common.{◌≡◌, ◌∙◌, ◌++◌, Bool, IfErr, [], rules, ap, arith, length, subst, sym}
 use Rattle.rd_text.specs.Words.{texts}
-use Rattle.rd_goal.specs.Reading.{DraftView, IsAmid, IsWhyNot, Source, unread}
+use Rattle.rd_goal.specs.Reading.{DraftView, IsAmid, IsWhyNot, GoalSource, unread}
 use Rattle.rd_goal.proofs.DraftLaws.{cut_off, if_err, if_ok, is_written, no_items, none_left}
 use Rattle.rd_goal.proofs.WordLaws.{reads_both, why_refused}
 use Rattle.rd_goal.proofs.reading.read_goal.Goals as goal
@@ -33,11 +33,11 @@ returns-clause-written c =
 
 pub returns-in_err-is_wanted-clause-wrong : goal.returns-in_err-is_wanted-clause-wrong
 returns-in_err-is_wanted-clause-wrong c =
-    subst (λ (source : Source). IfErr c.from_residual.result (IsWhyNot source)) c.loop.invariant.reads.source (search rules)
+    subst (λ (source : GoalSource). IfErr c.from_residual.result (IsWhyNot source)) c.loop.invariant.reads.source (search rules)
 
 pub returns-clause-wrong : goal.returns-clause-wrong
 returns-clause-wrong c =
-    let source : Source = record { app = c.args.app.now; words = texts c.args.words.now } in
+    let source : GoalSource = record { app = c.args.app.now; words = texts c.args.words.now } in
     if_err c.end.result (λ why refused. why_refused c.loop.draft.words.source source why c.loop.invariant.reads.source refused) c.end.ensures.wrong
 
 pub returns-then-is_wanted-clause-ends : goal.returns-then-is_wanted-clause-ends
