@@ -1,5 +1,6 @@
 """Companions as processes of their own: what they leave behind, and what becomes of them where a
 module is missing or a signal comes while one is imported."""
+import contextlib
 import os
 import pathlib
 import subprocess
@@ -65,6 +66,16 @@ def seconds_of(command: Sequence[str], wanted: int = 0) -> float:
     return float(min(took))
 
 
+def marked(mark: str) -> List[int]:
+    """Returns the processes in whose environment `MARK` has this value."""
+    found = []
+    for folder in pathlib.Path("/proc").iterdir():
+        with contextlib.suppress(OSError):
+            if f"{MARK}={mark}".encode() in (folder / "environ").read_bytes().split(b"\0"):
+                found.append(int(folder.name))
+    return found
+
+
 class Started:
     """A companion that runs, with all processes that it has started, and theirs."""
 
@@ -89,16 +100,9 @@ class Started:
             stderr=subprocess.PIPE,
         )
 
-    def family(self) -> List[str]:
-        """The processes that there are, the companion's own among them."""
-        found = []
-        for folder in pathlib.Path("/proc").iterdir():
-            try:
-                if f"{MARK}={self.mark}".encode() in (folder / "environ").read_bytes().split(b"\0"):
-                    found.append(folder.name)
-            except OSError:
-                pass
-        return found
+    def family(self) -> List[int]:
+        """Returns the processes that there are, the companion's own among them."""
+        return marked(self.mark)
 
     def wait_for(self, count: int) -> None:
         """Waits until there are so many processes."""

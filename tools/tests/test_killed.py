@@ -128,7 +128,7 @@ class Signals(unittest.TestCase):
         for ignored, mask in ((None, 0), (signal.SIGINT, 1 << (signal.SIGINT - 1))):
             started = Started("sh", LOST, ignored=ignored)
             self.assertEqual("ok at 1\n", started.ask("step 1\n"))
-            (program,) = {*started.family()} - {str(started.process.pid)}
+            (program,) = {*started.family()} - {started.process.pid}
             status = pathlib.Path(f"/proc/{program}/status").read_text()
             (line,) = [it for it in status.splitlines() if it.startswith("SigIgn:")]
             both = (1 << (signal.SIGINT - 1)) | (1 << (signal.SIGTERM - 1))
