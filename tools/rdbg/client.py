@@ -10,11 +10,12 @@ import re
 import signal
 import socket
 import subprocess
+import sys
 import tempfile
 import threading
 from typing import IO, Callable, Deque, Iterable, Iterator, List, Optional, Sequence, Tuple, Union
 
-from rdbg import children, replies
+from rdbg import children, owners, replies
 from rdbg.commands import MOST_BYTES
 from rdbg.ending import ENDING, STARTED
 from rdbg.failure import Failure, trying
@@ -23,7 +24,7 @@ from rdbg.shown import shown
 WRAPPER = pathlib.Path(__file__).resolve().parents[2] / "rdbg"
 # So many bytes of lines fit into an empty pipe, so that writing them waits for nobody.
 BATCH = 32_768
-LOCAL = "127.0.0.1"
+LOCAL = owners.LOCAL
 # Notices that nobody hears yet are kept, so many of them.
 UNHEARD = 100
 NOTICE, REFUSED = b"#", "# no: "
@@ -145,6 +146,29 @@ def connected(
     return connection
 
 
+# How a user can connect to a server of another user.
+REMEDY = "use --anyone to connect anyway"
+
+
+def check_server(connection: socket.socket, port: int, remedy: str = REMEDY) -> None:
+    """Raises `Failure` if the server at the other end of a new connection belongs to another user.
+    Nothing must have been sent by it: the server could read the token of a room, or answer lies.
+
+    A system that does not tell who owns a connection is named on standard error, once each time."""
+    lookup = owners.find_lookup()
+    if lookup is None:
+        why = f"this system does not tell which user port {port} belongs to"
+        print(f"{ENDING.name}: {why}: connecting without checking", file=sys.stderr, flush=True)
+        return
+    try:
+        user = owners.server_owner(lookup, connection)
+    except owners.OwnerUnknown:
+        why = f"cannot tell which user port {port} belongs to"
+        raise Failure(f"{why} ({remedy})", 2) from None
+    if user not in (None, os.geteuid()):
+        raise Failure(f"port {port} belongs to a program of user {user} ({remedy})", 2)
+
+
 class Session:
     """One session, by the pipes of a program of its own (`start`) or a port (`attach`).
 
@@ -201,9 +225,24 @@ class Session:
         return cls.start([named or program(), "run", *app, *more])
 
     @classmethod
-    def attach(cls, port: int, name: Optional[str] = None) -> "Session":
-        """One more session at a server, at a room's by a name. Raises `Failure` for none."""
-        session = cls.over(connected(port), port)
+    def attach(
+        cls, port: int, name: Optional[str] = None, anyone: bool = False, remedy: str = REMEDY
+    ) -> "Session":
+        """Connects to a server, and introduces itself by a name if that is a room.
+
+        The server must belong to the same user, unless `anyone` says that it need not; `remedy` is
+        what the user can do about it.
+
+        Raises `Failure` if there is no such server, or it lets nobody in by that name.
+        """
+        connection = connected(port)
+        try:
+            if not anyone:
+                check_server(connection, port, remedy)
+        except BaseException:
+            connection.close()
+            raise
+        session = cls.over(connection, port)
         if name is not None:
             session._introduce(name)
         return session

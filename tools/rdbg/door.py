@@ -13,7 +13,7 @@ from typing import Any, Dict, Type
 
 from rdbg.client import LOCAL
 from rdbg.failure import trying
-from rdbg.owners import told, way_to_tell
+from rdbg.owners import client_owner, find_lookup
 
 # The first line of a request of HTTP, and how one begins that is encrypted.
 REQUEST = re.compile(rb"[!#$%&'*+.^_`|~0-9A-Za-z-]+ \S+ HTTP/[0-9.]+\r?\n?$", re.IGNORECASE)
@@ -38,8 +38,8 @@ class Door:
 
     def __init__(self, is_open: bool = False) -> None:
         self.is_open, self._user = is_open, os.geteuid()
-        self._way = None if is_open else way_to_tell()
-        self.token = "" if is_open or self._way else secrets.token_urlsafe(18)
+        self._lookup = None if is_open else find_lookup()
+        self.token = "" if is_open or self._lookup else secrets.token_urlsafe(18)
 
     @property
     def said(self) -> str:
@@ -49,9 +49,9 @@ class Door:
     def why_not(self, connection: socket.socket, what: str) -> str:
         """Why a connection isn't let in, before anything of it is read; nothing where it is, or
         where there is a token that it may know."""
-        if self._way is None:
+        if self._lookup is None:
             return ""
-        user = told(self._way, connection)
+        user = client_owner(self._lookup, connection)
         if user is None:
             return f"whose connection this is can't be told; {OPENS}"
         return "" if user == self._user else f"{what} is of another user; {OPENS}"

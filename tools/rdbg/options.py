@@ -8,6 +8,7 @@ from rdbg.digits import number
 MOST_COUNT = 1_000_000
 MOST_PORT = 65_535
 APPLICATION = "the application, JSON or in lines (.fw)"
+ANYONE = "connects to a server at --port that another user runs, too"
 
 
 class Parser(argparse.ArgumentParser):

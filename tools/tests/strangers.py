@@ -8,6 +8,7 @@ import unittest
 from typing import Iterator, List, Sequence
 
 from tests.dap_schema import DEBIAN
+from tests.paths import COMPANION
 
 NOBODY = 65534
 IS_ROOT = unittest.skipUnless(os.geteuid() == 0, "only root can be another user")
@@ -44,6 +45,30 @@ while last.is_alive():
     except OSError:
         pass
 """
+# Listens at a free port and prints it. Accepts one connection at once, or lets it wait until its
+# own input ends. Prints in the end what it has read up to the first pause, in hexadecimal.
+LISTENS = """
+import contextlib, socket, sys
+with socket.create_server(("127.0.0.1", 0)) as here:
+    print(here.getsockname()[1], flush=True)
+    if sys.argv[2] == "waits":
+        sys.stdin.read()
+    here.settimeout(20)
+    there, _ = here.accept()
+    with there, contextlib.suppress(ConnectionError):
+        there.settimeout(20)
+        print(there.recv(65536).hex(), flush=True)
+"""
+# Runs a companion as nobody, who may not be able to read its files.
+AS_NOBODY = """
+import importlib, os, sys
+sys.path.insert(0, sys.argv[1])
+from rdbg import main
+importlib.import_module(f"rdbg.companions.{sys.argv[2]}")
+os.setgid(65534)
+os.setuid(65534)
+sys.exit(main.main(sys.argv[2:]))
+"""
 # Does something before a companion starts, whose words stand behind it.
 BEFORE = """
 import os, runpy, sys
@@ -53,7 +78,7 @@ sys.path.insert(0, os.path.dirname(sys.argv[0]))
 runpy.run_path(sys.argv[0], run_name="__main__")
 """
 # The system says of nobody who it is.
-UNTOLD = "import rdbg.owners; rdbg.owners.way_to_tell = lambda: None"
+UNTOLD = "import rdbg.owners; rdbg.owners.find_lookup = lambda: None"
 
 
 def become() -> None:
@@ -76,6 +101,38 @@ def told_nobody(port: int, content: bytes) -> bytes:
         timeout=PATIENCE,
         check=True,
     ).stdout
+
+
+class Listener:
+    """A server of nobody's, which accepts one connection at once, or lets it wait."""
+
+    def __init__(self, accepts: bool) -> None:
+        how = "accepts" if accepts else "waits"
+        pipes = {"stdin": subprocess.PIPE, "stdout": subprocess.PIPE}
+        self._process = subprocess.Popen(
+            words(LISTENS, 0, how), preexec_fn=become, **pipes  # type: ignore[call-overload]
+        )
+        self.port = int(self._process.stdout.readline())
+
+    def received(self) -> bytes:
+        """Waits for the first bytes of the connection, or for its end, and returns them."""
+        return bytes.fromhex(self._process.communicate(timeout=PATIENCE)[0].decode())
+
+    def __enter__(self) -> "Listener":
+        return self
+
+    def __exit__(self, *_: object) -> None:
+        self._process.kill()
+        self._process.communicate()
+
+
+def run_as_nobody(*companion: str) -> "subprocess.CompletedProcess[str]":
+    """Runs a companion as nobody, without input."""
+    head = [sys.executable, "-B", "-c", AS_NOBODY, str(COMPANION.parent)]
+    pipe = subprocess.PIPE
+    return subprocess.run(
+        [*head, *companion], input="", stdout=pipe, stderr=pipe, text=True, timeout=PATIENCE
+    )
 
 
 @contextlib.contextmanager

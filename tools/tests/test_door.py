@@ -13,7 +13,7 @@ from rdbg.client import LOCAL
 from rdbg.door import Door, Unheard, is_of_a_browser
 from tests.strangers import IS_ROOT, NOBODY, become, words
 
-WAYS = (owners.asked, owners.listed)
+LOOKUPS = (owners.ask_kernel, owners.search_tables)
 # Connects to a port, says so, and closes once its input ends.
 STRANGER = """
 import socket, sys
@@ -60,8 +60,8 @@ class Owners(unittest.TestCase):
     """Both ways by which Linux says it."""
 
     def both(self, connection: socket.socket) -> Tuple[object, ...]:
-        """What each way says."""
-        return tuple(owners.told(way, connection) for way in WAYS)
+        """What each lookup says of the other end."""
+        return tuple(owners.client_owner(lookup, connection) for lookup in LOOKUPS)
 
     def test_a_connection_of_this_user(self) -> None:
         with pair() as (_, there):
@@ -80,17 +80,17 @@ class Owners(unittest.TestCase):
     def test_who_has_connections_to_a_port(self) -> None:
         families = ((socket.AF_INET, ""), (socket.AF_INET6, "::ffff:"))
         with listening() as (_, port), contextlib.ExitStack() as ends:
-            self.assertEqual({}, owners.callers(port))
+            self.assertEqual({}, owners.clients_of(port))
             here = [ends.enter_context(socket.socket(family)) for family, _ in families]
             for each, (_, head) in zip(here, families):
                 each.connect((f"{head}{LOCAL}", port))
             ports = [each.getsockname()[1] for each in here]
-            self.assertEqual(dict.fromkeys(ports, os.geteuid()), owners.callers(port))
+            self.assertEqual(dict.fromkeys(ports, os.geteuid()), owners.clients_of(port))
             # (who has closed it is nobody any more)
             here[0].close()
-            self.assertEqual({ports[0]: None, ports[1]: os.geteuid()}, owners.callers(port))
+            self.assertEqual({ports[0]: None, ports[1]: os.geteuid()}, owners.clients_of(port))
             with mock.patch.object(owners, "TABLES", ()):
-                self.assertEqual({}, owners.callers(port))
+                self.assertEqual({}, owners.clients_of(port))
 
     def test_one_that_has_said_all_is_still_known(self) -> None:
         with pair() as (here, there):
@@ -106,7 +106,13 @@ class Owners(unittest.TestCase):
             self.assertIn("can't be told", Door().why_not(there, "this"))
 
     def test_a_socket_that_listens_is_no_end(self) -> None:
-        self.assertIsNone(owners.known(owners.LISTENS, 0, 1))
+        with listening() as (found, port):
+            for lookup in LOOKUPS:
+                self.assertIsNone(lookup((LOCAL, port), (LOCAL, 9)))
+                server = lookup((LOCAL, port), None)
+                assert server is not None
+                self.assertEqual(server.state, owners.LISTENS)
+            self.assertEqual(found.getsockname(), (LOCAL, port))
 
     def test_what_takes_part_in_no_connection(self) -> None:
         with socket.socket() as alone:
@@ -114,15 +120,15 @@ class Owners(unittest.TestCase):
 
     def test_where_the_first_way_isnt_there_the_other_is_taken(self) -> None:
         with mock.patch("rdbg.owners.socket.AF_NETLINK", 12_345):
-            self.assertIs(owners.way_to_tell(), owners.listed)
-        self.assertIs(owners.way_to_tell(), owners.asked)
+            self.assertIs(owners.find_lookup(), owners.search_tables)
+        self.assertIs(owners.find_lookup(), owners.ask_kernel)
 
     def test_where_there_is_none(self) -> None:
         with mock.patch("rdbg.owners.socket.AF_NETLINK", 12_345):
             with mock.patch.object(owners, "TABLES", (("/proc/none", ""),)):
-                self.assertIsNone(owners.way_to_tell())
+                self.assertIsNone(owners.find_lookup())
         with mock.patch("rdbg.owners.sys.platform", "darwin"):
-            self.assertIsNone(owners.way_to_tell())
+            self.assertIsNone(owners.find_lookup())
 
 
 class Doors(unittest.TestCase):
@@ -142,11 +148,11 @@ class Doors(unittest.TestCase):
     def test_root_is_a_user_like_others(self) -> None:
         found = Door()
         with pair() as (_, there), mock.patch.object(found, "_user", 1_000):
-            with mock.patch.object(door, "told", lambda *_: 0):
+            with mock.patch.object(door, "client_owner", lambda *_: 0):
                 self.assertIn("of another user", found.why_not(there, "this"))
 
     def test_a_token_where_nobody_is_told(self) -> None:
-        with mock.patch.object(door, "way_to_tell", lambda: None):
+        with mock.patch.object(door, "find_lookup", lambda: None):
             one, other = Door(), Door()
             self.assertEqual(Door(is_open=True).token, "")
         self.assertGreaterEqual(len(one.token), 20)

@@ -12,7 +12,7 @@ from tests.strangers import IS_ROOT, before
 
 PORT, LINES = "7000", 120
 # The room tries no way to tell whose a connection is: that takes a port for a moment.
-KNOWN = "import rdbg.owners; rdbg.owners.way_to_tell = lambda: rdbg.owners.listed"
+KNOWN = "import rdbg.owners; rdbg.owners.find_lookup = lambda: rdbg.owners.search_tables"
 # The system has no networks for programs, and of the first program sessions are taken once the
 # other user has come to it.
 TOGETHER = """
@@ -23,7 +23,7 @@ apart.IS_TRIED, take = False, host.Host._take
 def late(program, port, count):
     host.Host._take = take
     end = time.monotonic() + 600
-    while not owners.callers(port) and time.monotonic() < end:
+    while not owners.clients_of(port) and time.monotonic() < end:
         time.sleep(0.01)
     take(program, port, count)
 host.Host._take = late

@@ -44,7 +44,7 @@ class Users(unittest.TestCase):
             self.assertEqual([it[0] for it in rows(file)], who)
 
     def test_a_prompt_says_why_too(self) -> None:
-        with mock.patch("rdbg.door.told", lambda *_: 12_345), served() as (port, _):
+        with mock.patch("rdbg.door.client_owner", lambda *_: 12_345), served() as (port, _):
             said = f"the server at port {port}: this room is of another user; --anyone opens it"
             with self.assertRaisesRegex(Failure, said):
                 Session.attach(port, "ada")
@@ -190,7 +190,7 @@ class Untold(unittest.TestCase):
     """A system that says of nobody who it is."""
 
     def setUp(self) -> None:
-        found = mock.patch("rdbg.door.way_to_tell", lambda: None)
+        found = mock.patch("rdbg.door.find_lookup", lambda: None)
         found.start()
         self.addCleanup(found.stop)
 

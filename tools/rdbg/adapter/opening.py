@@ -25,6 +25,8 @@ from rdbg.shell.shell import Shell
 BUILTIN = "built-in.fw"
 # So many moves may be done at a time, unless `launch` says another number.
 MOVES = 1_000_000
+# What lets `attach` connect to a server of another user.
+REMEDY = 'set "anyone" to true to connect anyway'
 # Faults of a file that are told at once.
 MOST_FAULTS = 20
 Tell = Callable[[str], None]
@@ -127,8 +129,11 @@ def set_pace(shell: Shell, given: Arguments) -> None:
 
 
 def attach(given: Arguments, pause: Pause, hear: Tell) -> Shell:
-    """One more session at a server or in a room, whose notices `hear` is told. Raises `Wrong` where
-    nobody is let in, or where a file was given that isn't the application there."""
+    """Connects to a server or a room, and passes the notices of a room to `hear`.
+
+    Raises `Wrong` if the server belongs to another user and `anyone` is not set, if it lets nobody
+    in, and if `program` is not its application.
+    """
     port = given.number("port")
     if not 0 < port < 65_536:
         raise Wrong(f"port is a number from 1 to 65535, and not {port}")
@@ -136,7 +141,8 @@ def attach(given: Arguments, pause: Pause, hear: Tell) -> Shell:
     source = None if path is None else read(path, given)
     try:
         with turned(Wrong, Failure):
-            target = attached(port, source, given.text("as", "") or None)
+            name = given.text("as", "") or None
+            target = attached(port, source, name, given.flag("anyone"), REMEDY)
     except Refused as refused:
         raise Wrong(f"the server lets nobody else in: no {refused}") from None
     shell = EditorShell(target, source, pause)

@@ -6,7 +6,7 @@ from typing import Sequence
 from rdbg.failure import Failure
 from rdbg.files.definitions import take_definitions
 from rdbg.files.source import accepted
-from rdbg.options import APPLICATION, Parser, bounded, port
+from rdbg.options import ANYONE, APPLICATION, Parser, bounded, port
 from rdbg.shell import prompt
 from rdbg.shell.sourcing import START
 from rdbg.driving.interrupt import HardInterrupt, Interrupt
@@ -29,6 +29,7 @@ def parser() -> Parser:
     made.word("--app", "FILE", "the same")
     made.word("--port", "P", "attaches to `rdbg serve` or `rdbg room` there", type=port)
     made.word("--name", "NAME", "who one is at `rdbg room`")
+    made.flag("--anyone", ANYONE)
     made.word("--moves", "N", "how many moves may be done", type=bounded(1))
     made.word("--history", "N", "entries of the history", type=bounded(2))
     made.flag("--nx", f"leaves out the files {START} (see `help source`)")
@@ -45,12 +46,14 @@ def main(words: Sequence[str]) -> int:
         raise Failure("--moves and --history are the server's own, where --port attaches to one", 2)
     if given.name is not None and given.port is None:
         raise Failure("--name is for a room; --port says where that is", 2)
+    if given.anyone and given.port is None:
+        raise Failure("--anyone requires --port", 2)
     limits = Limits(given.moves or Limits.moves, given.history or Limits.history)
     source = accepted(given.file or given.app, dict(given.consts))
     if given.port is None:
         target = begin(source, limits)
     else:
-        target = attach(given.port, source, given.name)
+        target = attach(given.port, source, given.name, given.anyone)
     shell = Shell(target, source, Interrupt())
     try:
         is_terminal = sys.stdin.isatty() and sys.stdout.isatty()

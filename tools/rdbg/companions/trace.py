@@ -4,7 +4,7 @@ from typing import Sequence
 
 from rdbg.failure import Failure
 from rdbg.files.definitions import take_definitions
-from rdbg.options import Parser, bounded, port
+from rdbg.options import ANYONE, Parser, bounded, port
 
 SUMMARY = "says who did what in a run: a row a move, events for a viewer of traces, or a page"
 EPILOG = (
@@ -22,6 +22,7 @@ def parser() -> Parser:
     word("file", "FILE", "the application, JSON or .fw", nargs="?")
     word("commands", "COMMANDS", "the lines of the run", nargs="?")
     word("--port", "P", "the moves that are done at `rdbg serve` there", type=port)
+    made.flag("--anyone", ANYONE)
     only = "rows of these tasks, objects and cores: jobs,worker,0; of rows alone"
     word("--only", "NAMES", only)
     when = "rows of moves behind which it holds: 'count jobs > 0 and not runs worker'; as above"
@@ -52,6 +53,8 @@ OF_PAGES = ("title", "note", "at", "against")
 
 def check_words(given: argparse.Namespace) -> None:
     """Raises `Failure` where words can't stand together."""
+    if given.anyone and given.port is None:
+        raise Failure("--anyone requires --port", 2)
     if given.port is not None and given.commands is not None:
         raise Failure("--port is for the moves that are done there; it takes no COMMANDS", 2)
     if given.port is not None and given.moves is not None:

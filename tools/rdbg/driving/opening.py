@@ -5,7 +5,7 @@ import threading
 from typing import Iterator, Optional
 
 from rdbg.application import Application
-from rdbg.client import Session
+from rdbg.client import REMEDY, Session
 from rdbg.driving.target import Limits, Target
 from rdbg.failure import Failure
 from rdbg.files import source as sources
@@ -64,14 +64,21 @@ def closed_if_wrong(session: Session) -> Iterator[None]:
         raise
 
 
-def attach(port: int, source: Optional[Source], name: Optional[str] = None) -> Target:
-    """One more session at a server, at a room's by a name. Raises `Failure` where there is none,
-    where it lets nobody in, or where a file was given that isn't its application."""
+def attach(
+    port: int,
+    source: Optional[Source],
+    name: Optional[str] = None,
+    anyone: bool = False,
+    remedy: str = REMEDY,
+) -> Target:
+    """Connects to a server or a room as `Session.attach` does, and waits until it answers.
+
+    Raises `Failure` if that is not possible, and if `source` is not the server's application."""
     timer = threading.Timer(PATIENCE, lambda: print(NOTE, file=sys.stderr, flush=True))
     timer.daemon = True
     timer.start()
     try:
-        session = Session.attach(port, name)
+        session = Session.attach(port, name, anyone, remedy)
         if name is None:
             greet(session)
     finally:

@@ -162,7 +162,7 @@ class Host:
 
     def _given_up(self, port: int, failure: Failure) -> str:
         """Ends it at once, since nobody knows whose its sessions are, and answers why."""
-        others = {} if self._is_apart else owners.callers(port)
+        others = {} if self._is_apart else owners.clients_of(port)
         self.kill()
         if self._is_apart:
             return f"a new rdbg didn't answer: {failure}"

@@ -279,7 +279,7 @@ def trace_run(given: argparse.Namespace, source: Optional[Source]) -> None:
 
 def trace_port(given: argparse.Namespace, source: Optional[Source]) -> None:
     """Traces the moves that are done at a server."""
-    target = attach(given.port, source)
+    target = attach(given.port, source, anyone=given.anyone)
     with target.session:
         part, first = part_at(target, given.first, given.last)
         done = target.place
