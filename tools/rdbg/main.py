@@ -59,6 +59,15 @@ def hint(words: Sequence[str]) -> int:
     return 2
 
 
+def warn_of_port(words: Sequence[str]) -> None:
+    """Says on standard error why `serve` cannot listen at the port in its words, if it cannot."""
+    from rdbg import serve_port
+
+    found = serve_port.warning(words)
+    if found is not None:
+        print(f"rdbg: {found}", file=sys.stderr)
+
+
 def run(words: Sequence[str]) -> int:
     """Does what the words ask for, and answers the exit status."""
     word = words[0] if words else ""
@@ -72,6 +81,8 @@ def run(words: Sequence[str]) -> int:
         print(page(entries(), *words[1:2]))
     elif word == "--why" and words[1:]:
         return hint(words[1:])
+    elif word == "--port-of" and words[1:]:
+        warn_of_port(words[1:])
     elif word == "--help-of" and words[1:]:
         from rdbg import program_help
 

@@ -3,7 +3,7 @@ and a history that is full."""
 import contextlib
 import subprocess
 import unittest
-from typing import Iterator, Tuple
+from typing import Iterator, Optional, Tuple
 
 from rdbg.client import Session, program
 from rdbg.failure import Failure
@@ -11,12 +11,16 @@ from tests.rooms import LOST, free_port
 
 
 @contextlib.contextmanager
-def served(sessions: int, *words: str) -> "Iterator[Tuple[int, subprocess.Popen[str]]]":
-    """A port at which the example is served, and the process that does."""
+def served(
+    sessions: int, *words: str, descriptors: Optional[int] = None
+) -> "Iterator[Tuple[int, subprocess.Popen[str]]]":
+    """Serves the example, and gives the port and the process. The process may have at most
+    `descriptors` open files, if that is given: four are its standard streams and its listener."""
     port = free_port()
     told = ["serve", "--app", LOST, "--port", str(port), "--sessions", str(sessions), *words]
+    limit = [] if descriptors is None else ["prlimit", f"--nofile={descriptors}"]
     pipe = subprocess.PIPE
-    process = subprocess.Popen([program(), *told], stdout=pipe, stderr=pipe, text=True)
+    process = subprocess.Popen([*limit, program(), *told], stdout=pipe, stderr=pipe, text=True)
     assert process.stdout is not None
     try:
         assert process.stdout.readline() == f"listening {port}\n"
@@ -76,7 +80,23 @@ class Serve(unittest.TestCase):
             words = ["serve", "--app", LOST, "--port", str(port), "--sessions", "1"]
             ran = subprocess.run([program(), *words], stderr=subprocess.PIPE, text=True)
             self.assertEqual(ran.returncode, 1)
-            self.assertEqual(ran.stderr, f"rdbg: cannot listen at port {port}: address in use\n")
+            self.assertEqual(ran.stderr, "rdbg: cannot listen\n")
+
+    def test_descriptors_for_four_connections(self) -> None:
+        with served(8, descriptors=8) as (port, process):
+            sessions = [Session.attach(port) for _ in range(8)]
+            for at, session in enumerate(sessions, 1):
+                self.assertEqual(session.tell("tick"), f"ok at {at}")
+                session.close()
+            self.assertEqual(process.communicate(timeout=30), ("closed 24\n", ""))
+            self.assertEqual(process.returncode, 0)
+
+    def test_no_descriptor_for_a_connection(self) -> None:
+        for sessions, failed in (1, "1 connection"), (3, "3 connections"):
+            with self.subTest(sessions), served(sessions, descriptors=4) as (_, process):
+                said = process.communicate(timeout=30)
+                self.assertEqual(said, ("closed 0\n", f"rdbg: {failed} failed\n"))
+                self.assertEqual(process.returncode, 0)
 
     def test_a_history_that_is_full(self) -> None:
         with served(4, "--history", "9") as (port, process):

@@ -139,9 +139,10 @@ class Wrapper(unittest.TestCase):
             port = str(taken.getsockname()[1])
             words = ["serve", "--app", str(EXAMPLES / "turns.json"), "--sessions", "1"]
             ran = run(WRAPPER, *words, "--port", port)
-        whose, why = ran.stderr.splitlines()
+        whose, cause, why = ran.stderr.splitlines()
         self.assertIn("each line that comes to this port is a command, whoever", whose)
-        self.assertEqual(why, f"rdbg: cannot listen at port {port}: address in use")
+        self.assertEqual(cause, f"rdbg: port {port}: Address already in use")
+        self.assertEqual(why, "rdbg: cannot listen")
 
     def test_words_that_are_none(self) -> None:
         self.assertEqual(run(WRAPPER, "fly").returncode, 2)

@@ -1,5 +1,5 @@
--- What is asked of the program, what the one session of a hall was, and why the program fails once it
--- has begun.
+-- What the words of a command line ask for, what the one session of a hall was, and the reasons for
+-- which the program fails once its application is read.
 use Rattle.std.specs.Prelude.{◌≡◌, ℕ, List, [], ◌∷◌, None}
 use Rattle.rd_ends.specs.Ends.{SinkView, SourceView}
 use Rattle.rd_hall.specs.SeatView.{SeatView}
@@ -21,16 +21,14 @@ pub record AttendedAlone (had has : SourceView) (old new : SinkView) (gones : Li
   pub alone : gones ≡ gone ∷ []
   pub attended : Attended had has old new None None gone
 
--- A session by itself fails for this: there is no memory for it, or the history isn't what it was
--- answered.
+-- The failures of `run`: out of memory, or a history that is not what the session was answered.
 abbrev pub FailsAlone : Failure → Type 0
 FailsAlone (Start fault) = fault ≡ NoMemory
-FailsAlone (CannotListen _ _) = ⊥
+FailsAlone CannotListen = ⊥
 FailsAlone Broken = Unit {0}
 
--- Sessions over connections fail for this: there is no memory for them, their port can't be had, or
--- the history isn't what they were answered.
-abbrev pub FailsTogether : ℕ → Failure → Type 0
-FailsTogether port (Start fault) = fault ≡ NoMemory
-FailsTogether port (CannotListen at _) = at ≡ port
-FailsTogether port Broken = Unit {0}
+-- The failures of `serve`: those of `run`, or a port where it cannot listen.
+abbrev pub FailsTogether : Failure → Type 0
+FailsTogether (Start fault) = fault ≡ NoMemory
+FailsTogether CannotListen = Unit {0}
+FailsTogether Broken = Unit {0}

@@ -1,27 +1,24 @@
-//! Why the program ends with another status than 0.
+//! The reasons for which the program ends with a status other than 0.
 
 ghost use Rattle.std.specs.Prelude.{◌≡◌, ◌≢◌};
-ghost use Rattle.std.specs.IoError.{error_kind};
 ghost use Rattle.rd_start.specs.declared.fault.Fault.TheVariants.{BadCommandLine, NoMemory};
-ghost use Rattle.rd_main.specs.declared.failure.Failure.TheVariants.{CannotListen, Start};
+ghost use Rattle.rd_main.specs.declared.failure.Failure.TheVariants.{Start};
 
 use rd_bytes::no_memory;
 use rd_start::fault::Fault;
 use std::alloc::AllocError;
-use std::io;
-use std::io::ErrorKind;
 use thiserror::Error;
 
-/// Why the program ends with another status than 0.
+/// The reason for which the program ends with a status other than 0.
 #[derive(Debug, Drop, Error)]
 pub enum Failure {
-    /// It couldn't begin.
+    /// The program could not start.
     #[error("{fault}")]
     Start { fault: Fault },
-    /// The port can't be had, for a cause of that kind: `AddrInUse` where another program has it.
-    #[error("cannot listen at port {port}: {kind}")]
-    CannotListen { port: u16, kind: ErrorKind },
-    /// The history isn't what the sessions were answered.
+    /// `serve` could not listen at its port.
+    #[error("cannot listen")]
+    CannotListen,
+    /// The final audit failed: the history is not what the sessions were answered.
     #[error("history broken")]
     Broken,
 }
@@ -55,24 +52,14 @@ impl From<no_memory::NoMemory> for Failure {
 }
 
 impl Failure {
-    /// That a port can't be had, and why.
-    pub fn cannot_listen(port: u16, error: &io::Error) -> Failure
-        ensures { result ≡ CannotListen port (error_kind error.now) }
-    {
-        Failure::CannotListen {
-            port,
-            kind: error.kind(),
-        }
-    }
-
-    /// The exit status: 2 for a bad command line, else 1.
+    /// Returns the exit status: 2 for a bad command line, otherwise 1.
     pub fn status(&self) -> u8
         ensures bad_command_line { self.now ≡ Start BadCommandLine → result ≡ 2 }
         ensures others { self.now ≢ Start BadCommandLine → result ≡ 1 }
     {
         match self {
             Failure::Start { fault } => fault.status(),
-            Failure::CannotListen { .. } | Failure::Broken => 1,
+            Failure::CannotListen | Failure::Broken => 1,
         }
     }
 }

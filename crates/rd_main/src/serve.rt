@@ -1,4 +1,4 @@
-//! Many sessions, each over a connection.
+//! `rdbg serve`: many sessions, each over a connection.
 
 ghost use Rattle.std.specs.Prelude.{◌≡◌, ◌+◌, IfErr};
 ghost use Rattle.rd_desk.specs.declared.sessions.TheConstants.{MAX_JOINS};
@@ -15,7 +15,7 @@ use rd_names::app::App;
 use rd_net::net::{Served, serve_net};
 use rd_session::gate::NoGate;
 use std::alloc::Global;
-use std::io::{ErrorKind, Write};
+use std::io::Write;
 use std::marker::Brand;
 use std::net::{IpAddr, Ipv4Addr, Net, SocketAddr, TcpListener, TcpStream};
 use std::sync::Wait;
@@ -23,10 +23,13 @@ use std::sync::ledger::Blank;
 use std::thread::Threads;
 use std::time::Clock;
 
-/// So many sessions over an application, each over a connection to that port of 127.0.0.1. Says
-/// where it listens, and at the end how many entries the history has and, on `errors`, how many
-/// connections have failed, if some have. `CannotListen` where that port can't be had, `NoMemory`
-/// where there is none to begin, `Broken` where the history isn't what the sessions were answered.
+/// Serves `sessions` sessions over an application, each over a connection to `port` of 127.0.0.1.
+/// Writes `listening P` once it listens. At the end it writes `closed E` with the number of entries
+/// in the history and, on `errors`, the number of attempts to accept that ended without a session, if
+/// there were any.
+///
+/// Errors: `CannotListen` if the port is not available; `NoMemory` if there is no memory to start;
+/// `Broken` if the final audit fails.
 pub fn listen<H, W: Write, E: Write>(
     rt: &H,
     alloc: Global,
@@ -39,7 +42,7 @@ pub fn listen<H, W: Write, E: Write>(
 ) -> Result<(), Failure>
 where
     H: Wait + Sync + Threads + Clock + Net<Listener = TcpListener, Stream = TcpStream>,
-    ensures { IfErr result (FailsTogether port) }
+    ensures { IfErr result FailsTogether }
 {
     let blank = Blank::new(MAX_JOINS as u64 + 1);
     host::<Brand, H, W, E>(
@@ -47,7 +50,7 @@ where
     )
 }
 
-// Opens a hall, serves its sessions, and ends it.
+// Opens a hall, serves its sessions, and finishes it.
 fn host<L: Setup + Send + Sync, H, W: Write, E: Write>(
     rt: &H,
     alloc: Global,
@@ -66,7 +69,7 @@ where
     requires app { app ≡ L.app }
     requires moves { limits.moves ≡ L.most_moves }
     requires entries { limits.history ≡ L.most_entries }
-    ensures { IfErr result (FailsTogether port) }
+    ensures { IfErr result FailsTogether }
 {
     let (hall, mut passes) = Hall::<L>::open(alloc, blank, app, limits)?;
     passes.truncate(sessions);
@@ -82,7 +85,7 @@ where
     }
 }
 
-// Says how many connections have failed, if some have.
+// Writes the line with the number of failed connections, if there were any.
 fn report_faults<E: Write>(faults: u32, errors: &mut E) {
     let _ = match faults {
         0 => Ok(()),
@@ -91,7 +94,7 @@ fn report_faults<E: Write>(faults: u32, errors: &mut E) {
     };
 }
 
-// Ends a hall, and says how many entries its history has.
+// Finishes the hall, and writes the line with the number of entries in its history.
 fn close<L: Setup, W: Write>(
     hall: Hall<L>,
     gones: Vec<Gone<L>>,
@@ -108,7 +111,7 @@ fn close<L: Setup, W: Write>(
     }
 }
 
-// Listens, and serves a session for each pass.
+// Listens, and makes one attempt per pass to serve a session.
 fn serve<L: Setup + Send + Sync, H, W: Write>(
     rt: &H,
     alloc: Global,
@@ -119,12 +122,11 @@ fn serve<L: Setup + Send + Sync, H, W: Write>(
 ) -> Result<Served<L>, Failure>
 where
     H: Wait + Sync + Threads + Clock + Net<Listener = TcpListener, Stream = TcpStream>,
-    ensures { IfErr result (λ failure. (kind : ErrorKind) × (failure ≡ CannotListen port kind)) }
+    ensures { IfErr result (λ failure. failure ≡ CannotListen) }
 {
     let here = SocketAddr::new(IpAddr::V4(Ipv4Addr::LOCALHOST), port);
-    let listener = match TcpListener::bind(rt, here) {
-        Ok(listener) => listener,
-        Err(error) => return Err(Failure::cannot_listen(port, &error)),
+    let Ok(listener) = TcpListener::bind(rt, here) else {
+        return Err(Failure::CannotListen);
     };
     let _ = writeln!(writer, "listening {port}");
     let _ = writer.flush();

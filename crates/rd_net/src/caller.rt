@@ -1,4 +1,4 @@
-//! A connection: how it is turned away, and how it ends.
+//! A connection that was accepted: how it is turned away, and how it is closed.
 
 ghost use Rattle.std.specs.Prelude.{◌≡◌, ◌^◌, ◌<◌};
 ghost use Rattle.std.specs.Io.KnownBytes.{Appends};
@@ -17,29 +17,28 @@ use std::io::Read;
 use std::net::{Shutdown, TcpStream};
 use std::time::{Clock, Duration, Instant};
 
-/// For how many milliseconds a connection that a thread of its own ends is read at the most.
+/// Milliseconds for which a connection's own thread reads on before it closes the connection.
 pub(crate) const LAST_MILLIS: u64 = 5_000;
 
-// The same of one that the thread ends which accepts, since who comes next waits for it.
+// The same on the thread that accepts: shorter, because the next connection waits for it.
 const LAST_MILLIS_UNSERVED: u64 = 200;
 
-// How many bytes are read at a time.
+// Bytes per read.
 const LAST_ROOM: usize = 16_384;
 
-/// A connection that has come, and that no thread serves yet. Where it is dropped it is told that
-/// there is no memory.
+/// An accepted connection that no thread serves yet. Dropping it sends `no NoMemory` to the client.
 pub(crate) struct Caller<'a, R: Clock> {
     rt: &'a R,
     stream: TcpStream,
 }
 
 impl<'a, R: Clock> Caller<'a, R> {
-    /// A connection that has come.
+    /// Wraps an accepted connection.
     pub(crate) fn new(rt: &'a R, stream: TcpStream) -> Caller<'a, R> {
         Caller { rt, stream }
     }
 
-    /// The connection, for the thread that serves it.
+    /// Hands the connection to the thread that serves it.
     pub(crate) fn into_stream(self) -> TcpStream {
         let Caller { rt: _, stream } = self;
         stream
@@ -53,9 +52,9 @@ impl<'a, R: Clock> Drop for Caller<'a, R> {
     }
 }
 
-/// Ends a connection so that its peer gets all that was written. Were it closed with bytes unread
-/// the system would reset it, and drop what is on its way. So its writing end is shut, and what
-/// comes is read and dropped until the peer ends too, for so many milliseconds at the most.
+/// Closes a connection so that the client gets all that was written. Closing it with unread bytes would
+/// make the system reset it and drop replies on their way. So this shuts down the writing side, then
+/// reads and discards until the client closes too, for at most `millis` milliseconds.
 pub(crate) fn hang_up<R: Clock>(rt: &R, stream: &TcpStream, millis: u64) {
     if stream.shutdown(Shutdown::Write).is_err() {
         return;
@@ -71,7 +70,7 @@ pub(crate) fn hang_up<R: Clock>(rt: &R, stream: &TcpStream, millis: u64) {
     }
 }
 
-// Waits for what comes next, and drops it. Whether something has come, and the time isn't over.
+// Reads and discards the next bytes. Returns whether there were some before the time was over.
 fn goes_on<R: Clock>(
     rt: &R,
     start: Instant,
@@ -95,13 +94,13 @@ fn goes_on<R: Clock>(
     }
 }
 
-/// Tells a connection why it isn't let in, and ends it, as `hang_up` does.
+/// Sends the client the reason why its session cannot join, then closes the connection by `hang_up`.
 pub(crate) fn turn_away<R: Clock>(rt: &R, stream: &TcpStream, error: &EnterError, millis: u64) {
     let _ = tell(&mut Over::new(stream), error);
     hang_up(rt, stream, millis);
 }
 
-// The refusal that says why a session isn't let in.
+// The refusal to send for an error of `join`.
 fn refusal_of(error: &EnterError) -> Refusal
     ensures { result ≡ refusal_of error.now }
 {
@@ -112,7 +111,7 @@ fn refusal_of(error: &EnterError) -> Refusal
     }
 }
 
-// Tells why a session isn't let in.
+// Writes the refusal line.
 fn tell<W: ByteSink>(sink: &mut W, error: &EnterError) -> Result<(), WriteFault>
     requires { (W.seen sink.old).faults < 2 ^ 63 }
     ensures says { Says (W.seen sink.old).contents (W.seen sink.new).contents result

@@ -23,20 +23,24 @@ use std::thread::{JoinHandle, SpawnError, Threads};
 use std::time::{Clock, Duration};
 use std::{io, thread};
 
-// Between two tries to accept a connection, in milliseconds.
-const PAUSE: u64 = 10;
+// Milliseconds between two tries to accept a connection.
+const PAUSE_MILLIS: u64 = 10;
 
-/// What came of the connections.
+// Tries to accept a connection without a descriptor, while no session is open, before the attempt is
+// given up.
+const MAX_IDLE_TRIES: u32 = 10;
+
+/// The result of serving connections.
 #[derive(Drop)]
 pub struct Served<L: Setup> {
     /// The sessions that joined, as they left.
     pub gone: Vec<Gone<L>>,
-    /// How many connections weren't accepted, or weren't let in, or had no thread or no memory.
+    /// Attempts to accept a connection that ended without a session.
     pub faults: u32,
 }
 
 impl<L: Setup> Served<L> {
-    // Counts a fault.
+    // Counts one fault. The count stays at its largest value.
     pub(crate) fn count_fault(&mut self)
         ensures gone { self.new.gone ≡ self.old.gone }
         ensures faults { self.new.faults ≡ min (self.old.faults + 1) (2 ^ 32 - 1) }
@@ -44,7 +48,7 @@ impl<L: Setup> Served<L> {
         self.faults = self.faults.saturating_add(1);
     }
 
-    // Keeps a session that has left. Without memory for it that is a fault.
+    // Adds a session that has left, or counts a fault if there is no memory for it.
     pub(crate) fn keep(&mut self, gone: Gone<L>)
         ensures { ((self.new.gone.items ≡ self.old.gone.items ++ gone ∷ [])
             × (self.new.faults ≡ self.old.faults))
@@ -57,15 +61,23 @@ impl<L: Setup> Served<L> {
     }
 }
 
-/// Accepts as many connections as there are passes, one after the other, and serves a session over
-/// each, on a thread of its own, with its own copy of the gate. Once all have come the listener is
-/// closed, so that a connection beyond them is refused by the system. Ends when all have ended. A
-/// connection that isn't let in is told why: `no Full`, `no HistoryFull` or `no NoMemory`, the last
-/// also where there is no thread for it; then the next is tried once a session has ended and its
-/// thread was joined, if one is there. Where descriptors or memory are short a connection waits to be
-/// accepted until a session has ended, or there are some again, which is one fault and takes no pass.
-/// The room for all sessions is made first: where there is no memory for it, none is accepted, and
-/// there are as many faults as passes.
+/// Makes one attempt per pass to accept a connection, and serves a session over each accepted
+/// connection, on a thread of its own and with its own copy of the gate. Returns when all sessions
+/// have ended.
+///
+/// Each attempt that ends without a session counts as one fault:
+/// - the connection was gone before it could be accepted;
+/// - the session may not join, or there is no memory or no thread for it. The client is sent
+///   `no Full`, `no HistoryFull` or `no NoMemory`. After a thread was refused, the next attempt
+///   starts once a session has ended and its thread was joined, if a session is open;
+/// - no descriptor was free for it at ten tries made while no session was open.
+///
+/// An attempt that finds no free descriptor while a session is open waits until a session has ended
+/// and is tried again. If it then succeeds, it counts nothing.
+///
+/// After the last attempt the listener is closed, so the system refuses further connections. The
+/// memory for all sessions is allocated first. If it is refused, nothing is accepted and each pass
+/// counts as a fault.
 pub fn serve_net<L: Setup + Send + Sync, R, G: Gate + Copy + Send + Sync>(
     rt: &R,
     alloc: Global,
@@ -104,46 +116,46 @@ where
     table.into_served()
 }
 
-// Room for so many sessions, and for their threads.
+// Allocates the tables for `count` sessions and their threads.
 fn prepare<L: Setup>(alloc: Global, count: usize) -> Result<(Table<L>, Crew), AllocError> {
     let table = Table::new(alloc, count)?;
     let crew = Crew::new(alloc, count)?;
     Ok((table, crew))
 }
 
-// The next connection, or none where it was gone before it was accepted. Where descriptors or
-// memory are short a session's end is waited for, and then it is tried again, as it is where there is
-// no session: who comes waits meanwhile. That is one fault, however often it is tried.
+// Accepts the next connection. Returns `None`, counted as one fault, if the connection was gone
+// before it could be accepted, or if no descriptor was free at `MAX_IDLE_TRIES` tries made while no
+// session was open. While a session is open, a try without a descriptor (or memory) counts nothing:
+// the next one is made once a session has ended.
 fn accept<L: Setup, R: Threads + Wait + Clock>(
     rt: &R,
     listener: &TcpListener,
     table: &Table<L>,
     crew: &mut Crew,
 ) -> Option<TcpStream> {
-    let mut is_first = true;
+    let mut idle_tries = 0_u32;
     for _try in rt.forever() {
+        let is_idle = table.is_idle(rt);
         let accepted = listener.accept();
         crew.join_ended(rt, table);
         let error = match accepted {
             Ok((stream, _)) => return Some(stream),
             Err(error) => error,
         };
-        if is_first {
-            table.fail(rt);
-            is_first = false;
-        }
-        if error.kind() == ErrorKind::ConnectionAborted {
-            return None;
+        idle_tries = idle_tries.saturating_add(u32::from(is_idle));
+        if error.kind() == ErrorKind::ConnectionAborted || idle_tries >= MAX_IDLE_TRIES {
+            break;
         }
         table.await_end(rt);
         crew.join_ended(rt, table);
-        thread::sleep(rt, Duration::from_millis(PAUSE));
+        thread::sleep(rt, Duration::from_millis(PAUSE_MILLIS));
     }
+    table.fail(rt);
     None
 }
 
-// Keeps the thread that serves a connection. Where there is none the connection is told so, since
-// what was to serve it is dropped, and a session's end is waited for.
+// Records the thread that serves a connection. If there is none, dropping the closure turns the
+// connection away, and the next attempt waits for a session to end.
 fn settle<L: Setup, R: Threads + Wait, F: Drop>(
     rt: &R,
     table: &Table<L>,
@@ -161,7 +173,7 @@ fn settle<L: Setup, R: Threads + Wait, F: Drop>(
     }
 }
 
-// Serves a session over a connection, if it is let in, and ends the connection.
+// The body of a connection's thread: serves it, closes it, and reports its end to the table.
 fn serve_caller<L: Setup, R: Wait + Clock, G: Gate + Copy>(
     rt: &R,
     alloc: Global,
@@ -178,7 +190,7 @@ fn serve_caller<L: Setup, R: Wait + Clock, G: Gate + Copy>(
     table.end(rt, number, visit);
 }
 
-// Lets a connection in, serves its session, and ends it.
+// Joins the hall, serves the session, and ends the connection.
 fn visit<L: Setup, R: Wait + Clock, G: Gate + Copy>(
     rt: &R,
     alloc: Global,
@@ -204,7 +216,7 @@ fn visit<L: Setup, R: Wait + Clock, G: Gate + Copy>(
     Visit::Served { gone }
 }
 
-// Answers the lines of a connection, and leaves.
+// Answers the lines of a connection, and leaves the hall.
 fn attend<L: Setup, R: Wait, G: Gate + Copy>(
     rt: &R,
     stream: &TcpStream,
@@ -216,7 +228,7 @@ fn attend<L: Setup, R: Wait, G: Gate + Copy>(
     requires { Joined seat.session }
     ensures { AttendedOver result }
 {
-    // (replies are short, and waited for)
+    // Replies are short and the client waits for each, so Nagle's algorithm would only delay them.
     let _ = stream.set_nodelay(true);
     let mut gate = gate;
     let mut source = Over::new(stream);

@@ -1,4 +1,4 @@
-//! What has come of the connections so far, and who is being served.
+//! The state that the threads of a server share: results so far, and which threads have ended.
 
 use crate::net::Served;
 use rd_hall::seat::Gone;
@@ -6,19 +6,19 @@ use rd_hall::setup::Setup;
 use std::alloc::{AllocError, Global};
 use std::sync::{Condvar, Mutex, Wait};
 
-/// What a connection was: a session that has left, or none. Some have failed.
+/// How an accepted connection ended.
 #[derive(Drop)]
 pub(crate) enum Visit<L: Setup> {
-    /// A session was served.
+    /// Its session was served and has left.
     Served { gone: Gone<L> },
-    /// A session joined, and there was no memory to serve it.
+    /// Its session joined, but there was no memory to serve it.
     Unserved { gone: Gone<L> },
-    /// It wasn't let in.
+    /// Its session could not join.
     Refused,
 }
 
-// What has come of the connections, how many are being served, and which threads have ended and
-// weren't joined yet.
+// The results so far, the number of open sessions, and the numbers of the threads that have ended
+// and are not joined yet.
 #[derive(Drop)]
 struct VisitTally<L: Setup> {
     served: Served<L>,
@@ -27,7 +27,7 @@ struct VisitTally<L: Setup> {
 }
 
 impl<L: Setup> VisitTally<L> {
-    // The thread of that number has ended. (There is room for the numbers of all.)
+    // Records that a thread has ended. `push` cannot fail: `new` reserved space for all threads.
     fn end(&mut self, number: usize, visit: Visit<L>) {
         self.running = self.running.saturating_sub(1);
         let _ = self.ended.push(number);
@@ -42,7 +42,7 @@ impl<L: Setup> VisitTally<L> {
     }
 }
 
-/// What has come of the connections so far, shared by the threads that serve them.
+/// The results so far, shared by the threads that serve connections.
 #[derive(Drop)]
 pub(crate) struct Table<L: Setup> {
     tally: Mutex<VisitTally<L>>,
@@ -50,8 +50,7 @@ pub(crate) struct Table<L: Setup> {
 }
 
 impl<L: Setup> Table<L> {
-    /// Nobody was served yet, and there is room for so many. An `Err` says that there is no memory
-    /// for it.
+    /// Makes an empty table with space for `count` connections.
     pub(crate) fn new(alloc: Global, count: usize) -> Result<Table<L>, AllocError> {
         let gone = Vec::with_capacity(alloc, count)?;
         let ended = Vec::with_capacity(alloc, count)?;
@@ -66,36 +65,41 @@ impl<L: Setup> Table<L> {
         })
     }
 
-    /// One more is being served.
+    /// Counts one more open session.
     pub(crate) fn begin(&self, rt: &impl Wait) {
         let mut tally = self.tally.lock(rt);
         tally.running = tally.running.saturating_add(1);
     }
 
-    /// One that was to be served has no thread.
+    /// Takes back `begin` for a connection that got no thread, and counts a fault.
     pub(crate) fn cancel(&self, rt: &impl Wait) {
         let mut tally = self.tally.lock(rt);
         tally.running = tally.running.saturating_sub(1);
         tally.served.count_fault();
     }
 
-    /// One that was being served, by the thread of that number, has ended.
+    /// Records the end of the connection served by thread `number`.
     pub(crate) fn end(&self, rt: &impl Wait, number: usize, visit: Visit<L>) {
         self.tally.lock(rt).end(number, visit);
         self.ended.notify_all();
     }
 
-    /// Counts a fault, for which nobody waits.
+    /// Counts a fault of an attempt that accepted no connection.
     pub(crate) fn fail(&self, rt: &impl Wait) {
         self.tally.lock(rt).served.count_fault();
     }
 
-    /// The number of a thread that has ended, each once.
+    /// Whether no session is open.
+    pub(crate) fn is_idle(&self, rt: &impl Wait) -> bool {
+        self.tally.lock(rt).running == 0
+    }
+
+    /// Takes the number of a thread that has ended, each once.
     pub(crate) fn next_ended(&self, rt: &impl Wait) -> Option<usize> {
         self.tally.lock(rt).ended.pop()
     }
 
-    /// Waits until one that is being served has ended, if there is one.
+    /// Waits until a session has ended, if one is open.
     pub(crate) fn await_end(&self, rt: &impl Wait) {
         let tally = self.tally.lock(rt);
         drop(
@@ -105,7 +109,7 @@ impl<L: Setup> Table<L> {
         );
     }
 
-    /// What came of all.
+    /// The results, once all threads have ended.
     pub(crate) fn into_served(self) -> Served<L> {
         let Table { tally, ended: _ } = self;
         let VisitTally {

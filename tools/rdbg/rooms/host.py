@@ -7,7 +7,7 @@ import tempfile
 import time
 from typing import IO, Iterator, List, NamedTuple, Optional, Set
 
-from rdbg import children, owners
+from rdbg import children, owners, serve_port
 from rdbg.client import LOCAL, Session, connected, program
 from rdbg.ending import STARTED
 from rdbg.failure import Failure, trying
@@ -76,6 +76,8 @@ class Host:
                         return host
                     said = host.kill()
                     is_again = TAKEN in said
+                    if is_again:
+                        said = serve_port.explained(said, port)
                 except Failure as failure:
                     said, is_again = host._given_up(port, failure), True
                 except BaseException:
