@@ -49,7 +49,11 @@ KEYS: Dict[str, Tuple[str, int, str]] = {
 
 
 # What the browser answers where another page has come in the place of the one that was asked.
-GONE = ("Inspected target navigated or closed", "Execution context was destroyed.")
+GONE = (
+    "Inspected target navigated or closed",
+    "Execution context was destroyed.",
+    "Cannot find default execution context",
+)
 
 
 class Missing(AssertionError):

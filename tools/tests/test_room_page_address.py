@@ -2,12 +2,16 @@
 where it was opened."""
 import contextlib
 import errno
+import functools
+import http.server
 import os
 import pathlib
 import signal
 import stat
 import subprocess
 import sys
+import tempfile
+import threading
 import unittest
 from typing import BinaryIO, Iterator, List
 from unittest import mock
@@ -31,8 +35,8 @@ from tests.web_rooms import (
 
 ADDRESS = r"http://127\.0\.0\.1:\d+/#[\w-]{32}"
 NOBODY = (
-    "This is a room of rdbg, and it has let nobody in by this address: each is good for one visit."
-    " Open the one that the room has said last, at its terminal or in its file."
+    "This is a room of rdbg, and this address does not let anybody in: each works once."
+    " Open the address that the room printed last, at its terminal or in its file."
 )
 
 
@@ -51,6 +55,25 @@ def at_a_terminal() -> Iterator[BinaryIO]:
         finally:
             process.terminate()
             process.wait()
+
+
+@contextlib.contextmanager
+def foreign_page(port: int) -> Iterator[None]:
+    """An empty page at a port that a room had before."""
+    handler = http.server.SimpleHTTPRequestHandler
+    with tempfile.TemporaryDirectory() as folder:
+        (pathlib.Path(folder) / "index.html").write_text("<!DOCTYPE html><title>other</title>")
+        quiet = type("Quiet", (handler,), {"log_message": lambda *_: None})
+        serves = functools.partial(quiet, directory=folder)
+        server = http.server.ThreadingHTTPServer((LOCAL, port), serves)
+        thread = threading.Thread(target=server.serve_forever, daemon=True)
+        thread.start()
+        try:
+            yield
+        finally:
+            server.shutdown()
+            server.server_close()
+            thread.join()
 
 
 def next_address(lines: BinaryIO) -> str:
@@ -106,6 +129,21 @@ class Printed(unittest.TestCase):
             self.assertEqual(first.split("#")[0], second.split("#")[0])
             self.assertEqual((None, token), (traded(first), traded(second)))
 
+    def test_without_a_number_it_takes_a_free_port(self) -> None:
+        for words in (["--web", LOST], [LOST, "--web"], ["--web", "--sessions", "2", LOST]):
+            at = ["--port", str(free_port())]
+            process = subprocess.Popen(
+                [sys.executable, "-B", str(COMPANION), "room", *at, *words],
+                stdin=subprocess.DEVNULL,
+                stdout=subprocess.PIPE,
+                text=True,
+            )
+            with process:
+                assert process.stdout is not None
+                self.assertEqual(f"listening {at[1]}\n", process.stdout.readline())
+                self.assertRegex(process.stdout.readline(), rf"^web http://{LOCAL}:\d+/ /\S+\n$")
+                process.terminate()
+
     def test_a_file_that_cannot_be_written(self) -> None:
         full = OSError(errno.ENOSPC, os.strerror(errno.ENOSPC))
         with mock.patch("tempfile.mkdtemp", side_effect=full):
@@ -140,7 +178,7 @@ class Once(OnPage):
                 self.check_refused(fresh, *ours)
                 self.assertEqual([None] * len(ours), [traded(it) for it in ours])
                 text = browser.value("document.documentElement.outerHTML")
-                for secret in (browser.value("localStorage.getItem('way')"), address[-32:]):
+                for secret in (browser.value("sessionStorage.getItem('way')"), address[-32:]):
                     self.assertNotIn(secret.strip("/"), text)
             self.assertTrue(come_in(fresh, room.address, "ada"))
 
@@ -171,16 +209,30 @@ class Once(OnPage):
         with web_room() as room:
             used = room.address
             self.visit_address(used, "ada")
-            ways = (("bo", room.said), ("eve", used), ("joe", room.address))
-            for count, (name, address) in enumerate(ways, 1):
-                with self.browser.another_page():
-                    # (by a name of its own, as that of the first page is here)
-                    self.assertTrue(come_in(self.browser, address, name))
-                    self.assertEqual(room.said, self.value("location.href"))
-                    self.click("#tick")
-                self.said(f"{name}: tick -> ok at {count}")
-            # (a key that is good is used up, also where the browser was let in already)
-            self.assertIsNone(traded(ways[2][1]))
+            # (the token is the first page's alone)
+            with self.browser.another_page():
+                self.check_refused(self.browser, room.said, used)
+            address = room.address
+            with self.browser.another_page():
+                # (by a name of its own, since the first page has its name)
+                self.assertTrue(come_in(self.browser, address, "joe"))
+                self.assertEqual(room.said, self.value("location.href"))
+                self.click("#tick")
+            self.said("joe: tick -> ok at 1")
+            self.assertIsNone(traded(address))
+
+    def test_a_later_page_at_the_same_port_does_not_find_the_token(self) -> None:
+        self.spares_errors = True
+        with web_room() as room:
+            self.visit(room, "ada")
+            token = self.value("sessionStorage.getItem('way')").strip("/")
+            address = room.said
+            room.end_well()
+            with foreign_page(room.web), self.browser.another_page():
+                self.browser.visit(address)
+                found = self.value("JSON.stringify([{...localStorage}, document.cookie])")
+            self.assertNotIn(token, found)
+            self.assertEqual('"]', found[-2:])
 
     def test_an_address_that_is_typed_where_the_page_is(self) -> None:
         with web_room() as room:
@@ -193,8 +245,10 @@ class Once(OnPage):
             self.assertIsNone(traded(address))
 
     def test_a_browser_that_stores_nothing(self) -> None:
-        none = (
-            "Object.defineProperty(window, 'localStorage', {get: () => { throw Error('none'); }})"
+        throws = "{get: () => { throw Error('none'); }}"
+        none = "".join(
+            f"Object.defineProperty(window, '{it}', {throws});"
+            for it in ("localStorage", "sessionStorage")
         )
         method = "ScriptToEvaluateOnNewDocument"
         kept = self.browser.call(f"Page.add{method}", source=none)

@@ -43,8 +43,11 @@ const tries = {
     frame.src = `${address}#${key}`;
     document.body.append(frame);
   }),
-  // (what a browser keeps for the room's page, it doesn't keep for this one)
-  kept: () => Promise.resolve(localStorage.getItem("way") ?? document.cookie).then(isThere),
+  // (what the room's page keeps, it keeps for itself)
+  kept: () => {
+    const found = localStorage.getItem("way") ?? sessionStorage.getItem("way") ?? document.cookie;
+    return Promise.resolve(found).then(isThere);
+  },
 };
 const tried = ([name, act]) => act().then(() => `${name} let in`, () => `${name} refused`);
 window.results = Promise.all(Object.entries(tries).map(tried));
@@ -91,7 +94,7 @@ class Origins(OnPage):
         self.spares_errors = True  # (the browser tells each refusal)
         with web_room() as room, session(room, "left") as left:
             self.visit(room, "ada")
-            token = self.value("localStorage.getItem('way')").strip("/")
+            token = self.value("sessionStorage.getItem('way')").strip("/")
             address = room.address
             key = address.split("#")[1]
             for known in ({"key": key, "token": token}, {"key": "x", "token": "x"}):

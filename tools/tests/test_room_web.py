@@ -162,10 +162,8 @@ class LetIn(unittest.TestCase):
         self.here = stack.enter_context(served(4))
 
     def test_the_page(self) -> None:
-        for name in (LOCAL, "localhost"):
-            head = f"Host: {name}:{self.here.port}"
-            answer = asked(self.here, "GET", "/", None, head)
-            self.assertEqual(200, status(answer))
+        answer = asked(self.here, "GET", "/", None, f"Host: {LOCAL}:{self.here.port}")
+        self.assertEqual(200, status(answer))
         heads, _, text = answer.partition(b"\r\n\r\n")
         for line in web_guard.HEADERS:
             self.assertIn(": ".join(line).encode(), heads)
@@ -224,10 +222,22 @@ class LetIn(unittest.TestCase):
             [f"Host: {LOCAL}"],
             [f"Host: {LOCAL}:{port + 1}"],
             [f"Host: {LOCAL}:{port}.evil.example"],
+            # (a browser may ask another user's program at the same port of ::1 by these)
+            [f"Host: localhost:{port}"],
+            [f"Host: [::1]:{port}"],
         ]
+        why = f"rdbg: this page is served as http://{LOCAL}:{port}/ only\n".encode()
         for heads in others:
             for it in (path, "/"):
-                self.assertEqual(403, status(asked(self.here, "GET", it, None, *heads)), heads)
+                answer = asked(self.here, "GET", it, None, *heads)
+                self.assertEqual(403, status(answer), heads)
+                self.assertTrue(answer.endswith(why), answer)
+        origin = f"Origin: http://localhost:{port}"
+        for line in ("line", "in"):
+            token = "in" if line == "in" else f"{self.here.token}/{line}"
+            heads = [f"Host: localhost:{port}", origin, "Content-Type: application/json"]
+            answer = asked(self.here, "POST", f"/{token}", "{}", *heads)
+            self.assertEqual(403, status(answer))
         twice = [f"Host: {LOCAL}:{port}", "Host: evil.example"]
         self.assertEqual(400, status(asked(self.here, "GET", path, None, *twice)))
 

@@ -39,14 +39,23 @@ def web_port(text: str) -> int:
     return 0 if text == "0" else port(text)
 
 
+def with_web_port(words: Sequence[str]) -> List[str]:
+    """Inserts the number 0 between `--web` and a file name, which it would take for its number."""
+    found: List[str] = []
+    for word, following in zip(words, [*words[1:], ""]):
+        is_file = "." in following or "/" in following
+        found += [word, "0"] if word == "--web" and is_file else [word]
+    return found
+
+
 def parser() -> Parser:
     """The words of the command line."""
     made = Parser("rdbg room", description=SUMMARY, epilog=EPILOG)
     word, most = made.word, MOST_SESSIONS
     word("file", "FILE", APPLICATION)
     word("--port", "P", "where it is, on 127.0.0.1", type=port, required=True)
-    page = "serves a page for browsers at Q on 127.0.0.1, at a free port where Q is 0"
-    word("--web", "Q", page, type=web_port)
+    page = "also serve a page for browsers, at port Q of 127.0.0.1 [default: a free port]"
+    word("--web", "Q", page, type=web_port, nargs="?", const=0)
     anyone = "lets in every user of this machine, at both ports, and not yourself alone"
     made.flag("--anyone", anyone)
     word("--talk", "FILE", "keeps who said what, and the replies, there")
@@ -133,7 +142,7 @@ def tell(given: argparse.Namespace, door: Door, where: str) -> None:
 
 def main(words: Sequence[str]) -> int:
     """Opens a room, and serves it."""
-    given = parser().parse_args(words)
+    given = parser().parse_args(with_web_port(words))
     source = accepted(given.file, dict(given.consts))
     assert source is not None
     limits = Limits(given.moves or Limits.moves, given.history or HISTORY)

@@ -35,7 +35,9 @@ class Word(NamedTuple):
 
 def option_of(action: argparse.Action) -> Option:
     """An option of a command line that is read here."""
-    value = "" if action.nargs == 0 else str(action.metavar or action.dest.upper())
+    # (the word after an option whose value may be left out can be any word)
+    has_value = action.nargs not in (0, "?")
+    value = str(action.metavar or action.dest.upper()) if has_value else ""
     choices = tuple(map(str, action.choices or ()))
     text = (action.help or "").replace("%%", "%")
     # (it may stand more than once where it gathers what stands behind it)

@@ -14,6 +14,7 @@ from email.message import Message
 from typing import BinaryIO, Callable, Dict, Iterator, List, Optional, Tuple
 
 from rdbg import own_file
+from rdbg.client import LOCAL
 from rdbg.digits import is_digits
 
 # A request's head has so many bytes at the most, its body so many, and both take so many seconds.
@@ -31,7 +32,6 @@ HEADERS = (
     ("Cross-Origin-Resource-Policy", "same-origin"),
     ("Connection", "close"),
 )
-HOSTS = ("127.0.0.1", "localhost")
 JSON = "application/json"
 # So many bytes at random has what lets somebody in.
 BYTES = 24
@@ -83,11 +83,12 @@ def one(headers: Message, name: str) -> Optional[str]:
 
 
 def check_origin(headers: Message, port: int, method: str) -> None:
-    """Raises `Denied` for a request that another site had made, or that came by another name than
-    this machine's own. A browser says of each line that is sent from where it is."""
+    """Raises `Denied` for a request from a page of another origin, and for one by another name than
+    the address at which the room listens. `localhost` may lead to another user's program, which
+    listens at the same port of ::1. A browser sends the origin with each line."""
     host = one(headers, "Host")
-    if host not in [f"{name}:{port}" for name in HOSTS]:
-        raise Denied(403, "another host")
+    if host != f"{LOCAL}:{port}":
+        raise Denied(403, f"this page is served as http://{LOCAL}:{port}/ only")
     origin = one(headers, "Origin")
     if origin != f"http://{host}" and (origin is not None or method != "GET"):
         raise Denied(403, "another origin")

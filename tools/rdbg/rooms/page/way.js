@@ -1,15 +1,15 @@
-// The way into the room. The address has a key behind its `#`, which is good once; for it the room
-// gives the way on which all is asked. The browser keeps that for pages of this origin alone, and
-// sends it by itself nowhere.
+// How a page gets into the room. Its address contains a key behind the `#`, which works once. For it
+// the room returns a token, which is part of every path that the page asks for. This page alone
+// keeps it: a page that another program serves later at this port, in another tab, cannot read it.
 
 const KEPT = "way";
 const NOT_LET_IN =
-  "This is a room of rdbg, and it has let nobody in by this address: each is good for one visit." +
-  " Open the one that the room has said last, at its terminal or in its file.";
+  "This is a room of rdbg, and this address does not let anybody in: each works once." +
+  " Open the address that the room printed last, at its terminal or in its file.";
 
 function keptWay() {
   try {
-    return localStorage.getItem(KEPT);
+    return sessionStorage.getItem(KEPT);
   } catch (error) {
     return null;
   }
@@ -17,13 +17,14 @@ function keptWay() {
 
 function keepWay(way) {
   try {
-    localStorage.setItem(KEPT, way);
+    sessionStorage.setItem(KEPT, way);
   } catch (error) {
-    // (then nothing lets this page in once it is loaded anew)
+    // (the page then needs a new address after a reload)
   }
 }
 
-// The answer of the room; null where it lets nobody in. Throws, with why, where there is none.
+// Returns the room's answer, or null if it lets nobody in. Throws an error that says why if there is
+// no answer.
 async function answerOf(path, given) {
   const answer = await fetch(path, given).catch(() => null);
   if (answer === null) throw new Error("The room can't be reached");
@@ -37,7 +38,8 @@ function toldAs(values) {
   return { method: "POST", headers, body: JSON.stringify(values) };
 }
 
-// The way for the key of the address, which has none any more then; else one that was kept.
+// Trades the key of the address for a way, and removes it from the address. Without a key it returns
+// the way that this page kept before it was reloaded.
 async function findWay() {
   const key = location.hash.slice(1);
   const found = key ? await answerOf("/in", toldAs({ key })) : null;
@@ -50,7 +52,8 @@ function sayAlone(text) {
   document.body.replaceChildren(made("p", text));
 }
 
-// Lets this page in, by a way and with what stays of the room; or says why it isn't.
+// Calls `begin` with the way and with the facts of the room that do not change, or says why this page
+// is not let in.
 async function comeIn(begin) {
   try {
     const way = await findWay();
@@ -62,5 +65,5 @@ async function comeIn(begin) {
   }
 }
 
-// (another address of the room, typed where its page is)
+// (another address of the room was typed into this page's address bar)
 addEventListener("hashchange", () => location.reload());
