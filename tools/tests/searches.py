@@ -22,6 +22,7 @@ SAID_FURTHER = "full: not within 13 moves\nit was stopped\nstates 400 moves 8000
 KILLED, SLEEPS = "kill -9 $$", "exec sleep 1000"
 TEXT = """#!/bin/sh
 echo "$@" > {words}
+{hears}
 cat {errors} >&2
 cat {output}
 {end}
@@ -39,16 +40,23 @@ class Fake(NamedTuple):
         file = self.folder / "words"
         return file.read_text().rstrip("\n") if file.exists() else ""
 
+    def heard(self) -> List[str]:
+        """Returns the lines of its standard input, of a program that `hears`."""
+        return (self.folder / "heard").read_text().splitlines()
+
 
 @contextlib.contextmanager
-def program(output: str, errors: str = "", end: str = "exit 0") -> Iterator[Fake]:
-    """A program that says this, and then ends in this way. As long as it is there, `rdbg reach`
-    starts it."""
+def program(
+    output: str, errors: str = "", end: str = "exit 0", hears: bool = False
+) -> Iterator[Fake]:
+    """A program that says this, and then ends in this way; first it reads its standard input, if it
+    `hears`. As long as it is there, `rdbg reach` starts it."""
     with tempfile.TemporaryDirectory() as name:
         folder = pathlib.Path(name)
         for file, text in (("output", output), ("errors", errors)):
             (folder / file).write_text(text)
         places = {it: shlex.quote(str(folder / it)) for it in ("words", "output", "errors")}
+        places["hears"] = f"cat > {shlex.quote(str(folder / 'heard'))}" if hears else ""
         made = folder / "rdreach"
         made.write_text(TEXT.format(end=end, **places))
         made.chmod(made.stat().st_mode | stat.S_IXUSR)

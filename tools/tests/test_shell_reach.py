@@ -4,6 +4,7 @@ import pathlib
 import shutil
 import tempfile
 import unittest
+from typing import List
 
 from tests import searches
 from tests.paths import EXAMPLES
@@ -51,6 +52,29 @@ class Reach(unittest.TestCase):
             answers = said(shell, "forward 2", "poke note worker 0 1", "reach stuck")
             self.assertIn(answers[2], ("# never", "# found"))
             self.assertNotIn("refused", " ".join(answers))
+
+
+class Origin(unittest.TestCase):
+    """How the program that searches is told where the prompt stands."""
+
+    def lines_to(self, *lines: str) -> List[str]:
+        """Returns the lines that the program is given after these, but for files' names."""
+        answer = f"{searches.NEVER}\n"
+        with example("turns") as shell, searches.program(answer, hears=True) as fake:
+            said(shell, *lines)
+            before = shell.target.used
+            self.assertEqual("# never", said(shell, "reach failed")[0])
+            # (the target isn't asked how it came here)
+            self.assertEqual(before, shell.target.used)
+            return fake.heard()
+
+    def test_one_file_has_all_moves(self) -> None:
+        steps = ["step 0"] * 40
+        given = self.lines_to("forward 500", *steps, "back 30", "redo 2")
+        self.assertEqual(["from", "reach"], [it.split()[0] for it in given])
+
+    def test_at_boot_there_is_none(self) -> None:
+        self.assertEqual(["reach failed"], self.lines_to("forward 5", "back 5"))
 
 
 class Lost(unittest.TestCase):

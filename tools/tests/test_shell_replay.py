@@ -81,6 +81,18 @@ class Save(Folder):
             self.assertEqual(nul, ["# cannot write 'a\\x00b': no file has such a name"])
         self.assertEqual(self.app.read_text(), LOST.read_text())
 
+    def test_a_long_run_takes_no_place_in_the_history(self) -> None:
+        with example("turns") as shell:
+            said(shell, "forward 700", "step 0", "forward 2000", "back 100")
+            before = shell.target.used
+            answers = said(shell, f"save {self.saved}")
+            self.assertEqual([f"# 2601 moves are in {self.saved}", REPLAYED], answers[-2:])
+            # (one look at each thing, whatever the number of moves)
+            self.assertLess(shell.target.used - before, 20)
+            self.assertEqual(said(shell, "show moves"), ["moves 2601 undone 100 kept 2601"])
+        self.assertEqual(2601, len(self.saved.read_text().splitlines()))
+        self.assertNotIn("forward", self.saved.read_text())
+
     def test_no_moves(self) -> None:
         with example("lost_item") as shell:
             self.assertEqual(said(shell, f"save {self.saved}")[-1], REPLAYED)

@@ -9,7 +9,7 @@ from typing import Callable, Dict, Iterator, List, Optional, Sequence, Tuple
 from rdbg import record, replies
 from rdbg.adapter.breakpoints import Breakpoint, Breakpoints, wrong_line
 from rdbg.adapter.known import Facts
-from rdbg.adapter.losing import Loses, listen
+from rdbg.adapter.losing import Loses
 from rdbg.adapter.messages import Arguments, Values, Wrong, event
 from rdbg.adapter.running import Outcome, Pause, Runner
 from rdbg.adapter.sources import Spot, Text
@@ -134,7 +134,6 @@ class Debugger:
         """Goes on with this shell and its file."""
         self._shell = shell
         Facts.of(shell.walk)  # (which hears of all moves from here on)
-        listen(shell)
         self.text = Text(shell.source, self.text.first_line, self.text.first_column)
         self.threads.learn(shell.target.names.tasks)
         self._seen = None

@@ -1,14 +1,11 @@
 """A stop where a goal is lost for good: no order of moves leads there any more. It is asked of the
 program that searches, at few places, since what was lost stays so."""
 import time
-import weakref
 from typing import Dict, Hashable, List, Optional, Sequence, Tuple
 
-from rdbg import commands, record, replies
 from rdbg.adapter.messages import Wrong
 from rdbg.adapter.stops import Begins
-from rdbg.driving.journal import Journal
-from rdbg.driving.target import Target, read
+from rdbg.driving.target import Target
 from rdbg.driving.walk import Walk
 from rdbg.failure import Failure, turned
 from rdbg.goals.claims import Goal
@@ -16,7 +13,6 @@ from rdbg.goals.words import NOT_ASKED
 from rdbg.reaching import losing
 from rdbg.reaching.asking import LOST, REACH, Asker, Question, ask_behind
 from rdbg.reaching.said import Answer, Kind
-from rdbg.shell import replay
 from rdbg.shell.shell import Shell
 
 # A search ends after so many seconds.
@@ -26,34 +22,9 @@ AT_A_PORT = (
 )
 
 
-class Lines:
-    """The lines that lead to where a target stands; those until now are given, a move each."""
-
-    def __init__(self, target: Target, before: Sequence[str]) -> None:
-        self._journal = Journal()
-        for place, line in enumerate(before, 1):
-            self._seen(line, f"ok at {place}", place - 1)
-        target.hearing.append(self._seen)
-
-    def _seen(self, line: str, reply: str, before: int) -> None:
-        value = read(reply) if reply.startswith("ok at ") else None
-        command = commands.read(line)
-        if isinstance(value, replies.Moved) and command is not None:
-            self._journal.moved(command, value)
-
-    def now(self) -> Tuple[str, ...]:
-        """They."""
-        return tuple(record.untrimmed(self._journal.lines()))
-
-
-# Of each target, from its start on.
-ALL: "weakref.WeakKeyDictionary[Target, Lines]" = weakref.WeakKeyDictionary()
-
-
-def listen(shell: Shell) -> None:
-    """Takes note of the lines of a target that begins, or that was brought where it stands."""
-    if shell.target.is_own and shell.target not in ALL:
-        ALL[shell.target] = Lines(shell.target, replay.lines_of(shell))
+def lines_to(target: Target) -> Tuple[str, ...]:
+    """Returns the lines that lead from boot to where a target of our own stands."""
+    return tuple(run.text for run in target.journal.done())
 
 
 class Loses(Begins):
@@ -63,7 +34,7 @@ class Loses(Begins):
     def __init__(self, shell: Shell, goal: Goal) -> None:
         super().__init__(goal, f"{LOST.word} {goal.text}")
         asked = goal.asked(shell.target.names.tasks)
-        if shell.target not in ALL:
+        if not shell.target.is_own:
             raise Wrong(AT_A_PORT)
         if asked is None:
             raise Wrong(NOT_ASKED)
@@ -79,13 +50,13 @@ class Loses(Begins):
         raise AssertionError("it is seen by no view")
 
     def look(self, target: Target) -> bool:
-        lines = ALL[target].now()
+        lines = lines_to(target)
         if lines not in self._known:
             self._known[lines] = self._answer(REACH, lines).kind is not Kind.REACHED
         return self._known[lines]
 
     def began(self, walk: Walk, low: int) -> Optional[int]:
-        answer = self._answer(LOST, ALL[walk.target].now())
+        answer = self._answer(LOST, lines_to(walk.target))
         loss = losing.loss_of(answer)
         if loss is None or not low < loss.place <= walk.place:
             return None

@@ -8,6 +8,7 @@ from rdbg import commands, kinds, record, replies
 from rdbg.application import Application
 from rdbg.by_hand import INTERRUPT, ByHand
 from rdbg.client import Session
+from rdbg.driving.journal import Journal
 from rdbg.looks import OBJECTS, Look, Names, key_of
 from rdbg.replies import Refused, Unreadable
 
@@ -59,6 +60,8 @@ class Target:
         self.drift: Optional[Tuple[int, int]] = None
         # The edits and interrupts that were made here, each by the place behind it.
         self.by_hand: Dict[int, ByHand] = {}
+        # The moves as lines, which is exact where nobody else moves the target (`is_own`).
+        self.journal = Journal()
         self.watches: Dict[int, str] = {}
         self.has_wheel = False
         # How many lines were answered, and how many entries of the history there are. (One is for
@@ -181,6 +184,8 @@ class Target:
             names = Names.all((self.names, named_in(value)))
             # (it is the same one as long as there is no new name)
             self.names = self.names if names == self.names else names
+        if isinstance(value, replies.Moved) and self.is_own:
+            self.journal.moved(command, value)
         if isinstance(value, replies.Moved) and command.form.word == record.TRIM:
             self._drifted(value.at)
             self.place = value.at

@@ -1,10 +1,12 @@
 """Questions to the program that searches, each answered by one that is started for it."""
+import contextlib
 import dataclasses
 import os
 import tempfile
 import time
-from typing import Dict, NamedTuple, Optional, Sequence, Tuple
+from typing import Dict, Iterator, NamedTuple, Optional, Sequence, Tuple
 
+from rdbg import own_file
 from rdbg.client import built_by_wrapper
 from rdbg.driving.opening import as_read
 from rdbg.failure import Failure
@@ -73,6 +75,21 @@ def program() -> str:
     return os.environ.get(PROGRAM) or built_by_wrapper(NAME)
 
 
+@contextlib.contextmanager
+def commands_file(lines: Sequence[str]) -> Iterator[str]:
+    """Yields the path of a temporary file with these command lines, or `""` if there are none.
+
+    The program takes all of them by one `from PATH`. After each `line COMMAND` it would make all
+    moves again.
+    """
+    if not lines:
+        yield ""
+        return
+    text = "".join(f"{line}\n" for line in lines)
+    with own_file.kept("run.commands", text, "the moves that were made") as path:
+        yield path
+
+
 class Asker(NamedTuple):
     """An application's file, options of the program that is asked, and when the time is up."""
 
@@ -88,17 +105,17 @@ class Asker(NamedTuple):
         more: Sequence[str] = (),
         question: Question = REACH,
     ) -> Answer:
-        """The answer to a question about a goal, behind these command lines, and of orders within a
-        bound; `more` are further lines of the program, before the question. Raises `NoQuestion`
-        where it is refused, `Failure` where the program ends otherwise than by an answer."""
-        lines = [
-            *more,
-            *(f"line {it}" for it in begin),
-            *(f"{word} {count}" for word, count in vars(bound).items() if count is not None),
-            f"{question.word} {goal}",
-        ]
+        """Returns the answer to a question about a goal, asked after the command lines `begin`, of
+        runs within a bound; `more` are further lines of the program, before the question.
+
+        Raises `NoQuestion` if the program refuses the question, and `Failure` if it ends without an
+        answer.
+        """
+        bounds = (f"{word} {count}" for word, count in vars(bound).items() if count is not None)
         words = [program(), "--progress", *self.options, "--", self.file]
-        with tempfile.TemporaryFile() as file:
+        with tempfile.TemporaryFile() as file, commands_file(begin) as path:
+            origin = [f"from {path}"] if path else []
+            lines = [*more, *origin, *bounds, f"{question.word} {goal}"]
             file.write("".join(f"{line}\n" for line in lines).encode())
             file.seek(0)
             left = None if self.end is None else max(0.001, self.end - time.monotonic())
@@ -106,6 +123,9 @@ class Asker(NamedTuple):
         is_time = self.end is not None and time.monotonic() >= self.end
         why = TIME if is_time else CTRL_C
         known = said.stopped(outcome.last, bound.surprises, why, question is REACH)
+        if path:
+            # (the file is gone; what is wrong with one of its lines is of the run)
+            outcome = outcome._replace(output=outcome.output.replace(f"no: {path}: ", REFUSED))
         return known if outcome.is_stopped else answered(outcome, known)
 
 

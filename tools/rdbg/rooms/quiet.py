@@ -86,7 +86,7 @@ def made_again(source: Source, lines: List[str]) -> Tuple[Source, List[str], Lis
         replay.reload(shell, [])
         if shell.source is None or shell.source is source:
             raise Refusal("; ".join(shell.texts))
-        return shell.source, replay.lines_of(shell), "\n".join(shell.texts).split("\n")
+        return shell.source, replay.lines_to(shell), "\n".join(shell.texts).split("\n")
     except (Unable, Refused, Failure) as wrong:
         raise Refusal(str(wrong)) from None
     finally:

@@ -22,13 +22,13 @@ def asks(question: Question) -> Callable[[Shell, Sequence[str]], None]:
         if not goal:
             raise Unable(f"{question.lacks_goal('worker')}; help {question.word} says more")
         with shell.wheel():
-            lines = replay.lines_of(shell)
+            lines, place = replay.lines_to(shell), shell.target.places().done
         answer, more = asked(shell, question, goal, lines)
         if not words:
             shell.say(f"of `{goal}`, the goal before:")
-        say(shell, question, answer, more, len(lines))
+        say(shell, question, answer, more, place)
         shell.goal = goal
-        shell.reached = Reached(question, goal, len(lines), answer.head())
+        shell.reached = Reached(question, goal, place, answer.head())
 
     return ask
 
@@ -40,9 +40,8 @@ def again(shell: Shell, words: Sequence[str]) -> None:
     if words or before is None:
         raise Unable(f"`again` asks {what} asked last, of the file as it is now")
     replay.reload(shell, [])
-    lines = replay.lines_of(shell)
-    place = before.place if len(lines) >= before.place else 0
-    answer, more = asked(shell, before.question, before.goal, lines[:place])
+    place = before.place if shell.target.places().done >= before.place else 0
+    answer, more = asked(shell, before.question, before.goal, replay.lines_to(shell, place))
     where = f"from {place} on" if place else "from boot on"
     shell.say(f"{before.goal}, {where}: it was {before.said}, and is {answer.head()}")
     say(shell, before.question, answer, more, place)

@@ -1,15 +1,18 @@
 """The moves that were made as a list, as a file of commands, and on an edited file."""
 import contextlib
+import itertools
 import os
 import re
 import stat
-from typing import Callable, Dict, List, Sequence, Tuple
+from typing import Callable, Dict, Iterator, List, Optional, Sequence, Tuple
 
 from rdbg import commands, own_file, record, replies
 from rdbg.driving import trail
 from rdbg.driving.interrupt import Interrupted
+from rdbg.driving.journal import Run
 from rdbg.driving.opening import begin, closed_if_wrong
 from rdbg.driving.target import Limits, Target, Unable, read
+from rdbg.driving.walk import Walk
 from rdbg.effects import Move
 from rdbg.failure import Failure, trying, turned
 from rdbg.files.source import Source, load
@@ -86,15 +89,70 @@ def moves(shell: Shell, words: Sequence[str]) -> None:
     shell.say(record.at(done, shell.target.places().undone))
 
 
-def lines_of(shell: Shell) -> List[str]:
-    """The lines that make the moves that are done. Raises `Unable` where one can't be told."""
+def check_untrimmed(shell: Shell) -> None:
+    """Raises `Unable` if the records of the first moves were given up."""
+    shell.target.places()  # (others may have trimmed)
+    if shell.target.base:
+        raise Unable(f"the first {shell.target.base} moves were trimmed, and can't be told")
+
+
+def lines_to(shell: Shell, place: Optional[int] = None) -> List[str]:
+    """Returns lines that lead from boot to a place on the way here, to here by default.
+
+    `forward N` can be one of the lines of a target that nobody else moves: the journal has them,
+    and the target is not asked. Raises `Unable` if a move is unknown.
+    """
+    check_untrimmed(shell)
+    if shell.target.is_own:
+        return [run.text for run in shell.target.journal.done(place)]
+    return lines_at_port(shell)[:place]
+
+
+def lines_of_moves(shell: Shell) -> List[str]:
+    """Returns one line for each move that is done. Raises `Unable` if a move is unknown.
+
+    The moves that `forward` chose are found in a program of their own, so that this takes no place
+    in the history of the target.
+    """
+    check_untrimmed(shell)
+    limits = shell.target.limits
+    if limits is None:
+        return lines_at_port(shell)
+    runs = shell.target.journal.done()
+    if not any(run.is_forward for run in runs):
+        return [run.text for run in runs]
+    target = begin(shell.source, Limits(limits.moves, commands.MOST_COUNT))
+    with target.session:
+        return list(lines_of_runs(shell, target, runs))
+
+
+def lines_of_runs(shell: Shell, target: Target, runs: Sequence[Run]) -> Iterator[str]:
+    """Makes runs on a new target, and yields one line for each of their moves."""
+    walk, all_moves = Walk(target, shell.interrupt), sum(run.count for run in runs)
+    for is_forward, several in itertools.groupby(runs, lambda run: run.is_forward):
+        lines = [run.text for run in several]
+        start = target.place
+        for answer in in_chunks(shell, target, lines, "replayed"):
+            read(answer)
+        if not is_forward:
+            yield from lines
+            continue
+
+        def show(made: int, of: int, what: str, before: int = start) -> None:
+            """Shows how many of all moves were looked at."""
+            shell.progress(before + made, all_moves, what)
+
+        found, _ = trail.moves(walk, start + 1, target.place, Names(), show)
+        yield from (move.line for move in found)
+
+
+def lines_at_port(shell: Shell) -> List[str]:
+    """Returns one line for each move of a target that others move too. Raises `Unable` if another
+    session made an edit that cannot be seen from its effects."""
     done = shell.target.places().done
     if not done:
         return []
-    if shell.target.base:
-        raise Unable(f"the first {shell.target.base} moves were trimmed, and can't be told")
-    names = Names() if shell.target.is_own else shell.target.names
-    found, _ = trail.moves(shell.walk, 1, done, names, shell.progress)
+    found, _ = trail.moves(shell.walk, 1, done, shell.target.names, shell.progress)
     unknown = next((move for move in found if not move.line), None)
     if unknown is not None:
         raise Unable(f"move {unknown.place} is an edit by another session, which can't be told")
@@ -111,7 +169,7 @@ def save(shell: Shell, words: Sequence[str], is_anew: bool = False) -> None:
     if os.path.exists(file):
         check_there(shell, file, os.stat(file), is_anew)
     with shell.wheel():
-        lines = lines_of(shell)
+        lines = lines_of_moves(shell)
         look = shell.target.look()
     write(shell, file, "".join(f"{line}\n" for line in lines), is_anew)
     shell.say(f"{len(lines)} moves are in {file}")
