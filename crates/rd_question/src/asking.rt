@@ -40,7 +40,7 @@ use rd_reach::schedule::Schedule;
 use rd_start::file::load;
 use rd_state::state::State;
 use std::alloc::{AllocGlobal, Global};
-use std::io::Write;
+use std::io::{BufWriter, Write};
 use std::rt::Files;
 
 // How many bytes a mebibyte has.
@@ -247,9 +247,11 @@ pub(crate) fn respond<W: Write, E: Write>(
     }
 }
 
-/// Answers a question of an application file as `respond` does. An `Err` says why there is no answer:
-/// beside what `respond` refuses, `File` where there is no application, `Lines` where there are no
-/// command lines.
+/// Answers a question about an application file as `respond` does, and writes the answer in large
+/// pieces, all of it before this returns.
+///
+/// Errors: those of `respond`; `File` if there is no application, `Lines` if there are no command
+/// lines.
 pub(crate) fn ask<H: Files + AllocGlobal, W: Write, E: Write>(
     handle: &H,
     question: &Question<'_>,
@@ -267,12 +269,17 @@ pub(crate) fn ask<H: Files + AllocGlobal, W: Write, E: Write>(
         lines: lines.as_str(),
         question,
     };
-    respond(
+    let Ok(mut writer) = BufWriter::new(handle.alloc(), writer) else {
+        return Err(ReachFault::NoMemory);
+    };
+    let status = respond(
         handle.alloc(),
         &asked,
         question.query,
         question.goal.as_slice(),
-        writer,
+        &mut writer,
         errors,
-    )
+    )?;
+    writer.flush()?;
+    Ok(status)
 }
