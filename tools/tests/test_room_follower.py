@@ -65,6 +65,14 @@ class Followed:
                 raise AssertionError("it doesn't come")
             time.sleep(0.01)
 
+    def wait_for_a_piece(self) -> None:
+        """Waits until it has looked at one more piece of earlier moves."""
+        count, end = len(self.events), time.monotonic() + PATIENCE
+        while len(self.events) == count:
+            if time.monotonic() > end:
+                raise AssertionError("it looks at nothing")
+            time.sleep(0.01)
+
     def settle(self) -> "Shown":
         """All that a page shows, once nothing more is to come."""
         end = time.monotonic() + PATIENCE
@@ -111,6 +119,21 @@ def small() -> Iterator[None]:
         ):
             stack.enter_context(mock.patch.object(module, name, value))
         yield
+
+
+@contextlib.contextmanager
+def slow_by_lines() -> Iterator[Callable[[], float]]:
+    """Delays each line that the follower asks, and has it measure its speed by these delays alone,
+    however busy the machine is. Yields the clock that it reads."""
+    with slow(0.001) as delays:
+        clock = mock.Mock(monotonic=lambda: sum(delays))
+        with mock.patch.object(web_mirror, "time", clock):
+            yield clock.monotonic
+
+
+def fast() -> Any:
+    """Has the follower look at short runs as a whole, as on a fast machine, even on a busy one."""
+    return mock.patch.object(web_mirror.Mirror, "count", lambda *_: web_follower.MOST)
 
 
 def value_at(block: Dict[str, Any], flat: List[int], place: int) -> object:
@@ -209,7 +232,7 @@ class Follows(unittest.TestCase):
         return shown
 
     def test_each_sort_of_line(self) -> None:
-        with followed(str(LOST)) as here:
+        with fast(), followed(str(LOST)) as here:
             for line in (
                 "step 1",
                 "tick",
@@ -250,15 +273,16 @@ class Follows(unittest.TestCase):
             self.assertEqual(330 - 60, self.check(here).first)
 
     def test_a_move_waits_no_longer_than_for_a_piece_of_earlier_ones(self) -> None:
-        with slow(0.001), followed(str(LOST)) as here:
+        with slow_by_lines() as clock, followed(str(LOST)) as here:
             here.room.tell("forward 2000")
             here.wait()
             for line in ("step 0", "tick", "back 2", "redo 1", "forward 1500", "tick"):
-                time.sleep(0.3)  # (so that earlier moves are being looked at)
-                began = time.monotonic()
-                here.room.tell(line)
+                here.wait_for_a_piece()
+                with here.follower.guard:  # (without which it begins no further piece)
+                    began = clock()
+                    here.room.tell(line)
                 here.wait()
-                self.assertLess(time.monotonic() - began, 0.5, line)
+                self.assertLess(clock() - began, 0.5, line)
                 values: Any = here.follower.values()
                 self.assertEqual(here.room.target.place, values["done"])
                 self.assertGreater(values["toCome"], 1_000)

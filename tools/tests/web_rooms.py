@@ -91,9 +91,10 @@ def in_process(path: str) -> Iterator[Tuple[Room, str]]:
 
 
 @contextlib.contextmanager
-def slow(seconds: float) -> Iterator[None]:
-    """As long as the programs that are looked at for pages of this process take so many seconds
-    more for each line."""
+def slow(seconds: float) -> Iterator[List[float]]:
+    """Delays each line of the programs that are looked at for pages of this process by so many
+    seconds. The list that it yields gets each delay."""
+    delays: List[float] = []
 
     def begin_slowly(*given: Any) -> Target:
         target = begin(*given)
@@ -102,13 +103,14 @@ def slow(seconds: float) -> Iterator[None]:
         def slowly(lines: Iterable[str]) -> Iterator[str]:
             for reply in tell_all(lines):
                 time.sleep(seconds)
+                delays.append(seconds)
                 yield reply
 
         target.session.tell_all = slowly  # type: ignore[assignment]
         return target
 
     with mock.patch.object(web_mirror, "begin", begin_slowly):
-        yield
+        yield delays
 
 
 def traded(address: str) -> Optional[str]:
