@@ -84,6 +84,7 @@ class Lines(OnPage):
             self.assertEqual(
                 ["step 0: one 0 send(q, portMAX_DELAY)"], self.browser.texts("#steps button")
             )
+            self.control_by_keys()
             self.browser.key("s")
             self.at(1)
             self.assertEqual(["->", "1", "7", "jump again", ""], self.rows("#script")[1])

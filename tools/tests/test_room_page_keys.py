@@ -15,6 +15,7 @@ class Keys(OnPage):
         with web_room() as room, session(room, "left") as left:
             self.visit(room)
             self.at(0)
+            self.control_by_keys()
             for key, place in (("s", 1), ("s", 2), ("k", 3), ("f", 4), ("b", 3), ("r", 4)):
                 self.browser.key(key)
                 self.at(place)
@@ -41,10 +42,37 @@ class Keys(OnPage):
                 "document.querySelector('#readout').textContent.startsWith('4: tick')"
             )
 
+    def test_a_text_that_is_typed_into_no_field_moves_nothing(self) -> None:
+        with web_room() as room, session(room, "left") as left:
+            left.tell("forward 3")
+            self.visit(room)
+            self.at(3)
+            state = "document.querySelector('#keyboard').innerText + document.querySelector('#keyboard').getAttribute('aria-pressed')"
+            self.assertEqual("Keyboard control offfalse", self.value(state))
+            # (c and l lead to a field)
+            for key in "thanks bob 0123456789 tru fish U":
+                self.browser.key(key)
+            self.assertEqual("moves 3 undone 0 kept 3", left.tell("show moves"))
+            self.assertEqual("wheel -", left.tell("show wheel"))
+            self.control_by_keys()
+            self.assertEqual("Keyboard control ontrue", self.value(state))
+            self.browser.key("k")
+            self.at(4)
+            # (it is a button, so that the keyboard turns it off, too, and keys work beside it)
+            self.value("document.querySelector('#keyboard').focus()")
+            self.browser.key("k")
+            self.at(5)
+            self.browser.key(" ")
+            self.browser.until(f"{state} === 'Keyboard control offfalse'")
+            self.browser.key("k")
+            self.assertEqual("ok at 6", left.tell("tick"))
+            self.at(6)
+
     def test_two_steps_at_once_are_of_two_cores(self) -> None:
         with web_room() as room, session(room, "left"):
             self.visit(room)
             self.at(0)
+            self.control_by_keys()
             self.browser.key("s")
             self.browser.key("s")
             self.at(2)
@@ -58,7 +86,7 @@ class Keys(OnPage):
             for _ in range(90):
                 self.browser.key("Tab")
                 seen.append(self.value(FOCUSED))
-            wanted = "tick count do-back do-redo do-forward keep do-trim goal most do-until becomes back-until"
+            wanted = "keyboard tick count do-back do-redo do-forward keep do-trim goal most do-until becomes back-until"
             wanted += " watch ask-reach line save reload take words whom save-talk name talk slider"
             wanted += " search lanes state theme help-button"
             self.assertLessEqual(set(wanted.split()), set(seen))
@@ -68,7 +96,7 @@ class Keys(OnPage):
             self.value("document.activeElement.blur()")
             self.browser.key("?")
             self.assertTrue(self.value("document.querySelector('#help').open"))
-            self.assertIn("a step of the core in turn, a tick", self.browser.text("#help"))
+            self.assertIn("step the core in turn; let a tick pass", self.browser.text("#help"))
             self.browser.key("k")
             self.browser.key("Escape")
             self.assertFalse(self.value("document.querySelector('#help').open"))

@@ -21,6 +21,7 @@ class Long(OnPage):
         with web_room() as room:
             self.visit(room)
             self.assertGreater(len(self.enabled("#top", "button")), 10)
+            self.control_by_keys()
             for place in (1, 2):
                 self.browser.key("s")
                 self.at(place)

@@ -54,6 +54,7 @@ class Said(OnPage):
         shutil.copy(LOST, path)
         with web_room(str(path)) as room:
             self.visit(room)
+            self.control_by_keys()
             self.browser.key("1")
             self.at(1)
             self.click("#reload")

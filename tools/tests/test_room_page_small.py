@@ -106,6 +106,7 @@ class Keys(OnPage):
     def test_cores_and_goals(self) -> None:
         with web_room() as room:
             self.visit(room)
+            self.control_by_keys()
             for key, place in (("1", 1), ("0", 2)):
                 self.browser.key(key)
                 self.at(place)
@@ -126,6 +127,7 @@ class Keys(OnPage):
     def test_the_wheel(self) -> None:
         with web_room() as room, session(room, "ada") as ada:
             self.visit(room)
+            self.control_by_keys()
             for words in ("You have", "The wheel is free"):
                 self.browser.key("h")
                 self.wheel(words)

@@ -191,6 +191,14 @@ class OnPage(Browsing):
         """Clicks on an element."""
         self.browser.click(*self.browser.middle(selector))
 
+    def control_by_keys(self) -> None:
+        """Turns on the keys that move the target; no element has the focus after that."""
+        self.click("#keyboard")
+        self.assertEqual(
+            "true", self.value("document.querySelector('#keyboard').getAttribute('aria-pressed')")
+        )
+        self.value("document.activeElement.blur()")
+
     def fill(self, selector: str, text: str) -> None:
         """Types a text into a field, in place of what is there."""
         self.value(f"document.querySelector({selector!r}).select()")

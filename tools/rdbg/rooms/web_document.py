@@ -9,7 +9,15 @@ from rdbg.files.source import Source
 HERE = pathlib.Path(__file__).resolve().parent / "page"
 SCRIPTS = tuple(
     HERE / name
-    for name in ("way.js", "coming.js", "live_run.js", "acts.js", "talk.js", "room_page.js")
+    for name in (
+        "way.js",
+        "coming.js",
+        "live_run.js",
+        "acts.js",
+        "keyboard.js",
+        "talk.js",
+        "room_page.js",
+    )
 )
 STYLES = (HERE / "room.css",)
 # The page speaks with who has served it, and with nobody else.

@@ -5,10 +5,10 @@ const test = require("node:test");
 const { SENT, namesOf, valuesOf } = require("./page.js");
 
 const {
-  DONE, LiveRun, StepsInTurn, Watches, breakWords, choicesOf, coreInTurn, idleWords, kindOf,
+  DONE, KeyboardControl, LiveRun, StepsInTurn, Watches, breakWords, choicesOf, coreInTurn, idleWords, kindOf,
   nextWords, wheelWords,
 } = namesOf("room", [
-  "DONE", "LiveRun", "StepsInTurn", "Watches", "breakWords", "choicesOf", "coreInTurn",
+  "DONE", "KeyboardControl", "LiveRun", "StepsInTurn", "Watches", "breakWords", "choicesOf", "coreInTurn",
   "idleWords", "kindOf", "nextWords", "wheelWords",
 ]);
 
@@ -60,6 +60,29 @@ test("a step of the core in turn waits for the move before, where that one was m
   steps.hear();
   await rest();
   assert.deepEqual(said, [0, 1, 1]);
+});
+
+test("keys that move the target need the switch, which is off at first", () => {
+  const state = { textContent: "" };
+  const attributes = {};
+  const button = {
+    addEventListener: (kind, act) => (button[kind] = act),
+    querySelector: () => state,
+    setAttribute: (name, value) => (attributes[name] = value),
+  };
+  const control = new KeyboardControl(button);
+  const pressed = [];
+  const keys = control.guard({ s: () => pressed.push("s"), 0: () => pressed.push("0") });
+  const seen = () => [attributes["aria-pressed"], state.textContent, pressed.join("")];
+  keys.s();
+  assert.deepEqual(seen(), ["false", "off", ""]);
+  button.click();
+  keys.s();
+  keys[0]();
+  assert.deepEqual(seen(), ["true", "on", "s0"]);
+  button.click();
+  keys.s();
+  assert.deepEqual(seen(), ["false", "off", "s0"]);
 });
 
 test("earlier moves come before the first", () => {

@@ -17,6 +17,7 @@ class RoomPage extends Viewer {
     this.room = room;
     this.line = line;
     this.follows = true;
+    this.keyboard = new KeyboardControl(byId("keyboard"));
     this.steps = new StepButtons(byId("steps"), room.cores, (text) => room.tell(text));
     this.inTurn = new StepsInTurn(() => room.tell(`step ${coreInTurn(run)}`));
     this.shareHeight();
@@ -37,14 +38,15 @@ class RoomPage extends Viewer {
 
   get moreKeys() {
     return [
-      ["all these", "for yourself alone: the target stays where it is"],
-      [".", "to where the target is, and with it from there on"],
-      ["s, k", "a step of the core in turn, a tick"],
-      ["0 to 9", "a step of this core"],
-      ["b, r, f", "moves back, again, forward, as many as stand beside"],
-      ["u, U", "until the goal that stands there, back until it; without one to the field"],
-      ["h", "takes the wheel, gives it back, or asks for it"],
-      ["l, c", "to the line, to type one; to what one says"],
+      ["all of these", "change this page only: the target stays where it is"],
+      [".", "go to where the target is, and follow it from there on"],
+      ["l, c", "type a line; say something"],
+      ["those below", "move the target or the wheel, while Keyboard control is on"],
+      ["s, k", "step the core in turn; let a tick pass"],
+      ["0 to 9", "step this core"],
+      ["b, r, f", "go back, redo, or forward by as many moves as the field says"],
+      ["u, U", "run until the goal in its field; go back until it. Without a goal: to the field"],
+      ["h", "take the wheel, give it back, or ask for it"],
     ];
   }
 
@@ -58,10 +60,8 @@ class RoomPage extends Viewer {
   keys() {
     const press = (id) => () => byId(id).click();
     const steps = Array.from({ length: 10 }, (_, core) => [core, () => this.step(core)]);
-    return {
-      ...super.keys(),
+    const moving = {
       ...Object.fromEntries(steps),
-      ".": () => this.goNow(),
       s: () => this.inTurn.ask(),
       k: press("tick"),
       b: press("do-back"),
@@ -70,6 +70,11 @@ class RoomPage extends Viewer {
       u: press("do-until"),
       U: press("back-until"),
       h: () => ["take", "give", "wish"].map(byId).find((it) => !it.hidden).click(),
+    };
+    return {
+      ...super.keys(),
+      ...this.keyboard.guard(moving),
+      ".": () => this.goNow(),
       l: () => unfolded("line").select(),
       c: () => unfolded("words").select(),
     };
