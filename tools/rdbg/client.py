@@ -51,28 +51,28 @@ def said_by(words: Sequence[str], errors: Optional[int]) -> Tuple[bytes, int]:
 
 
 def program() -> str:
-    """The program that a session of its own starts: the one that the environment names, or that of
-    `./rdbg`, which says there where it is itself, and what it was given before the companion."""
+    """The program that a session of its own starts: the one that the environment names, or the one
+    that `./rdbg` starts."""
     return os.environ.get("RDBG_PROGRAM") or built_by_wrapper("rdbg")
 
 
 def wrapper() -> Tuple[str, List[str]]:
-    """The file that `./rdbg` is, and the words of its own that it was called with."""
+    """The script that started this tool, and the option by which it was told which build to run."""
     words = os.environ.get("RDBG_WRAPPER_WORDS", "")
     return os.environ.get("RDBG_WRAPPER", str(WRAPPER)), words.split()
 
 
 @functools.lru_cache(maxsize=None)
 def built_by_wrapper(name: str) -> str:
-    """The program of a name, `rdbg` or `rdreach`, that `./rdbg` starts as it was called itself,
-    which it builds where it has to. Raises `Failure` where it can't."""
+    """The program, `rdbg` or `rdreach`, that `./rdbg` starts when called with the same option; it
+    builds it if necessary. Raises `Failure` if there is none."""
     file, words = wrapper()
     with trying(f"start {file}"):
         asked = [file, *words, "--build", *([] if name == "rdbg" else [name])]
         path, status = said_by(asked, None)
-    os.environ["RDBG_SAID"] = "1"  # (that it isn't proved, which is said once)
+    os.environ["RDBG_BUILD_REPORTED"] = "1"  # (the wrapper says once which build runs)
     if status or not path:
-        raise Failure("there is no program to start")
+        raise Failure("there is no program to start", 2 if status == 2 else 1)
     return os.fsdecode(path)
 
 

@@ -53,7 +53,9 @@ def hint(words: Sequence[str]) -> int:
     if words[0] in command_line.OF_COMMAND:
         found = command_line.why(words)
     else:
-        found = command_line.unknown(words[0], [*command_line.OF_COMMAND, *names(), "install"])
+        found = command_line.unknown(
+            words[0], [*command_line.OF_COMMAND, *names(), "install", "prove"]
+        )
     if found is not None:
         print(f"rdbg: {found}", file=sys.stderr)
     return 2

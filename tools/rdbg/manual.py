@@ -46,11 +46,15 @@ OTHERS = entries(
 rdbg help WORD | says more of run, serve or a companion
 rdbg --version | says the version, the commit, the kit, and whether the program is proved
 rdbg install PREFIX
-  | from a checkout: puts the programs, the companions and rdbg(1) below PREFIX
+  | in a checkout: installs the programs, the tools and rdbg(1) in PREFIX
+rdbg prove
+  | in a checkout: proves and builds the programs, in half an hour or more; the other words run the
+  unproved build until then
 rdbg --build
-  | from a checkout: builds the program, and says where it is; with rdreach that one
-rdbg --unproved ..
-  | from a checkout: the same words with a program that is built without proof
+  | in a checkout: prints where the program is, and builds it if necessary; with rdreach, where the
+  search program is
+rdbg --proved .., rdbg --unproved ..
+  | run the proved build, or refuse if there is none; run the unproved build
 """
 )
 STATUSES = entries(

@@ -1,4 +1,4 @@
-"""What `rdbg help` says of the words that start a program, and of `install`, without one."""
+"""The help texts of `run`, `serve`, `reach`, `install` and `prove`, which need no program."""
 from typing import Dict
 
 RUN = """\
@@ -60,11 +60,26 @@ it is found, 0 where not, 2 where it can't be told; of --lost still (1), lost at
 (docs/NO_RETURN.md). Ctrl-C ends it as --within does. Without a goal each line of standard input is
 answered, and an empty line ends the answer: help says which lines there are (docs/REACHING.md)."""
 INSTALL = """\
-Puts the programs, the companions, the pages of docs/ and rdbg(1) below a folder
+Installs the programs, the tools, the pages of docs/ and rdbg(1) in a folder
 
-Usage: ./rdbg [--unproved] install PREFIX
+Usage: ./rdbg [--proved|--unproved] install PREFIX
 
-From a checkout. A program, rdbg's own and that of rdbg reach, is the proved one where that is
-built of the sources as they are (./rdbg --build and ./rdbg reach build them), else the one without
-proof, which is built where it isn't there; it says which. With --unproved it is that one."""
-OF: Dict[str, str] = {"run": RUN, "serve": SERVE, "reach": REACH, "install": INSTALL}
+In a checkout only. It installs the proved programs if ./rdbg prove has built them from the current
+sources, and otherwise the unproved ones, which it builds if necessary; it says which. --proved
+refuses to install unproved programs, --unproved installs those."""
+PROVE = """\
+Proves the programs of this checkout and builds them
+
+Usage: ./rdbg prove
+
+In a checkout only. It takes half an hour or more, once until a source changes; what earlier runs
+proved is kept. No other word starts a proof: they run the proved build if there is one, and
+otherwise the unproved build, which takes one to three minutes to make. --proved as the first word
+refuses to run an unproved build, --unproved runs that one."""
+OF: Dict[str, str] = {
+    "run": RUN,
+    "serve": SERVE,
+    "reach": REACH,
+    "install": INSTALL,
+    "prove": PROVE,
+}

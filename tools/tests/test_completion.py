@@ -65,7 +65,8 @@ class Bash(unittest.TestCase):
 
     def test_words(self) -> None:
         self.assertEqual(self.offered("rdbg", "h"), ["help", "hunt"])
-        self.assertEqual(self.offered("rdbg", "--unproved", "ro"), ["room"])
+        for choice in ("--proved", "--unproved"):
+            self.assertEqual(self.offered("rdbg", choice, "ro"), ["room"])
         self.assertEqual(self.offered("rdbg", "help", "tr"), ["trace"])
         self.assertEqual(self.offered("rdbg", "completion", ""), ["bash", "zsh"])
 
@@ -97,11 +98,12 @@ class Zsh(unittest.TestCase):
     def test_words(self) -> None:
         told = self.told("rdbg", "")
         self.assertIn(f"check:{main.summary('check')}", told)
-        self.assertEqual(len(told), len(words()) + 4)
+        self.assertEqual(len(told), len(words()) + 5)
 
     def test_options(self) -> None:
-        told = self.told("rdbg", "--unproved", "hunt", "")
-        self.assertEqual(told[:2], ["2", "hunt"])
+        for choice in ("--proved", "--unproved"):
+            told = self.told("rdbg", choice, "hunt", "")
+            self.assertEqual(told[:2], ["2", "hunt"])
         self.assertIn("--expect[what the status is 0 for]:EXPECT:(none found)", told)
         self.assertIn("*:word:_files", told)
 

@@ -10,7 +10,7 @@ from rdbg.client import program
 from tests.paths import DOCS
 
 OPTION = re.compile(r"--[a-z]+")
-OF_THE_WRAPPER = {"--version", "--build", "--unproved"}
+OF_THE_WRAPPER = {"--version", "--build", "--proved", "--unproved"}
 
 
 def said(*words: str) -> str:

@@ -72,7 +72,7 @@ class Terminal(unittest.TestCase):
     def test_a_text_in_lines(self) -> None:
         with tempfile.NamedTemporaryFile("w", suffix=".fw") as file:
             seen = at_terminal("run", f"--app={file.name}")
-        self.assertIn(f"./rdbg make {file.name} makes the JSON of it", seen)
+        self.assertIn(f"'./rdbg make {file.name}' makes JSON of it", seen)
 
     def test_a_wrong_command_line(self) -> None:
         seen = at_terminal("run", "--moves", "0")
@@ -82,7 +82,7 @@ class Terminal(unittest.TestCase):
         self.assertIn("'chekc' is no word of rdbg; check?", at_terminal("chekc", "x.json"))
 
     def test_a_prompt_is_pointed_to(self) -> None:
-        self.assertIn("./rdbg sh is a prompt", at_terminal("run", "--app", LOST))
+        self.assertIn("'./rdbg sh' is a prompt", at_terminal("run", "--app", LOST))
 
 
 class Wrapper(unittest.TestCase):
@@ -140,7 +140,7 @@ class Wrapper(unittest.TestCase):
             words = ["serve", "--app", str(EXAMPLES / "turns.json"), "--sessions", "1"]
             ran = run(WRAPPER, *words, "--port", port)
         whose, cause, why = ran.stderr.splitlines()
-        self.assertIn("each line that comes to this port is a command, whoever", whose)
+        self.assertIn("any user of this machine can send commands to this port", whose)
         self.assertEqual(cause, f"rdbg: port {port}: Address already in use")
         self.assertEqual(why, "rdbg: cannot listen")
 

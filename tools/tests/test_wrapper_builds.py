@@ -1,5 +1,4 @@
-"""What `./rdbg` builds and what it doesn't, in a checkout of a few files whose `rt` builds
-nothing."""
+"""What `./rdbg` builds and what it does not, in a checkout of a few files with a fake `rt`."""
 import os
 import pathlib
 import re
@@ -16,7 +15,7 @@ from rdbg.reaching.asking import program as reach
 from tests.paths import EXAMPLES, TOP
 
 LOST = str(EXAMPLES / "lost_item.json")
-SOURCE = "fn main() {}\n"
+SOURCE = "fn main(rt: HostRuntime) -> ExitCode {\n}\n"
 # What of the repository there is in the checkout as it is.
 LINKED = (
     "tools",
@@ -32,7 +31,7 @@ LINKED = (
 PATIENCE = 60.0
 # After so many seconds a file that was written counts as written long ago.
 SETTLED = 4.0
-# Writes down how it was called, and of a build nothing comes but the wait for it.
+# A kit that logs how it was called, and whose builds go on until they are ended.
 RT = """#!/bin/sh
 echo "$@" >> "$RT_CALLS"
 case $1 in version) echo a kit ;; *) echo $$ >> "$RT_PIDS"; exec sleep 600 ;; esac
@@ -66,11 +65,13 @@ def make_checkout(top: pathlib.Path) -> None:
         write_script(top / script.relative_to(TOP), script.read_text())
 
 
-# Has proved what is in this folder, and built it.
+# A kit that has proved the crate of this folder, and built it.
 PROVES = """#!/bin/sh
-echo "$@" >> "$RT_CALLS"
-mkdir -p out && cp /bin/true out/rdbg
+echo "$(basename "$PWD") $@" >> "$RT_CALLS"
+mkdir -p out && cp /bin/true "out/$(basename "$PWD")"
 """
+UNPROVED = "rdbg: using the unproved build (./rdbg prove builds the proved one)\n"
+PROVED = "rdbg: using the proved build\n"
 
 
 class Checkout(unittest.TestCase):
@@ -93,8 +94,8 @@ class Checkout(unittest.TestCase):
             "RT_CALLS": str(self.calls),
             "RT_PIDS": str(self.pids),
         }
-        self.environment.pop("RDBG_PROGRAM", None)
-        self.environment.pop("RDBG_REACH", None)
+        for name in ("RDBG_PROGRAM", "RDBG_REACH", "RDBG_BUILD_REPORTED", "RDBG_WRAPPER_WORDS"):
+            self.environment.pop(name, None)
         self.program = program()
 
     def start(self, *words: str) -> "subprocess.Popen[str]":
@@ -157,19 +158,20 @@ class Sums(Checkout):
     """What is built is current by what the sources say."""
 
     def test_dates_build_nothing(self) -> None:
-        for words in (["--build"], ["--unproved", "--build"]):
+        choices: List[List[str]] = [["--unproved"], [], ["--proved"]]
+        for words in choices:
             with self.subTest(words):
-                kept = self.keep("proved" if len(words) == 1 else "unproved")
+                kept = self.keep("proved" if "--proved" in words else "unproved")
                 os.utime(kept, (0, 0))
                 os.utime(self.source)
-                ran = self.run_it(*words)
+                ran = self.run_it(*words, "--build")
                 self.assertEqual((ran.returncode, ran.stdout), (0, f"{kept}\n"), ran.stderr)
         self.assertEqual(self.called(), [])
 
     def test_there_and_back(self) -> None:
         first = self.keep("unproved")
         self.assertFalse(self.builds("--unproved", "--build"))
-        self.source.write_text("fn main() { other() }\n")
+        self.source.write_text(f"// other\n{SOURCE}")
         self.assertTrue(self.builds("--unproved", "--build"))
         second = self.keep("unproved")
         self.assertEqual(self.run_it("--unproved", "--build").stdout, f"{second}\n")
@@ -178,19 +180,88 @@ class Sums(Checkout):
 
     def test_what_was_proved_is_kept(self) -> None:
         write_script(self.kit, PROVES)
-        built = self.run_it("--build").stdout.strip()
-        self.assertEqual(pathlib.Path(built).read_bytes(), pathlib.Path("/bin/true").read_bytes())
-        self.assertTrue(os.access(built, os.X_OK))
-        self.assertEqual(len(self.called()), 1)
-        self.assertEqual(self.run_it("--build").stdout.strip(), built)
-        self.assertEqual(len(self.called()), 1)
+        ran = self.run_it("prove")
+        self.assertEqual(ran.returncode, 0, ran.stderr)
+        calls = sorted(self.called())
+        self.assertRegex(calls[0], "^rdbg run --jobs [0-9]+ -- --help$")
+        self.assertRegex(calls[1], "^rdreach run --jobs [0-9]+ -- --help$")
+        for name in ("rdbg", "rdreach"):
+            built = pathlib.Path(self.run_it("--proved", "--build", name).stdout.strip())
+            self.assertEqual(built.read_bytes(), pathlib.Path("/bin/true").read_bytes())
+            self.assertTrue(os.access(built, os.X_OK))
+            self.assertEqual(self.run_it("--build", name).stdout.strip(), str(built))
+        self.assertEqual(self.run_it("prove").returncode, 0)
+        self.assertEqual(len(self.called()), 2)
 
     def test_proofs_are_sources_of_the_proved_one(self) -> None:
-        self.keep("proved")
-        self.keep("unproved")
+        proved, unproved = self.keep("proved"), self.keep("unproved")
+        self.assertEqual(self.run_it("--build").stdout, f"{proved}\n")
         (self.top / "crates/rdbg/proof.antt").write_text("-- a proof\n")
+        self.assertEqual(self.run_it("--build").stdout, f"{unproved}\n")
+        self.assertEqual(self.called(), [])
+
+
+class Choice(Checkout):
+    """Which build runs, and what is said of it. Only `./rdbg prove` starts a proof."""
+
+    def ask(self, *words: str) -> "subprocess.CompletedProcess[str]":
+        """What the words and a short run come to."""
+        return self.run_it(*words, "run", "--app", LOST)
+
+    def test_the_unproved_one_unless_proved(self) -> None:
+        unproved = self.keep("unproved")
+        self.assertEqual((0, UNPROVED), (self.ask().returncode, self.ask().stderr))
+        proved = self.keep("proved")
+        self.assertEqual(self.run_it("--build").stdout, f"{proved}\n")
+        self.assertEqual((0, PROVED), (self.ask().returncode, self.ask().stderr))
+        self.assertEqual(self.ask("--proved").stderr, PROVED)
+        self.assertEqual(self.ask("--unproved").stderr, UNPROVED)
+        self.assertEqual(self.run_it("--unproved", "--build").stdout, f"{unproved}\n")
+        self.assertEqual(self.called(), [])
+
+    def test_proved_refuses(self) -> None:
+        self.keep("unproved")
+        self.keep("unproved", "rdreach")
+        asked = (
+            ["run", "--app", LOST],
+            ["reach", LOST, "asleep"],
+            ["hunt", LOST, "asleep"],
+            ["sh", LOST],
+            ["install", str(self.top / "prefix")],
+        )
+        for words in asked:
+            with self.subTest(words):
+                ran = self.run_it("--proved", *words)
+                self.assertEqual((2, ""), (ran.returncode, ran.stdout))
+                self.assertIn(
+                    "the proved program is not built (./rdbg prove builds it)", ran.stderr
+                )
+        self.assertEqual(self.called(), [])
+
+    def test_no_other_word_proves(self) -> None:
+        for words in (["--build"], ["run"], ["reach", LOST, "asleep"], ["sh", LOST]):
+            with self.subTest(words):
+                self.assertTrue(self.builds(*words))
+        self.assertEqual({"try"}, {it.split()[0] for it in self.called()})
+
+    def test_a_proof_holds_nobody_up(self) -> None:
+        proof = self.start("prove")
+        self.addCleanup(proof.kill)
+        end = time.monotonic() + PATIENCE
+        while not (self.pids.exists() and len(self.pids.read_text().split()) == 2):
+            self.assertLess(time.monotonic(), end)
+            time.sleep(0.02)
+        self.pids.unlink()
         self.assertTrue(self.builds("--build"))
-        self.assertFalse(self.builds("--unproved", "--build"))
+        proof.terminate()
+        proof.communicate()
+        self.assertEqual(143, proof.returncode)
+
+    def test_its_words(self) -> None:
+        ran = self.run_it("prove", "rdbg")
+        self.assertEqual((2, "rdbg: usage: ./rdbg prove\n"), (ran.returncode, ran.stderr))
+        self.assertIn("half an hour", self.run_it("prove", "--help").stdout)
+        self.assertEqual(self.called(), [])
 
 
 # Writes down that files are read.
@@ -258,6 +329,7 @@ class Nothing(Checkout):
             ["help", "run"],
             ["help", "serve"],
             ["help", "install"],
+            ["help", "prove"],
             ["help", "trace"],
             ["run", "--help"],
             ["serve", "-h"],
@@ -265,7 +337,7 @@ class Nothing(Checkout):
             ["check", "--help"],
             ["--version"],
         ):
-            for given in (words, ["--unproved", *words]):
+            for given in (words, ["--unproved", *words], ["--proved", *words]):
                 with self.subTest(given):
                     ran = self.run_it(*given)
                     self.assertEqual(ran.returncode, 0, ran.stderr)
@@ -339,7 +411,7 @@ class Ended(Checkout):
     """A build that is ended."""
 
     def test_no_process_is_left(self) -> None:
-        for words in (["--build"], ["--unproved", "--build"]):
+        for words in (["prove"], ["--build"]):
             for number, status in (
                 (signal.SIGTERM, 143),
                 (signal.SIGINT, 130),
@@ -370,15 +442,20 @@ class Ended(Checkout):
         self.fail(f"still there: {left} {rest}")
 
 
-class Said(Checkout):
-    """That nothing is proved is said once a start."""
+class Report(Checkout):
+    """Which build runs is reported once per start."""
 
-    def test_not_by_each_program(self) -> None:
-        self.keep("unproved")
-        write_script(self.keep("unproved", "rdreach"), f'#!/bin/sh\nexec {reach()} "$@"\n')
-        ran = self.run_it("--unproved", "hunt", LOST, "reg poller 0 = 1")
-        self.assertEqual(ran.returncode, 1, ran.stderr)
-        self.assertEqual(len(re.findall("nothing is proved", ran.stderr)), 1, ran.stderr)
+    def test_once_for_both_programs(self) -> None:
+        page = str(self.top.parent / "page.html")
+        for kind, told in (("unproved", UNPROVED), ("proved", PROVED)):
+            self.keep(kind)
+            write_script(self.keep(kind, "rdreach"), f'#!/bin/sh\nexec {reach()} "$@"\n')
+            for words in (["hunt", LOST], ["reach", LOST, "--page", page]):
+                with self.subTest(kind, words=words):
+                    ran = self.run_it(*words, "reg poller 0 = 1")
+                    self.assertEqual(ran.returncode, 1, ran.stderr)
+                    self.assertEqual(1, ran.stderr.count(told), ran.stderr)
+                    self.assertEqual(1, len(re.findall("using the", ran.stderr)), ran.stderr)
 
 
 if __name__ == "__main__":

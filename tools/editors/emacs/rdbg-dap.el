@@ -32,10 +32,10 @@
 (dap-register-debug-provider "rdbg" #'rdbg-dap--populate)
 
 (dap-register-debug-template
- "rdbg: this file" (list :type "rdbg" :request "launch" :name "rdbg" :unproved t))
+ "rdbg: this file" (list :type "rdbg" :request "launch" :name "rdbg"))
 
 (dap-register-debug-template
- "rdbg: this file, proved" (list :type "rdbg" :request "launch" :name "rdbg"))
+ "rdbg: this file, unproved" (list :type "rdbg" :request "launch" :name "rdbg" :unproved t))
 
 (dap-register-debug-template
  "rdbg: a port" (list :type "rdbg" :request "attach" :name "rdbg at a port"))
@@ -146,7 +146,7 @@
   (if (dap--session-running (dap--cur-session))
       (call-interactively #'dap-continue)
     (dap-ui-mode 1)
-    (dap-debug (list :type "rdbg" :request "launch" :name "rdbg" :unproved t))
+    (dap-debug (list :type "rdbg" :request "launch" :name "rdbg"))
     (rdbg-variables)))
 
 (defvar rdbg-keys-mode-map

@@ -70,8 +70,8 @@ def count(given: Arguments, key: str, absent: int, least: int = 1) -> int:
 
 
 def program(is_unproved: bool, tell: Tell) -> str:
-    """The program that is started: built first, where it has to be. `tell` is told what the
-    building says. Raises `Wrong` where there is none."""
+    """The program to start, which `./rdbg` builds if necessary; `tell` gets each line that it
+    prints meanwhile. Raises `Wrong` if there is none."""
     named = os.environ.get("RDBG_PROGRAM")
     if named:
         return named
@@ -90,6 +90,7 @@ def program(is_unproved: bool, tell: Tell) -> str:
         STARTED.pop(made, None)
         found.seek(0)
         path = os.fsdecode(found.read().strip())
+    os.environ["RDBG_BUILD_REPORTED"] = "1"  # (the wrapper says once which build runs)
     if made.returncode or not path:
         raise Wrong(f"there is no program to start: {said[-1] if said else 'nothing was built'}")
     return path

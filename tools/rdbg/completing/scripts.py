@@ -19,7 +19,7 @@ _rdbg_known() {{
 _rdbg() {{
     local begun=${{COMP_WORDS[COMP_CWORD]}} before=${{COMP_WORDS[COMP_CWORD - 1]}} at=1 word found
     COMPREPLY=()
-    [ "${{COMP_WORDS[1]}}" != --unproved ] || at=2
+    case ${{COMP_WORDS[1]}} in --proved | --unproved) at=2 ;; esac
     if ((COMP_CWORD <= at)); then
         mapfile -t COMPREPLY < <(compgen -W {words} -- "$begun")
         return
@@ -50,7 +50,7 @@ ZSH = """\
 _rdbg() {{
     local at=2
     local -a known
-    [[ ${{words[2]}} != --unproved ]] || at=3
+    case ${{words[2]}} in --proved | --unproved) at=3 ;; esac
     if (( CURRENT <= at )); then
         known=(
 {words}

@@ -82,5 +82,6 @@ def own() -> Iterator[Option]:
     """The wrapper's own options, in place of a word."""
     yield Option(("--help",), "", "says which words there are")
     yield Option(("--version",), "", "says what it is, and whether it is proved")
-    yield Option(("--unproved",), "", "of a checkout: with a program that is built without proof")
-    yield Option(("--build",), "", "says where the program is")
+    yield Option(("--proved",), "", "runs the proved build, or refuses if there is none")
+    yield Option(("--unproved",), "", "runs the unproved build")
+    yield Option(("--build",), "", "prints where the program is, and builds it if necessary")
