@@ -1,6 +1,7 @@
 """A room as its users have it: a process with a port, and programs that open connections to it."""
 import contextlib
 import pathlib
+import random
 import signal
 import socket
 import subprocess
@@ -16,11 +17,32 @@ LOST = str(EXAMPLES / "lost_item.json")
 PATIENCE = 120.0
 
 
+# Ports that the system gives to whoever asks for any begin here. Below them so many are for tests.
+EPHEMERAL = pathlib.Path("/proc/sys/net/ipv4/ip_local_port_range")
+PORTS = 12_000
+# Reserves the ports of this process among all tests of the machine.
+RESERVED: List[socket.socket] = []
+
+
 def free_port() -> int:
-    """A port that nobody has."""
-    with socket.socket() as free:
-        free.bind(("127.0.0.1", 0))
-        return int(free.getsockname()[1])
+    """Returns a port that is free, and that no other test gets as long as this process runs.
+
+    The system gives such a port to nobody by itself, so it is still free when a program is told to
+    listen there later.
+    """
+    first_ephemeral = int(EPHEMERAL.read_text().split()[0])
+    while True:
+        number = random.randrange(first_ephemeral - PORTS, first_ephemeral)
+        reserved = socket.socket(socket.AF_UNIX)
+        try:
+            reserved.bind(f"\0rdbg-test-port-{number}")
+            with socket.socket() as free:
+                free.bind(("127.0.0.1", number))
+        except OSError:
+            reserved.close()
+            continue
+        RESERVED.append(reserved)
+        return number
 
 
 class Process:

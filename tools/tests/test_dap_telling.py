@@ -1,17 +1,36 @@
 """`rdbg dap`: log points, the ends that an editor asks for, and what it shows of all tasks."""
+import contextlib
 import pathlib
 import tempfile
 import time
 import unittest
-from typing import List
+from typing import Iterator, List
 from unittest import mock
 
+from rdbg.adapter.debugger import Debugger
 from tests.dap_client import Client, editor
 from tests.dap_schema import Held
 from tests.paths import EXAMPLES
 from tests.test_dap_breakpoints import LOOP
 
 LOST = EXAMPLES / "lost_item.json"
+
+
+@contextlib.contextmanager
+def endless_run() -> Iterator[None]:
+    """Has each run of an editor go on until it is paused, and serve requests meanwhile.
+
+    Without it a run can end before a request that has to come while it runs.
+    """
+    between = Debugger.between
+
+    def go_on(debugger: Debugger) -> None:
+        while True:
+            between(debugger)  # (which raises `Interrupted` once a pause was asked for)
+            time.sleep(0.01)
+
+    with mock.patch.object(Debugger, "between", go_on):
+        yield
 
 
 class InFile(Held):
@@ -124,11 +143,12 @@ class Ends(InFile):
         with editor() as client:
             client.begin(EXAMPLES / "turns.json", limit=1_000_000)
             client.ask("setFunctionBreakpoints", breakpoints=[{"name": "tick = 4000000000"}])
-            client.ask("continue", threadId=2)
-            waiting = client.send("evaluate", expression="where", context="repl")
-            client.ask("cancel", requestId=waiting)
-            client.ask("pause", threadId=2)
-            self.assertEqual(client.answer(waiting)["message"], "cancelled")
+            with endless_run():
+                client.ask("continue", threadId=2)
+                waiting = client.send("evaluate", expression="where", context="repl")
+                client.ask("cancel", requestId=waiting)
+                client.ask("pause", threadId=2)
+                self.assertEqual(client.answer(waiting)["message"], "cancelled")
 
     def test_something_typed_is_cancelled(self) -> None:
         with editor() as client:

@@ -1,17 +1,29 @@
 """Who started a room frees the wheel of one who is idle, by what is typed there."""
+import contextlib
 import os
 import pathlib
 import signal
 import subprocess
+import tempfile
 import time
 import unittest
-from typing import List
+from typing import Sequence
 
 from tests.rooms import LOST, Caller, Process, free_port, room, rows, talk
 from tests.shell_terminal import Terminal
+from tests.strangers import before
 
 IDLE = "who started the room has ada, who is idle for {}, give back the wheel: it is free"
 AWAY = "who started the room has ada, who is away, give back the wheel: it is free"
+
+
+# A room's clock is in a file, which has a byte for each tenth of a second.
+CLOCK = """
+import os, time, types
+from rdbg.rooms import member
+member.time = types.SimpleNamespace(**vars(time))
+member.time.monotonic = lambda: os.stat({!r}).st_size / 10
+"""
 
 
 def says(here: Process, *lines: str) -> str:
@@ -28,11 +40,35 @@ def resident(process: int) -> int:
     return int(status.partition("VmRSS:")[2].split()[0])
 
 
+class Clock:
+    """The clock by which a room tells who is idle. It stands still until a test moves it."""
+
+    def __init__(self) -> None:
+        # (a room reads the time from the file's size, of which it never sees a half)
+        self._file = tempfile.NamedTemporaryFile()
+        self.head = before(CLOCK.format(self._file.name))
+
+    def __enter__(self) -> "Clock":
+        return self
+
+    def __exit__(self, *_: object) -> None:
+        self._file.close()
+
+    def move(self, seconds: float) -> None:
+        """Moves the clock on."""
+        self._file.write(b"." * round(10 * seconds))
+        self._file.flush()
+
+
 class Free(unittest.TestCase):
     """`free`, by a pipe."""
 
     def test_one_who_is_idle(self) -> None:
-        with talk() as file, room("--talk", str(file), "--idle", "1", keys=subprocess.PIPE) as here:
+        pipe = subprocess.PIPE
+        with contextlib.ExitStack() as stack:
+            file, clock = stack.enter_context(talk()), stack.enter_context(Clock())
+            words = ["--talk", str(file), "--idle", "1"]
+            here = stack.enter_context(room(*words, keys=pipe, head=clock.head))
             with Caller(here.port, "ada") as ada, Caller(here.port, "bo") as bo:
                 self.assertEqual(says(here, "free"), "# no: nobody has the wheel")
                 ada.ask("wheel take")
@@ -40,7 +76,7 @@ class Free(unittest.TestCase):
                 refused = "ada has the wheel and isn't idle: 0 seconds without a line"
                 self.assertEqual(says(here, "free"), f"# no: {refused}, 1 second would do")
                 self.assertEqual(bo.ask("step 0"), "no Held 1")
-                self._wait_with_looks(ada)
+                self._wait_with_looks(ada, clock)
                 told = IDLE.format("1 second")
                 self.assertEqual(says(here, "free"), f"# {told}")
                 for each in (ada, bo):
@@ -52,20 +88,30 @@ class Free(unittest.TestCase):
             self.assertIn(("# free", told), kept)
             self.assertIn(("# free", f"no: {refused}, 1 second would do"), kept)
 
-    def _wait_with_looks(self, ada: Caller) -> None:
-        """Waits for more than a second, while a prompt looks by itself: who is at it is idle."""
+    def _wait_with_looks(self, ada: Caller, clock: Clock) -> None:
+        """Lets more than a second pass, while a prompt looks by itself: who is at it is idle."""
         for _ in range(4):
-            time.sleep(0.3)
+            clock.move(0.3)
             ada.send("# does")
             ada.ask("show cores")
             ada.send("# did")
 
     def test_one_who_says_something(self) -> None:
-        with room("--idle", "2", keys=subprocess.PIPE) as here, Caller(here.port, "ada") as ada:
+        with Clock() as clock, contextlib.ExitStack() as stack:
+            words, pipe = ["--idle", "2"], subprocess.PIPE
+            here = stack.enter_context(room(*words, keys=pipe, head=clock.head))
+            ada = stack.enter_context(Caller(here.port, "ada"))
+            bo = stack.enter_context(Caller(here.port, "bo"))
             ada.ask("wheel take")
-            for line in ("show cores", "# who", "x", "# say still here"):
-                time.sleep(0.8)
+            for line, hears, answer in (
+                ("show cores", ada, "cores "),
+                ("# who", ada, "# here: ada"),
+                ("x", ada, "no "),
+                ("# say still here", bo, "# ada says: still here"),
+            ):
+                clock.move(0.8)
                 ada.send(line)
+                hears.expect(answer)
                 self.assertRegex(says(here, "free"), "^# no: ada has the wheel and isn't idle: ")
 
     def test_a_minute_where_nothing_else_is_said(self) -> None:
@@ -119,7 +165,7 @@ class Free(unittest.TestCase):
 class AtATerminal(unittest.TestCase):
     """`free`, where a terminal is the room's."""
 
-    def terminal(self, *words: str, head: List[str]) -> Terminal:
+    def terminal(self, *words: str, head: Sequence[str]) -> Terminal:
         """A terminal with a room, once that listens."""
         found = Terminal(
             LOST, "--port", str(self.port), *words, environment={}, head=head, name="room"
@@ -132,14 +178,16 @@ class AtATerminal(unittest.TestCase):
         self.port = free_port()
 
     def test_what_is_typed(self) -> None:
-        terminal = self.terminal("--idle", "1", head=[])
+        clock = Clock()
+        self.addCleanup(clock.__exit__)
+        terminal = self.terminal("--idle", "1", head=clock.head)
         usage = "# `free` gives back the wheel of who is away, or idle for 1 second\n"
         terminal.expect(usage)
         with Caller(self.port, "ada") as ada:
             ada.ask("wheel take")
             terminal.type("fly\n")
             terminal.expect(usage)
-            time.sleep(1.1)
+            clock.move(1.1)
             terminal.type("free\n")
             terminal.expect(f"# {IDLE.format('1 second')}\n")
             ada.expect("# who started the room has ada")

@@ -2,8 +2,10 @@
 what each has done at its end."""
 import contextlib
 import re
+import time
 import unittest
 from typing import Dict, Iterator, List, Tuple
+from unittest import mock
 
 from rdbg.files.source import load
 from rdbg.rooms import remarks
@@ -80,7 +82,9 @@ class Words(unittest.TestCase):
             self.assertEqual(heard[-1], "# no: `# talk COUNT`: 1 to 20")
 
     def test_who_is_idle(self) -> None:
-        with together("ada", "bo") as (room, people):
+        # (no second passes, however long it takes)
+        clock = mock.Mock(wraps=time, monotonic=lambda: 7.0)
+        with mock.patch("rdbg.rooms.member.time", clock), together("ada", "bo") as (room, people):
             (ada, own), _ = people["ada"], people["bo"]
             self.assertEqual("here: ada (session 1), bo (session 2)", room.who())
             room.idle = 0
