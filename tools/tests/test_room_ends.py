@@ -12,7 +12,7 @@ import unittest
 from typing import List, Tuple
 
 from rdbg.main import main
-from tests.rooms import LOST, Caller, Process, free_port, room, rows, talk, until
+from tests.rooms import LOST, PATIENCE, Caller, Process, free_port, room, rows, talk, until
 
 
 # The number by which Linux is asked to send a signal to one thread (x86-64).
@@ -117,21 +117,6 @@ class Ends(unittest.TestCase):
             lines = [row for row in rows(file) if row[1] == "tick"]
             self.assertEqual(lines, [["left", "tick", "ok at 1"], ["right", "tick", "ok at 1"]])
 
-    def test_a_talk_that_can_not_be_kept_any_more(self) -> None:
-        head = ["bash", "-c", 'ulimit -f 4 && exec "$@"', "room"]
-        with talk() as file, room("--talk", str(file), sessions=2, head=head) as here:
-            with Caller(here.port, "left") as left:
-                left.send(*["show moves"] * 200)
-                left.expect("# the talk can't be kept any more: File too large")
-                left.send("# who")
-                left.expect("# here: left")
-            self.assertEqual(here.end(), 1)
-            self.assertRegex(here.output, r"^(# .*\n)*closed \d+\n$")
-            self.assertEqual(here.errors, f"rdbg room: {file} isn't complete: File too large\n")
-            kept = rows(file)
-            self.assertGreater(len(kept), 20)
-            self.assertTrue(file.read_bytes().endswith(b"moves 0 undone 0 kept 0\n"))
-
     def test_what_can_not_be_had(self) -> None:
         with socket.socket() as taken:
             taken.bind(("127.0.0.1", 0))
@@ -185,11 +170,11 @@ class Ends(unittest.TestCase):
         with room(sessions=2) as here, Caller(here.port, "left") as left:
             child = child_of(here.process.pid)
             os.kill(int(child), signal.SIGKILL)
-            left.send("tick")
-            left.expect("# rdbg has ended")
-            here.process.wait(30)
-            self.assertEqual(here.end(), 1)
-            self.assertIn("without its audit", here.errors)
+            # (nobody says a line)
+            left.expect("# rdbg has ended: killed by SIGKILL")
+            here.process.wait(PATIENCE)
+            self.assertEqual(here.end(0), 1)
+            self.assertIn("rdbg has ended without its audit: killed by SIGKILL\n", here.errors)
 
 
 if __name__ == "__main__":

@@ -1,10 +1,11 @@
 """What pages know of a room's moves: each place as rdbg says it, whatever is moved, taken back,
 trimmed or made in long runs."""
 import contextlib
+import itertools
 import random
 import time
 import unittest
-from typing import Any, Callable, Dict, Iterator, List, Sequence
+from typing import Any, Callable, Dict, Iterable, Iterator, List, Sequence
 from unittest import mock
 
 from rdbg.looks import Look
@@ -15,6 +16,7 @@ from rdbg.driving.opening import begin
 from rdbg.driving.target import Limits
 from rdbg.files.source import load
 from tests.paths import EXAMPLES
+from tests.rooms import until
 from tests.web_rooms import slow
 
 LOST, INTERRUPT = EXAMPLES / "lost_item.json", EXAMPLES / "interrupt.json"
@@ -328,6 +330,60 @@ class Follows(unittest.TestCase):
                 self.check(here)
         self.assertGreater(len(begun), 3)
 
+    def test_a_program_that_dies_is_started_anew(self) -> None:
+        with followed(str(LOST)) as here:
+            here.room.tell("forward 9")
+            here.settle()
+            for lines in (["tick"], ["back 4", "step 0"], ["forward 300", "redo 1"], ["trim 2"]):
+                kill(here)
+                here.room.tell(*lines)
+                if lines != ["trim 2"]:
+                    self.check(here)
+            self.assertEqual(307, here.settle().values["done"])
+            self.assertIsNone(here.follower.lost)
+
+    def test_one_that_dies_while_it_does_many_lines(self) -> None:
+        begun: List[Any] = []
+
+        def begin_and_die(*given: Any) -> Any:
+            target = begin(*given)
+            begun.append(target)
+            if len(begun) < 4:
+                tell_all, count = target.session.tell_all, itertools.count()
+
+                def tell_some(lines: Iterable[str]) -> Iterator[str]:
+                    for reply in tell_all(lines):
+                        if next(count) > 20:
+                            kill_program(target)
+                        yield reply
+
+                target.session.tell_all = tell_some  # type: ignore[assignment]
+            return target
+
+        with mock.patch.object(web_mirror, "begin", begin_and_die), followed(str(LOST)) as here:
+            here.room.tell(*["tick", "step 0", "step 1", "back 1"] * 9, "forward 50")
+            self.check(here)
+            self.assertEqual(4, len(begun))
+
+    def test_one_that_dies_again_and_again_is_given_up(self) -> None:
+        def begin_and_die(*given: Any) -> Any:
+            target = begin(*given)
+            tell_all = target.session.tell_all
+
+            def tell_none(lines: Iterable[str]) -> Iterator[str]:
+                if "tick" in list(lines):
+                    kill_program(target)
+                return tell_all(lines)
+
+            target.session.tell_all = tell_none  # type: ignore[assignment]
+            return target
+
+        with mock.patch.object(web_mirror, "begin", begin_and_die), followed(str(LOST)) as here:
+            here.room.tell("tick")
+            until(lambda: here.follower.lost is not None)
+            why = "the lanes don't follow any more: rdbg has ended, with status -9"
+            self.assertEqual(why, here.follower.lost)
+
     def test_lines_of_all_sorts(self) -> None:
         for seed in range(4):
             with self.subTest(seed), small(), followed(str(LOST)) as here:
@@ -337,6 +393,18 @@ class Follows(unittest.TestCase):
                     if chance.random() < 0.6:
                         here.settle()
                 self.check(here)
+
+
+def kill_program(target: Any) -> None:
+    """Kills the program of a session, and waits until it has ended."""
+    target.session._process.kill()
+    target.session._process.wait()
+
+
+def kill(here: Followed) -> None:
+    """Kills the program that follows a room, while it is idle."""
+    with here.follower.guard:
+        kill_program(here.follower._mirror._target)
 
 
 def line_of(chance: random.Random) -> str:

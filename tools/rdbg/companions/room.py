@@ -26,9 +26,9 @@ EPILOG = (
     "`rdbg sh --port P --name NAME` attaches to it, or any program that opens a connection, as nc."
     f" Lines that begin with # are for the room: {remarks.WORDS}. Typed at the room itself, `free`"
     " gives back the wheel of who is idle."
-    " Ctrl-C, or SIGTERM, ends it with rdbg's own audit. The status is"
-    " 0; 1 where the application is refused, rdbg ends before, its audit finds something, or the"
-    " talk couldn't be kept; 2 where a file or a port can't be had."
+    " Ctrl-C, or SIGTERM, ends it with rdbg's own audit. The exit status is 0; 1 if the application"
+    " is refused, rdbg ends early, or its audit finds something; 2 if a file cannot be read or"
+    " written, a port is taken, or the system has too little memory or too few descriptors."
 )
 # So many signals end it at once.
 ENOUGH = 3
@@ -155,12 +155,17 @@ def main(words: Sequence[str]) -> int:
     signals = Signals()
     room = open_room(source, limits, given.sessions, talk)
     signals.port = port
+    room.say = lambda text: print(f"rdbg room: {text}", file=sys.stderr, flush=True)
     audits = serve(room, port, door, given)
     for row in room.counts.rows():
         print(f"# {row}")
     for audit in audits:
         print(audit.text(), file=sys.stdout if audit.is_good else sys.stderr)
-    if talk is not None and talk.fault:
-        print(f"rdbg room: {talk.path} isn't complete: {talk.fault}", file=sys.stderr)
+    is_incomplete = talk is not None and bool(talk.fault or talk.missing)
+    if talk is not None and is_incomplete:
+        missing = f" (missing: {talk.missing})" if talk.missing else ""
+        why = f"cannot write {talk.path}: {talk.last_fault}{missing}"
+        print(f"rdbg room: {why}", file=sys.stderr)
+    if not all(audit.is_good for audit in audits):
         return 1
-    return 0 if all(audit.is_good for audit in audits) else 1
+    return 2 if is_incomplete else 0

@@ -1,11 +1,13 @@
 """`rdbg serve` as a room has it: started with all its sessions taken, and ended with its audit."""
 import contextlib
 import re
+import signal
 import socket
 import subprocess
 import tempfile
+import threading
 import time
-from typing import IO, Iterator, List, NamedTuple, Optional, Set
+from typing import IO, Callable, Iterator, List, NamedTuple, Optional, Set
 
 from rdbg import children, owners, serve_port
 from rdbg.client import LOCAL, Session, connected, program
@@ -26,6 +28,13 @@ PATIENCE = 5.0
 TAKEN = "cannot listen"
 # So many of the others who came first are named.
 FEW = 3
+
+
+def status_text(status: int) -> str:
+    """Says how a process ended."""
+    if status >= 0:
+        return f"status {status}"
+    return f"killed by {signal.Signals(-status).name}"
 
 
 class Ended(Failure):
@@ -56,6 +65,8 @@ class Host:
         self._apart: List[socket.socket] = []
         self._is_apart = False
         self._ours: Set[int] = set()
+        # (whether it was asked to end)
+        self._is_closing = False
 
     @classmethod
     def start(
@@ -139,20 +150,30 @@ class Host:
         try:
             yield self.sessions[number - 1]
         except Failure:
-            raise Ended(f"rdbg has ended{self._why()}") from None
+            raise Ended(self.why_ended()) from None
 
     def tell_all(self, number: int, lines: List[str]) -> List[str]:
         """The replies to lines of one session. Raises `Ended`."""
         with self.asking(number) as session:
             return list(session.tell_all(lines))
 
-    def _why(self) -> str:
-        """Why it ended, where it says so."""
+    def watch(self, when_ended: Callable[["Host"], None]) -> None:
+        """Calls `when_ended` from a thread of its own if the program ends and nobody has asked for
+        that by `kill` or `close`."""
+
+        def wait() -> None:
+            self._process.wait()
+            if not self._is_closing:
+                when_ended(self)
+
+        threading.Thread(target=wait, daemon=True).start()
+
+    def why_ended(self) -> str:
+        """Says that the program has ended, and why, if that is known."""
         with contextlib.suppress(subprocess.TimeoutExpired):
             status = self._process.wait(1)
-            said = self._errors_said()
-            return f": {said}" if said else f", with status {status}"
-        return ""
+            return f"rdbg has ended: {self._errors_said() or status_text(status)}"
+        return "rdbg has ended"
 
     def _errors_said(self) -> str:
         """The last line that it said on standard error; empty where it was closed before."""
@@ -178,6 +199,7 @@ class Host:
 
     def kill(self) -> str:
         """Ends it at once, and answers what it said on standard error."""
+        self._is_closing = True
         self._process.kill()
         with self._closing():
             self._process.wait()
@@ -185,6 +207,7 @@ class Host:
 
     def close(self) -> "Audit":
         """Ends all sessions, and answers what the program found at its end."""
+        self._is_closing = True
         with self._closing():
             for session in self.sessions:
                 session.close()
@@ -224,4 +247,4 @@ class Audit(NamedTuple):
         """It as a line."""
         if self.is_good:
             return f"closed {self.entries}"
-        return self.said or f"rdbg has ended, with status {self.status}, and without its audit"
+        return self.said or f"rdbg has ended without its audit: {status_text(self.status)}"

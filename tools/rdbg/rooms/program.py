@@ -47,6 +47,8 @@ class Program:
         # Who has the wheel.
         self.holder: Optional[Seat] = None
         self.when_over: Callable[[str], None] = lambda why: None
+        # Is called with a program that has ended by itself, from another thread.
+        self._when_ended_by_itself: Callable[[Host], None] = lambda host: None
         # Is told the audit of each program before this one, from another thread.
         self.when_ended: Callable[[Audit], None] = lambda audit: None
         self._rows: Dict[int, List[str]] = {}
@@ -54,6 +56,12 @@ class Program:
         self._ending: List[threading.Thread] = []
         # (when a new one is tried to be had again, where that failed)
         self._again = 0.0
+
+    def watch(self, when_ended: Callable[[Host], None]) -> None:
+        """Calls `when_ended` from another thread if a program ends by itself, this one or a later
+        one."""
+        self._when_ended_by_itself = when_ended
+        self.host.watch(when_ended)
 
     @property
     def place(self) -> int:
@@ -193,6 +201,7 @@ class Program:
             raise
         old, self.host, self.target = self.host, host, target
         target.hearing.append(self._hear)
+        host.watch(self._when_ended_by_itself)
         thread = threading.Thread(target=lambda: self.when_ended(old.close()))
         self._ending.append(thread)
         thread.start()

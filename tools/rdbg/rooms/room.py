@@ -1,8 +1,9 @@
 """Several, each by a name, at one program that serves: what each asks, and all are told."""
 import collections
+import contextlib
 import threading
 import time
-from typing import Callable, Deque, Dict, List, Optional, Set
+from typing import Callable, Deque, Dict, Iterator, List, Optional, Set
 
 from rdbg import record
 from rdbg.commands import MOST_BYTES, TARGET, Command
@@ -10,7 +11,7 @@ from rdbg.failure import Failure
 from rdbg.rooms import quiet, remarks
 from rdbg.rooms.counts import Counts
 from rdbg.rooms.doings import Doing, effect, is_single
-from rdbg.rooms.host import MOST_SESSIONS, Audit, Ended
+from rdbg.rooms.host import MOST_SESSIONS, Audit, Ended, Host
 from rdbg.rooms.member import Hear, Member, Notice
 from rdbg.rooms.program import FULL, HISTORY, SCARCE, Program
 from rdbg.rooms.seats import Refusal, Seat, Seats, check
@@ -29,6 +30,8 @@ TOO_LONG, NO_COMMAND = "no LineTooLong", "no Syntax"
 HELD = "no Held"
 # Of a run the last so many moves are told; so many of the notices to all are kept.
 FEW, MOST_HEARD = 5, 500
+# How long it takes until a talk that could not be written is tried again.
+TRY_AGAIN_SECONDS = 1.0
 # So many seconds without a line make somebody idle, unless it is said otherwise.
 IDLE = 60
 # It is said when so little of the history is left, one part of so many.
@@ -49,6 +52,8 @@ class Room:
         self.app_source = source
         # Is called once the program has ended by itself. Nothing is answered then, nor at the end.
         self.when_over: Callable[[], None] = lambda: None
+        # Tells the user who started the room what cannot wait until its end.
+        self.say: Callable[[str], None] = lambda text: None
         # Is called once the room goes on with another source, and follows nothing any more.
         self.when_reloaded: Callable[[], None] = lambda: None
         self.is_over = self.is_reloading = False
@@ -69,6 +74,7 @@ class Room:
         self._warned, self._is_told_why = 0, False
         self._audits: List[Audit] = []
         self._keep("room", "#", f"opens {source.path}")
+        self._program.watch(self._program_has_ended)
 
     @property
     def place(self) -> int:
@@ -282,11 +288,39 @@ class Room:
         return text
 
     def _keep(self, who: str, line: str, reply: str) -> None:
-        if self._talk is None or self._talk.fault:
-            return
-        self._talk.keep(who, line, reply)
-        if self._talk.fault:
-            self.tell(f"the talk can't be kept any more: {self._talk.fault}")
+        """Appends a row to the talk."""
+        if self._talk is not None:
+            with self._telling_of(self._talk):
+                self._talk.keep(who, line, reply)
+
+    @contextlib.contextmanager
+    def _telling_of(self, talk: Talk) -> Iterator[None]:
+        """Tells everybody if the talk cannot be written any more after the block, or can again. In
+        the first case it is tried again in a thread of its own."""
+        before, lost_before = talk.fault, talk.lost_count
+        yield
+        if talk.fault and not before:
+            why = f"cannot write the talk to {talk.path}: {talk.fault}"
+            self.warn(f"{why}; its rows wait in memory, and it is tried again")
+            threading.Thread(target=self._write_again, args=(talk,), daemon=True).start()
+        if talk.lost_count and not lost_before:
+            self.warn("rows of the talk are lost from here on: too many wait in memory")
+        if before and not talk.fault:
+            self.warn(f"the talk is written again; missing: {talk.missing or 'nothing'}")
+
+    def _write_again(self, talk: Talk) -> None:
+        """Tries to write the talk until that works."""
+        while talk.fault and not self.is_over:
+            time.sleep(TRY_AGAIN_SECONDS)
+            with self._turns:
+                if talk.fault and not self.is_over:
+                    with self._telling_of(talk):
+                        talk.flush()
+
+    def warn(self, text: str) -> None:
+        """Tells everybody who is here, and the user who started the room."""
+        self.tell(text)
+        self.say(text)
 
     def _warn(self, member: Member, reply: str) -> None:
         """Says when the history is nearly full, and when it is."""
@@ -477,8 +511,15 @@ class Room:
             f"who started the room has {seat.name}, who is {why}, give back the wheel: it is free"
         )
 
+    def _program_has_ended(self, host: Host) -> None:
+        """Tells everybody at once that a program has ended by itself, unless the room has gone on
+        with another one."""
+        with self._turns:
+            if self._program.host is host:
+                self._is_over(host.why_ended())
+
     def _is_over(self, why: str) -> None:
-        """The program has ended by itself."""
+        """The program has ended by itself: tells everybody, and ends the room."""
         if not self.is_over:
             self.is_over = True
             self.tell(why)

@@ -1,7 +1,9 @@
 """Follows the moves of a room, so that pages show each of them as it comes."""
+import collections
 import queue
 import threading
-from typing import Callable, Dict, List, Optional
+import time
+from typing import Callable, Deque, Dict, Optional
 
 from rdbg import record, replies
 from rdbg.failure import Failure
@@ -21,6 +23,8 @@ LEAST, MOST = 8, 1_024
 MOST_HEAP = 1_000
 # Of moves that were taken back so many are looked at.
 MOST_AHEAD = 1_000
+# A follower whose program ends is restarted, unless that happens so often within so many seconds.
+MAX_RESTARTS, RESTART_SECONDS = 5, 60.0
 # What doing the moves of a room anew can end with.
 WRONG = (Failure, Refused, Unable)
 Values = Dict[str, object]
@@ -40,6 +44,12 @@ class Follower:
         self._tell = tell
         self.lost: Optional[str] = None
         self._heap: "queue.SimpleQueue[Optional[Told]]" = queue.SimpleQueue()
+        # (lines taken from there that were not done yet, and how many were done and not shown yet)
+        self._due: Deque[Optional[Told]] = collections.deque()
+        self._count_unshown = 0
+        # (whether its program has ended, and when that happened the last times)
+        self._is_dead = False
+        self._deaths: Deque[float] = collections.deque(maxlen=MAX_RESTARTS)
         # How many lines were told, and were done.
         self.count_told = self.count_done = 0
         lines = room.follow(self.told)
@@ -87,7 +97,7 @@ class Follower:
 
     def _follow(self) -> None:
         try:
-            while self._look() or self._take(self._heap.get()):
+            while self._go_on():
                 pass
         except WRONG as wrong:
             with self.guard:
@@ -95,10 +105,35 @@ class Follower:
         finally:
             self._mirror.close()
 
+    def _go_on(self) -> bool:
+        """Looks at moves, or does what has come; false at the end. If its program has ended, it is
+        restarted, unless that happens too often."""
+        try:
+            if self._is_dead:
+                self._restart()
+            return self._look() or self._take()
+        except Differs:
+            raise
+        except Failure:
+            now = time.monotonic()
+            is_often = len(self._deaths) == MAX_RESTARTS
+            if self.lost or (is_often and now - self._deaths[0] < RESTART_SECONDS):
+                raise
+            self._deaths.append(now)
+            self._is_dead = True
+            return True
+
+    def _restart(self) -> None:
+        """Has a new program do what the one that ended did, and shows where the target is."""
+        self._mirror.restart()
+        self._is_dead = False
+        with self.guard:
+            self._show()
+
     def _look(self) -> bool:
         """Looks at a piece of the moves that aren't known yet; false where a line has come, or there
         is nothing to look at."""
-        if self.lost or not self._heap.empty():
+        if self.lost or self._due or not self._heap.empty():
             return False
         count = max(LEAST, min(self._mirror.count(SECONDS), MOST))
         piece = self.known.wanted(count, self._end)
@@ -110,33 +145,48 @@ class Follower:
             self._tell("more" if behind else "now", {**behind, **self._now()})
         return True
 
-    def _take(self, told: Optional[Told]) -> bool:
-        """Does a line, and those that have come since; false where the last has come."""
-        heap: List[Optional[Told]] = [told]
-        while not self._heap.empty() and len(heap) < MOST_HEAP:
-            heap.append(self._heap.get())
-        lines = [it for it in heap if it is not None]
+    def _take(self) -> bool:
+        """Does the lines that have come, once there are some; false at the end."""
+        if not self._due:
+            self._due.append(self._heap.get())
+        while not self._heap.empty() and len(self._due) < MOST_HEAP:
+            self._due.append(self._heap.get())
         with self.guard:
-            for it in lines:
-                self._do(it, len(lines) > HEAP)
-            is_there = self.known.has(self._mirror.place)
-            if not is_there and not self.known.find(self._mirror.place):
-                count = self.known.near(self._mirror.place, LAST)
-                self.known.jump(self._mirror.newest(count))
-            if not is_there or self.known.forget():
-                self._tell("run", {})
-            else:
-                self._tell("now", self._now())
-            self.count_done += len(lines)
-        return len(lines) == len(heap)
+            is_heap = len(self._due) > HEAP
+            while self._due and self._due[0] is not None:
+                self._do(self._due[0], is_heap)
+            self._show()
+        return not self._due
+
+    def _show(self) -> None:
+        """Tells pages where the target is, for the holder of the guard, with the moves before it if
+        those were not shown."""
+        is_there = self.known.has(self._mirror.place)
+        if not is_there and not self.known.find(self._mirror.place):
+            count = self.known.near(self._mirror.place, LAST)
+            self.known.jump(self._mirror.newest(count))
+        if not is_there or self.known.forget():
+            self._tell("run", {})
+        else:
+            self._tell("now", self._now())
+        self.count_done += self._count_unshown
+        self._count_unshown = 0
+
+    def _has_done(self) -> None:
+        """The program has done the first line that was due."""
+        self._due.popleft()
+        self._count_unshown += 1
 
     def _do(self, told: Told, is_heap: bool) -> None:
+        """Does the first line that is due, which is not due any more once the program has done it."""
         word = told.text.split(" ")[0]
         if word == record.TRIM:
+            self._has_done()
             self.known.trims = [*self.known.trims, [told.place, told.text]]
             self._tell("trims", {"trims": self.known.trims, **self._now()})
         elif word in (record.BACK, record.REDO):
             self._mirror.do(told)
+            self._has_done()
         else:
             self._make(told, is_heap)
 
@@ -148,6 +198,7 @@ class Follower:
         is_short = count <= max(1, min(self._mirror.count(SECONDS), SHORT))
         is_known = self.known.cut(here)
         self._mirror.do(told)
+        self._has_done()
         if is_known and is_short and not is_heap:
             part = self._mirror.part(here + 1, told.place)
             self._tell("more", {**self.known.add(part), **self._now()})

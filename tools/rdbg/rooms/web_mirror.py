@@ -97,10 +97,15 @@ class Mirror:
         return int(seconds / self._seconds)
 
     def _room(self, lines: int) -> None:
-        """Has a new program do what this one did where there is no room for so many lines."""
+        """Has a new program do what this one did if its history has no space for so many lines."""
         left = self._target.left()
         if left is None or left >= lines + 2 * RESERVE:
             return
+        self.restart()
+
+    def restart(self) -> None:
+        """Ends the program if it runs, and has a new one make the same moves. Raises `Failure` if
+        none can be started, and `Differs` if it does not come to the same place."""
         with contextlib.suppress(OSError):
             self._target.session.kill()
         self._target = begin(self._source, self._limits)
