@@ -1,5 +1,5 @@
 """Reports in JUnit's XML, which build servers read: of cases that are tried, and of a search."""
-from typing import Sequence, Tuple
+from typing import Iterable, Sequence, Tuple
 from xml.etree import ElementTree
 
 from rdbg.shown import shown
@@ -21,6 +21,14 @@ def case(
         ElementTree.SubElement(made, what, {"message": shown(why)})
     if lines:
         ElementTree.SubElement(made, "system-out").text = "\n".join(map(shown, lines))
+    return made
+
+
+def with_notes(made: ElementTree.Element, notes: Iterable[str]) -> ElementTree.Element:
+    """Adds notes to a case, as its `system-err`."""
+    text = "\n".join(map(shown, notes))
+    if text:
+        ElementTree.SubElement(made, "system-err").text = text
     return made
 
 

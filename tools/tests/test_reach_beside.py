@@ -8,7 +8,6 @@ import tempfile
 import unittest
 from typing import List, Tuple
 
-from rdbg.application import Application
 from rdbg.files.source import load, source
 from rdbg.main import main
 from rdbg.reaching import beside
@@ -132,50 +131,10 @@ class Come(InFolder):
 class Told(unittest.TestCase):
     """What is said of an answer."""
 
-    def application(self, script: str) -> Application:
-        """One of a task of this script, and one that waits without a deadline."""
-        text = (
-            "cores 1\nqueue q length 1 item 1\ntask u priority 1\n"
-            "recv q max\nend\ntask t priority 1\n"
-        )
-        found = source("x.fw", f"{text}{script}\n".encode())
-        assert found.application is not None, found.faults
-        return found.application
-
-    def test_a_task_that_never_rests(self) -> None:
-        for script, wanted in (
-            ("loop\nrecv q 20\nend", True),
-            ("loop\nwait 3\nend", True),
-            ("loop\nadd r1 1\nend", True),
-            ("loop\nrecv q 20\nrecv q max\nend", False),
-            ("loop\nrecv q 4294967295\nend", False),
-            ("loop\nrecv q r1\nend", False),
-            ("loop\nrecv q 20\nif r0\nend task\nend\nend", False),
-            # (what is behind a jump isn't come to)
-            ("x: recv q 20\njump x\nend", True),
-            ("wait 3..6\nend", False),
-        ):
-            with self.subTest(script):
-                task = self.application(script).tasks[1]
-                self.assertEqual(wanted, beside.never_rests(task))
-
-    def remarks(self, asked: str, answer: Answer, has_pace: bool = False) -> List[str]:
+    def remarks(self, answer: Answer, has_pace: bool = False) -> List[str]:
         """What is said of an answer about the text."""
         found = source("stop.fw", STOP.encode())
-        return [*beside.remarks(answer, found, ["button"], asked, has_pace, "--pace")]
-
-    def test_a_goal_that_never_holds(self) -> None:
-        note = (
-            "note: motor never waits without a deadline, so nothing is asleep before it fails: ask"
-            " for quiet as `waits TASK and ..`"
-        )
-        none = Answer(Kind.NONE)
-        for asked in ("asleep", "count cmds = 1 and asleep", "(asleep or ended motor)"):
-            self.assertEqual([note], self.remarks(asked, none), asked)
-        for asked in ("failed", "not asleep", "not (asleep or failed)"):
-            self.assertEqual([], self.remarks(asked, none), asked)
-        self.assertEqual([], self.remarks("asleep", Answer(Kind.REACHED)))
-        self.assertEqual([], self.remarks("asleep", Answer(Kind.NONE, title="lost at 3")))
+        return [*beside.remarks(answer, found, ["button"], has_pace, "--pace")]
 
     def test_an_order_of_many_ticks(self) -> None:
         note = "note: 6 of its 22 lines are ticks; `--pace 20..` makes them rare"
@@ -186,7 +145,7 @@ class Told(unittest.TestCase):
             (10, 10, False, []),
         ):
             answer = Answer(Kind.REACHED, order=("step 0",) * steps + ("tick",) * ticks)
-            self.assertEqual(wanted, self.remarks("failed", answer, has_pace))
+            self.assertEqual(wanted, self.remarks(answer, has_pace))
 
     def test_instructions_that_no_order_came_to(self) -> None:
         found = source("stop.fw", STOP.encode())
@@ -208,8 +167,8 @@ class Printed(InFolder):
         self.assertEqual((0, "never"), (status, said[0]))
         self.assertEqual([f"no order came to motor 2 ({self.file}:7)", WITHOUT], said[2:])
         said = self.said("reach", self.file, "asleep")[1]
-        self.assertEqual(["never", WITH], [said[0], said[2]])
-        self.assertTrue(said[3].startswith("note: motor never waits without a deadline"))
+        note = "note: vacuous: task motor never waits without a deadline"
+        self.assertEqual(["never", WITH, note], [said[0], *said[2:]])
 
     def test_the_prompt(self) -> None:
         with shell_talk.opened(load(self.file)) as shell:

@@ -18,7 +18,7 @@ from tests.searches import FAR, FOUND, FURTHER, KILLED, NEVER, SAID_FURTHER, SLE
 from tests.started import Started
 
 LOST = str(EXAMPLES / "lost_item.json")
-ASKED = (LOST, "asleep")
+ASKED = (LOST, "failed")
 LINES = """
 cores 1
 const STOP 1 << 0
@@ -55,7 +55,7 @@ class Answers(InFolder):
         with program(FOUND, end="exit 1") as it:
             words = ("--within", "50", "--exact", "--pace", "2..4", "-o", "out")
             said(*ASKED, *words, "--", "and failed")
-            wanted = f"--progress {LOST} asleep and failed --exact --pace 2..4 --"
+            wanted = f"--progress {LOST} failed and failed --exact --pace 2..4 --"
             self.assertEqual(wanted, it.words())
 
     def test_a_text_in_lines(self) -> None:

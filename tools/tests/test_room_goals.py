@@ -28,7 +28,7 @@ class Goals(unittest.TestCase):
 
     @unittest.skipUnless(real(), "no program that searches")
     def test_what_can_still_come(self) -> None:
-        lines = ("reach asleep", "forward 3", "trim 1", "reach failed", "reach reg poller 0 = 1")
+        lines = ("reach failed", "forward 3", "trim 1", "reach failed", "reach reg poller 0 = 1")
         meeting, *_ = self.said(str(EXAMPLES / "meeting.json"), "reach asleep")
         self.assertRegex(meeting, "^found: step 0; .*step [01]$")
         first, _, _, never, found = self.said(LOST, *lines)

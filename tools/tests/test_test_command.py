@@ -77,7 +77,7 @@ class Answers(InFolder):
         run = {"from": "run.commands", "goal": "ended client", "file": STOLEN}
         self.written("run.commands", "forward 100\n")
         status, output, errors = self.try_all(
-            {"file": STOLEN, "goal": "asleep", "expect": "never"},
+            {"file": STOLEN, "goal": "asleep", "expect": "never", "vacuous": True},
             {"file": STOLEN, "goal": "ended client", "question": "doomed", "expect": "found"},
             {**run, "question": "lost", "expect": "lost at 23"},
             {**run, "question": "lost", "expect": "lost at"},

@@ -250,7 +250,7 @@ class Words(unittest.TestCase):
 
     def test_reach_without_an_order(self) -> None:
         page = pathlib.Path(os.devnull)
-        status, errors = told("reach", str(LOST), "asleep", "--page", str(page))
+        status, errors = told("reach", str(LOST), "failed", "--page", str(page))
         wanted = f"rdbg reach: no order leads there, so {page} isn't written"
         self.assertEqual((0, [wanted]), (status, errors))
         status, errors = told("reach", str(LOST), "asleep", "--page", "-")

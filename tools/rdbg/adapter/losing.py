@@ -10,7 +10,7 @@ from rdbg.driving.walk import Walk
 from rdbg.failure import Failure, turned
 from rdbg.goals.claims import Goal
 from rdbg.goals.words import NOT_ASKED
-from rdbg.reaching import losing
+from rdbg.reaching import losing, vacuity
 from rdbg.reaching.asking import LOST, REACH, Asker, Question, ask_behind
 from rdbg.reaching.said import Answer, Kind
 from rdbg.shell.shell import Shell
@@ -38,6 +38,9 @@ class Loses(Begins):
             raise Wrong(AT_A_PORT)
         if asked is None:
             raise Wrong(NOT_ASKED)
+        empty = vacuity.vacuous(goal, shell.target.application)
+        if empty:
+            raise Wrong(f"{self.text} is never met: {empty.note}")
         self._shell, self._asked = shell, asked
         self._known: Dict[Tuple[str, ...], bool] = {}
         self.way = ""

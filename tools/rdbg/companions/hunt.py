@@ -19,10 +19,12 @@ from rdbg.hunting.interrupts import handlers
 from rdbg.hunting.search import Search
 from rdbg.hunting.stage import Find, Stage
 from rdbg.options import APPLICATION, Parser, bounded
-from rdbg.reaching import beside
+from rdbg.goals.scope import Scope
+from rdbg.reaching import beside, vacuity
 from rdbg.reaching.asking import CTRL_C, LOST, QUESTIONS, REACH, Asker, NoQuestion
 from rdbg.reaching.handlers import OPTION, TIMES
 from rdbg.reaching.said import Answer, Bound, Kind
+from rdbg.reaching.vacuity import Vacuous
 from rdbg.replies import Refused
 
 SUMMARY = "looks for an order of moves that comes to a goal, with the fewest surprises"
@@ -170,8 +172,9 @@ class Hunt:
 
         source, goal, stage = self.source, self.goal.text, self.stage
         found = [reports.found(source, goal, stage, it.lines, it.told) for it in self.finds]
+        empty = [reports.vacuous(source, goal, it) for it in [self.vacuous()] if it]
         results = found or [reports.none(source, goal, self.search.left())]
-        reports.write(self.given.report, source.path, goal, results, self.given.expect)
+        reports.write(self.given.report, source.path, goal, results + empty, self.given.expect)
 
     def say(self, file: IO[str], out: IO[str]) -> None:
         """Prints the lines of what was found, and what is said."""
@@ -180,7 +183,20 @@ class Hunt:
             lines = report.lines_of(self.goal, [*filter(None, [self.own]), *self.finds])
             print(*lines, sep="\n", file=file, flush=True)
         print(*said, sep="\n", file=out, flush=True)
+        empty = self.vacuous()
+        if empty:
+            print(empty.note, file=sys.stderr, flush=True)
         self._write_page()
+
+    def vacuous(self) -> Optional[Vacuous]:
+        """Returns why the answer is vacuous, if it is."""
+        if self.goal.compares:
+            return None
+        question = self.search.question
+        words = " ".join(self.given.goal).split()
+        goal = " ".join(words[words[:1] == [question.word] :])
+        answer = Answer(Kind.REACHED) if self.finds else self.search.left()
+        return vacuity.find(Scope.of(self.source), goal, question, answer)
 
     def _said(self) -> List[str]:
         """What is said."""
@@ -195,9 +211,8 @@ class Hunt:
                 said += report.smaller(search.none)
             elif search.is_all or search.untold():
                 said += report.others(left)
-        asked = "" if self.goal.compares else self.goal.asked
         has_pace = self.given.pace is not None
-        more = beside.remarks(answer, self.source, self.given.isr, asked, has_pace, "--pace")
+        more = beside.remarks(answer, self.source, self.given.isr, has_pace, "--pace")
         return [*said, *more]
 
     def _write_page(self) -> None:

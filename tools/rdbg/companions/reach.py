@@ -15,10 +15,11 @@ from rdbg.files.source import LINES, Source, load
 from rdbg.goals.reading import NoGoal
 from rdbg.goals.scope import Scope
 from rdbg.goals.words import for_search
-from rdbg.reaching import beside, running, said
+from rdbg.reaching import beside, running, said, vacuity
 from rdbg.reaching.asking import DOOMED, LOST as LOST_AT, REACH, STOPPED, Question, program
 from rdbg.reaching.handlers import handlers, told as told_of
 from rdbg.reaching.said import UNTOLD, Answer
+from rdbg.reaching.vacuity import Vacuous
 from rdbg.reaching.words import DEFINE, LOST, OUTPUT, PACE, PAGE, PROGRESS, REPORT, WITHIN
 from rdbg.reaching.words import Words, read
 from rdbg.replies import Refused
@@ -46,19 +47,24 @@ def check_output(asked: Words) -> None:
                 raise Failure(f"{option} {path} is {file} itself, which would be lost", 2)
 
 
-def with_remarks(asked: Words, output: str, answer: Answer, source: Source, goal: str) -> str:
+def with_remarks(asked: Words, output: str, answer: Answer, source: Source) -> str:
     """What the program answers as it is told: of a text in lines the instructions that no order
     came to stand there with their lines, and behind it what there is to say of it."""
     if not source.path.endswith(LINES):
         return output
     kept = [it for it in output.splitlines() if not said.MISSED.fullmatch(it)]
     texts, has_pace = asked.interrupts(), asked.value(PACE) is not None
-    more = beside.remarks(answer, source, texts, goal, has_pace, PACE)
+    more = beside.remarks(answer, source, texts, has_pace, PACE)
     told = (*kept, *beside.missed(answer, source), *more)
     return "".join(f"{line}\n" for line in told)
 
 
-def say(asked: Words, outcome: running.Outcome, source: Optional[Source], goal: str) -> int:
+def vacuous(asked: Words, answer: Answer, source: Source) -> Optional[Vacuous]:
+    """Returns why an answer is vacuous, if it is."""
+    return vacuity.find(Scope.of(source), asked.goal(), question_of(asked), answer)
+
+
+def say(asked: Words, outcome: running.Outcome, source: Optional[Source]) -> int:
     """Says what came of a search for a goal, and answers the exit status."""
     output, status, is_reach = outcome.output, outcome.status, question_of(asked) is REACH
     known = said.stopped(outcome.last, asked.surprises(), STOPPED, is_reach)
@@ -78,8 +84,11 @@ def say(asked: Words, outcome: running.Outcome, source: Optional[Source], goal: 
                 file.writelines(f"{line}\n" for line in answer.order)
     finally:
         # (what was found isn't lost where it can't be written)
-        sys.stdout.write(with_remarks(asked, output, answer, source, goal))
+        sys.stdout.write(with_remarks(asked, output, answer, source))
     sys.stdout.flush()
+    found = vacuous(asked, answer, source)
+    if found:
+        print(found.note, file=sys.stderr)
     if not outcome.is_stopped:
         write_page(asked, answer, source)
     write_report(asked, answer, source)
@@ -93,12 +102,14 @@ def write_report(asked: Words, answer: Answer, source: Source) -> None:
     from rdbg.hunting import reports  # (which takes its time)
 
     found = reports.of_answer(source, asked.goal(), answer)
-    reports.write(asked.own[REPORT], source.path, asked.goal(), [found])
+    empty = vacuous(asked, answer, source)
+    more = [reports.vacuous(source, asked.goal(), empty)] if empty else []
+    reports.write(asked.own[REPORT], source.path, asked.goal(), [found, *more])
 
 
 @contextlib.contextmanager
-def in_its_words(asked: Words) -> Iterator[Tuple[Words, Optional[Source], str]]:
-    """The program's words, the file, and the goal as the program has it: a text in lines as JSON,
+def in_its_words(asked: Words) -> Iterator[Tuple[Words, Optional[Source]]]:
+    """The program's words, and the file: a text in lines as JSON, the goal as the program has it,
     and the interrupts that it names. Raises `Failure` where there is no goal in them. A file that
     can't be read is the program's to refuse."""
     file, *goal = asked.plain()
@@ -108,19 +119,19 @@ def in_its_words(asked: Words) -> Iterator[Tuple[Words, Optional[Source], str]]:
     except Failure:
         if asked.consts:
             raise
-        yield asked, None, ""
+        yield asked, None
         return
     if source.application is None:
         if file.endswith(LINES):
             raise Failure(f"{file}:{source.faults[0]}; {file} {source.refused()}", UNTOLD)
-        yield asked, None, ""
+        yield asked, None
         return
     with turned(of_words, NoGoal, of="goal"):
         told = for_search(goal, Scope.of(source))[1] if goal else ""
     application = source.application
     named = asked.with_interrupts(lambda texts: handlers(texts, application))
     with source.as_json() as path:
-        yield named.put(path, told), source, told
+        yield named.put(path, told), source
 
 
 def become_engine(asked: Words, words: Sequence[str]) -> NoReturn:
@@ -138,7 +149,7 @@ def become_engine(asked: Words, words: Sequence[str]) -> NoReturn:
 
 def unlinked(asked: Words) -> List[str]:
     """The words of the program as an engine, whose JSON is in no folder once it has begun."""
-    with in_its_words(asked) as (told, source, _):
+    with in_its_words(asked) as (told, source):
         coming = told_of(asked.interrupts(), source.application if source else None)
         if coming:
             print(f"rdbg reach: {coming}", file=sys.stderr)
@@ -167,7 +178,9 @@ def write_page(asked: Words, answer: Answer, source: Source) -> None:
     order = answer.order if question is LOST_AT else ()
     try:
         told = told_of(asked.interrupts(), source.application)
-        page_of(source, lines, path, lambda at: asked_of(question, goal, answer, at, order, told))
+        empty = vacuous(asked, answer, source)
+        more = (told, empty.note if empty else "")
+        page_of(source, lines, path, lambda at: asked_of(question, goal, answer, at, order, more))
     except Unable as unable:
         raise Failure(str(unable), 2) from None
     except Refused as refused:
@@ -186,9 +199,9 @@ def main(words: Sequence[str]) -> int:
         become_engine(asked, unlinked(asked) if is_made else words)
     check_output(asked)
     try:
-        with in_its_words(asked) as (told, source, goal):
+        with in_its_words(asked) as (told, source):
             words = [program(), PROGRESS, *told.program]
-            status = say(asked, running.run(words, asked.seconds), source, goal)
+            status = say(asked, running.run(words, asked.seconds), source)
         sys.stdout.flush()
         return status
     except OSError as error:

@@ -38,6 +38,7 @@ def parser() -> Parser:
     parts = "the Kth of N parts of the cases alone, so that N machines try all"
     made.word("--part", "K/N", parts, type=part, default=(1, 1))
     made.word("--report", "FILE", "writes what became of them as JUnit's XML")
+    made.flag("--strict", 'a vacuous answer is wrong, unless the case has "vacuous": true')
     return made
 
 
@@ -62,9 +63,11 @@ def draw(text: str, stream: IO[str]) -> None:
         print(f"\r\x1b[K{text}", end="", file=stream, flush=True)
 
 
-def results_of(folder: str, found: Sequence[Case], jobs: int) -> Iterator[Tuple[Case, Result]]:
+def results_of(
+    folder: str, found: Sequence[Case], jobs: int, is_strict: bool = False
+) -> Iterator[Tuple[Case, Result]]:
     """What becomes of the cases, one after the other; a line says meanwhile which is waited for."""
-    work = functools.partial(tried, folder)
+    work = functools.partial(tried, folder, is_strict)
     answers = side_by_side(lambda: contextlib.nullcontext(work), found, jobs)
     for done, case in enumerate(found):
         draw(f"{done} of {len(found)} done, waiting for {case.file}"[:78], sys.stderr)
@@ -73,36 +76,60 @@ def results_of(folder: str, found: Sequence[Case], jobs: int) -> Iterator[Tuple[
         yield case, result
 
 
+def why_wrong(case: Case, result: Result, joined: str) -> str:
+    """Returns what came, and why that is wrong; `joined` stands between what was expected and
+    came."""
+    if not case.is_met(result.came):
+        return f"{case.expect} was expected{joined}{result.came} came"
+    if result.vacuous:
+        return f"{result.came}, but {result.vacuous.text}"
+    return f"{result.came}, but it isn't vacuous, as was expected"
+
+
+def warning_of(file: str, case: Case, result: Result) -> str:
+    """Returns the warning that an answer is vacuous, if it is and the case does not expect it."""
+    if result.vacuous is None or case.vacuous:
+        return ""
+    what = f"{case.file}: {case.question} {case.goal}: {result.vacuous.note}"
+    return f'{file}:{case.place}: warning: {what} (add "vacuous": true if that is intended)'
+
+
 def said_of(case: Case, result: Result) -> Iterator[str]:
     """What is said of a case."""
-    what = f"{case.file}: {case.question} {case.goal}: {case.expect}"
+    what = f"{case.file}: {case.question} {case.goal}: "
     if result.verdict is Verdict.WRONG:
-        what += f" was expected; {result.came} came"
+        what += why_wrong(case, result, "; ")
     elif result.verdict is Verdict.REFUSED:
-        what += f": {result.came}"
-    elif result.came != case.expect:
+        what += f"{case.expect}: {result.came}"
+    else:
         # (what is expected can be less than what came)
-        what += f", {result.came}"
+        what += case.expect if result.came == case.expect else f"{case.expect}, {result.came}"
+        what += ", vacuous as expected" if case.vacuous else ""
     what += f", {result.beside}" if result.beside else ""
     yield f"{result.verdict.value:<6} {what} ({result.seconds:.1f} s)"
     if result.verdict is Verdict.WRONG:
         yield from (f"       {line}" for line in result.told)
 
 
-# What a case has in a report, and why.
+# What a case has in a report.
 ELEMENTS = {
-    Verdict.OK: (junit.AS_EXPECTED, ""),
-    Verdict.WRONG: (junit.FAILURE, "{expect} was expected, and {came} came"),
-    Verdict.REFUSED: (junit.ERROR, "refused: {came}"),
+    Verdict.OK: junit.AS_EXPECTED,
+    Verdict.WRONG: junit.FAILURE,
+    Verdict.REFUSED: junit.ERROR,
 }
 
 
-def element(case: Case, result: Result) -> ElementTree.Element:
-    """A case."""
-    name, (what, why) = f"{case.question} {case.goal}: {case.expect}", ELEMENTS[result.verdict]
-    wrong = what, why.format(expect=case.expect, came=result.came)
+def element(case: Case, result: Result, warning: str) -> ElementTree.Element:
+    """A case, with the warning or the note that its answer is vacuous."""
+    name = f"{case.question} {case.goal}: {case.expect}"
+    is_wrong = result.verdict is Verdict.WRONG
+    why = why_wrong(case, result, ", and ") if is_wrong else f"refused: {result.came}"
     told = [result.came, *result.told] if result.told else []
-    return junit.case(case.file, name, wrong, told, time=f"{result.seconds:.3f}")
+    wrong = (ELEMENTS[result.verdict], why)
+    made = junit.case(case.file, name, wrong, told, time=f"{result.seconds:.3f}")
+    return junit.with_notes(
+        made, filter(None, [warning or (result.vacuous and result.vacuous.note)])
+    )
 
 
 @turned(of_words, Failure)
@@ -117,16 +144,21 @@ def test(given: argparse.Namespace) -> int:
     asking.program()
     client.program()
     tried: List[Tuple[Case, Result]] = []
-    for case, result in results_of(os.path.dirname(file), found, given.jobs):
+    folder = os.path.dirname(file)
+    for case, result in results_of(folder, found, given.jobs, given.strict):
         tried.append((case, result))
         print(*said_of(case, result), sep="\n", flush=True)
+        warning = warning_of(file, case, result)
+        if warning:
+            print(warning, file=sys.stderr, flush=True)
     counts = {it: sum(result.verdict is it for _, result in tried) for it in Verdict}
     each = ", ".join(f"{count} {it.value}" for it, count in counts.items() if count)
     print(f"{counted(len(tried), 'case')}: {each or 'none in this part'}", flush=True)
     if given.report is not None:
         took = sum(it.seconds for _, it in tried)
         with whole_file.written(given.report) as out:
-            out.write(junit.document(file, [element(*it) for it in tried], time=f"{took:.3f}"))
+            made = [element(*it, warning_of(file, *it)) for it in tried]
+            out.write(junit.document(file, made, time=f"{took:.3f}"))
     if counts[Verdict.REFUSED]:
         return NONE
     return OTHERWISE if counts[Verdict.WRONG] else AS_EXPECTED

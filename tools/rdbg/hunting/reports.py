@@ -16,6 +16,7 @@ from rdbg.effects import Move
 from rdbg.files.source import Source
 from rdbg.hunting.stage import Stage
 from rdbg.reaching.said import Answer, Kind
+from rdbg.reaching.vacuity import Vacuous
 from rdbg.tree import Place
 from rdbg.wording import counted
 
@@ -24,7 +25,7 @@ SCHEMA = "https://json.schemastore.org/sarif-2.1.0.json"
 VERSION = "2.1.0"
 # How what rdbg says of itself begins, where its version is known.
 NUMBERED = re.compile(r"rdbg (\d+\.\d+\.\d+)\b")
-RULE = "goal-reached"
+RULE, VACUOUS = "goal-reached", "goal-vacuous"
 RULES = [
     {
         "id": RULE,
@@ -33,7 +34,15 @@ RULES = [
             "text": "Some order of the moves of tasks, ticks and interrupts leads to where the goal"
             " is so. Its moves are the code flow."
         },
-    }
+    },
+    {
+        "id": VACUOUS,
+        "shortDescription": {"text": "a goal can never hold, whatever the tasks do"},
+        "fullDescription": {
+            "text": "The goal needs all tasks to rest, and some task never ends and never waits"
+            " without a deadline. That no run reaches the goal says nothing about the application."
+        },
+    },
 ]
 # So many moves of an order are told at the most.
 MOST_MOVES = 1_000
@@ -50,10 +59,10 @@ def physical(path: str, place: Optional[Place]) -> Values:
     return found
 
 
-def result(kind: str, level: str, text: str, place: Values) -> Values:
+def result(kind: str, level: str, text: str, place: Values, rule: str = RULE) -> Values:
     """What a search has come to, and where."""
     where = {"message": {"text": text}, "locations": [{"physicalLocation": place}]}
-    return {"ruleId": RULE, "kind": kind, "level": level, **where}
+    return {"ruleId": rule, "kind": kind, "level": level, **where}
 
 
 def step(source: Source, move: Move) -> Values:
@@ -86,6 +95,12 @@ def none(source: Source, goal: str, answer: Answer) -> Values:
     kind = PASS if answer.kind is Kind.NONE else OPEN
     said = f"{goal}: {answer.head()}" + (f"; {answer.why}" if answer.why else "")
     return result(kind, "none", said, physical(source.path, None))
+
+
+def vacuous(source: Source, goal: str, found: Vacuous) -> Values:
+    """Returns the warning that a goal is vacuous, at the task that never rests."""
+    place = physical(source.path, found.task.place)
+    return result(FAIL, "warning", f"{goal}: {found.note}", place, VACUOUS)
 
 
 def as_sarif(said: Sequence[Values]) -> str:
@@ -124,11 +139,14 @@ def told(result: Values) -> Iterator[str]:
 
 def case(file: str, goal: str, results: Sequence[Values], expect: str) -> ElementTree.Element:
     """A search as a case: a failure where it isn't as expected, an error where it is open."""
-    kinds = {it["kind"] for it in results}
+    own = [it for it in results if it["ruleId"] == RULE]
+    notes = [it["message"]["text"] for it in results if it["ruleId"] == VACUOUS]
+    kinds = {it["kind"] for it in own}
     otherwise = junit.FAILURE if (FAIL in kinds) != (expect == FOUND) else junit.AS_EXPECTED
     what = junit.ERROR if kinds == {OPEN} else otherwise
-    lines = [line for result in results for line in told(result)]
-    return junit.case(file, f"{goal}: {expect}", (what, results[0]["message"]["text"]), lines)
+    lines = [line for result in own for line in told(result)]
+    made = junit.case(file, f"{goal}: {expect}", (what, own[0]["message"]["text"]), lines)
+    return junit.with_notes(made, notes)
 
 
 def write(

@@ -15,7 +15,7 @@ from rdbg.failure import Failure
 from rdbg.goals.reading import NoGoal
 from rdbg.goals.scope import Scope
 from rdbg.goals.words import for_search, sought
-from rdbg.reaching import handlers, losing
+from rdbg.reaching import handlers, losing, vacuity
 from rdbg.reaching.asking import Asker, Question, ask_behind
 from rdbg.replies import Refused
 from rdbg.rooms.quiet import SECONDS, Patience
@@ -40,12 +40,15 @@ def answered(room: Room, question: Question, goal: Sequence[str]) -> str:
     options = ("--memory", str(MEBIBYTES))
     asker = Asker(source.path, options, time.monotonic() + SECONDS)
     try:
-        _, asked = for_search(goal, Scope.of(source))
+        scope = Scope.of(source)
+        _, asked = for_search(goal, scope)
         answer = ask_behind(source, lines, question, asked, asker=asker)
         said = losing.in_one(question, answer, source, lines)
     except Failure as failure:
         return f"no: {failure}"
-    return "; ".join(filter(None, [said, handlers.told((), source.application)]))
+    empty = vacuity.find(scope, " ".join(goal), question, answer)
+    more = (handlers.told((), source.application), empty.note if empty else "")
+    return "; ".join(filter(None, [said, *more]))
 
 
 class Typed(NamedTuple):

@@ -6,7 +6,7 @@ from rdbg.driving import trail
 from rdbg.driving.target import Unable
 from rdbg.failure import Failure, turned
 from rdbg.goals import words as goal_words
-from rdbg.reaching import beside, losing
+from rdbg.reaching import beside, losing, vacuity
 from rdbg.reaching.asking import LOST, Question, ask_behind
 from rdbg.reaching.handlers import WORD
 from rdbg.reaching.said import Answer
@@ -63,7 +63,9 @@ def asked(
         with shell.interrupt.at_prompt():
             answer = ask_behind(source, lines, question, words, names, pace)
     more = [*beside.missed(answer, source)]
-    more += beside.remarks(answer, source, names, words, bool(pace), "pace")
+    more += beside.remarks(answer, source, names, bool(pace), "pace")
+    empty = vacuity.find(shell.scope(), goal, question, answer)
+    more += [empty.note] if empty else []
     if question is LOST and any(line.split(" ")[0] == WORD for line in lines):
         more.append("note: from each place on interrupts may come as if none had come yet")
     return answer, more

@@ -12,7 +12,7 @@ from rdbg.goals.claims import Goal, Holds, SomeFailed, Stuck
 from rdbg.goals.reading import NoGoal
 from rdbg.goals.scope import Scope
 from rdbg.goals.ways import AnyOf, To, Wakes, Way, is_so, is_stuck
-from rdbg.reaching.beside import never_rests
+from rdbg.reaching.vacuity import never_rests
 from rdbg.replies import Refused
 from rdbg.shell.shell import Shell
 from rdbg.shell.views import check_instruction, phase_text

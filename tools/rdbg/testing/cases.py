@@ -35,7 +35,8 @@ class Wrong(Exception):
 
 class Case(NamedTuple):
     """A case: its place in the file, the application, the goal, the question, with the options of
-    `reach`, what is expected, and how many seconds that may take."""
+    `reach`, the expected answer, how many seconds that may take, and whether the answer is expected
+    to be vacuous."""
 
     place: Place
     file: str
@@ -51,6 +52,7 @@ class Case(NamedTuple):
     states: Optional[int] = None
     memory: Optional[int] = None
     within: float = WITHIN
+    vacuous: bool = False
 
     def options(self, folder: str) -> Tuple[str, ...]:
         """The words of the search that say where it begins, at which pace, and what it may keep."""
@@ -112,6 +114,13 @@ def limit(node: Node) -> float:
     return found
 
 
+def true_or_false(node: Node) -> bool:
+    """Reads `true` or `false`."""
+    if not isinstance(node.value, bool):
+        raise Wrong("true or false")
+    return node.value
+
+
 @dataclasses.dataclass(frozen=True)
 class Between:
     """Reads a number within limits."""
@@ -137,6 +146,7 @@ class Key(NamedTuple):
 
 
 BILLION = 1_000_000_000
+VACUOUS = "whether the goal is expected to be vacuous: some task never waits without a deadline"
 ISR = "the interrupts that may come, by name or by their calls, else all of a text"
 # Each is one row.
 KEYS = (
@@ -153,6 +163,7 @@ KEYS = (
     Key("states", "how many states are kept", Between(1, BILLION)),
     Key("memory", "for how many mebibytes states are kept", Between(1, 1_048_576)),
     Key("within", f"how many seconds it may take, {WITHIN:.0f} by itself", limit),
+    Key("vacuous", VACUOUS, true_or_false),
 )
 NAMES = tuple(key.name for key in KEYS)
 

@@ -23,6 +23,7 @@ VALUES: Dict[Callable[[Node], Any], Schema] = {
     cases.a_pace: {"type": "string", "pattern": f"^{PACE.pattern}$"},
     cases.consts: {"type": "array", "items": {"type": "string", "pattern": "^\\w+=."}},
     cases.limit: {"type": "number", "exclusiveMinimum": 0},
+    cases.true_or_false: {"type": "boolean"},
 }
 
 

@@ -4,19 +4,22 @@ import enum
 import io
 import os
 import time
-from typing import Iterator, NamedTuple, Tuple
+from typing import Iterator, NamedTuple, Optional, Tuple
 
 from rdbg.driving.target import Unable
 from rdbg.failure import Failure
 from rdbg.files.definitions import definition
 from rdbg.files.source import load
+from rdbg.goals.scope import Scope
 from rdbg.hunting import report
 from rdbg.hunting.goals import DIFFERS, Goal, read as read_goal
 from rdbg.hunting.interrupts import handlers
 from rdbg.hunting.stage import Stage
+from rdbg.reaching import vacuity
 from rdbg.reaching.asking import LOST, QUESTIONS, Asker
 from rdbg.reaching.handlers import told as told_of_interrupts
 from rdbg.reaching.said import Answer, Bound
+from rdbg.reaching.vacuity import Vacuous
 from rdbg.replies import Refused
 from rdbg.testing.cases import Case
 
@@ -31,14 +34,20 @@ class Verdict(enum.Enum):
 
 class Result(NamedTuple):
     """A case that was tried: what became of it, the first line of the answer or why there is none,
-    how long it took, what is told of it: the order, or what was gone through; and which interrupts
-    of the text came without being named, or were left out."""
+    how long it took, what is told of it: the order, or what was gone through; which interrupts of
+    the text came without being named, or were left out; and why the answer is vacuous, if it is."""
 
     verdict: Verdict
     came: str
     seconds: float
     told: Tuple[str, ...] = ()
     beside: str = ""
+    vacuous: Optional[Vacuous] = None
+
+    def is_as_expected(self, case: Case, is_strict: bool) -> bool:
+        """Whether the answer is vacuous if that is expected, and only then if `is_strict`."""
+        is_vacuous = self.vacuous is not None
+        return is_vacuous if case.vacuous else not (is_strict and is_vacuous)
 
 
 def prepared(case: Case, folder: str) -> Tuple[Stage, Goal]:
@@ -86,8 +95,9 @@ def order_of(case: Case, stage: Stage, goal: Goal, answer: Answer) -> Iterator[s
         yield from ("lines:", *report.lines_of(goal, [find]))
 
 
-def tried(folder: str, case: Case) -> Result:
-    """What becomes of a case. What the program says besides is why it has refused one."""
+def tried(folder: str, is_strict: bool, case: Case) -> Result:
+    """What becomes of a case. What the program says besides is why it has refused one. If
+    `is_strict`, an answer that is vacuous and isn't expected to be is wrong."""
     began = time.monotonic()
     said = io.StringIO()
     try:
@@ -101,6 +111,9 @@ def tried(folder: str, case: Case) -> Result:
     except (Failure, Refused, Unable) as failure:
         why = str(failure) or " ".join(said.getvalue().split())
         return Result(Verdict.REFUSED, why, time.monotonic() - began)
-    verdict = Verdict.OK if case.is_met(answer.head()) else Verdict.WRONG
     beside = told_of_interrupts(case.isr, stage.application)
-    return Result(verdict, answer.head(), took, tuple(told), beside)
+    scope = Scope.of(stage.source)
+    vacuous = vacuity.find(scope, case.goal, QUESTIONS[case.question], answer)
+    result = Result(Verdict.OK, answer.head(), took, tuple(told), beside, vacuous)
+    is_ok = case.is_met(answer.head()) and result.is_as_expected(case, is_strict)
+    return result if is_ok else result._replace(verdict=Verdict.WRONG)

@@ -22,7 +22,7 @@ from rdbg.goals.scope import Scope
 from rdbg.goals.words import for_search, read
 from rdbg.looks import Names
 from rdbg.page.recorder import Recorder
-from rdbg.reaching import losing
+from rdbg.reaching import losing, vacuity
 from rdbg.reaching.asking import LOST, QUESTIONS, REACH, Question, ask_behind
 from rdbg.reaching.handlers import told as told_of
 from rdbg.reaching.said import Answer
@@ -73,14 +73,22 @@ def ask(text: str, source: Optional[Source], told: Sequence[Told]) -> Answered:
     return question, " ".join(goal), ask_behind(source, lines, question, words_asked), lines
 
 
+def remarks(question: Question, goal: str, answer: Answer, source: Optional[Source]) -> List[str]:
+    """Returns the remarks on an answer. A note that it is vacuous goes to standard error as well."""
+    found = vacuity.find(Scope.of(source), goal, question, answer)
+    if found:
+        print(found.note, file=sys.stderr)
+    coming = told_of((), source.application if source else None)
+    return [it for it in (coming, found.note if found else "") if it]
+
+
 def of_page(text: str, source: Optional[Source], told: Sequence[Told]) -> Asked:
     """The answer as a page has it."""
     question, goal, answer, lines = ask(text, source, told)
     is_whole = question is LOST and answer.order
     order = (*lines, *answer.order) if is_whole else answer.order
     place = told[-1].place if told else 0
-    beside = told_of((), source.application if source else None)
-    return asked(question, goal, answer, place, order, beside)
+    return asked(question, goal, answer, place, order, remarks(question, goal, answer, source))
 
 
 def lost_in(text: str, source: Optional[Source], told: Sequence[Told]) -> Lost:
@@ -88,9 +96,9 @@ def lost_in(text: str, source: Optional[Source], told: Sequence[Told]) -> Lost:
     _, goal, answer, lines = ask(text, source, told)
     assert source is not None
     said, loss = losing.in_one(LOST, answer, source, lines), losing.loss_of(answer)
-    beside = told_of((), source.application)
+    beside = [f" ({it})" for it in remarks(LOST, goal, answer, source)]
     place = loss.place or None if loss else None
-    return Lost(goal, said + (f" ({beside})" if beside else ""), place)
+    return Lost(goal, said + "".join(beside), place)
 
 
 STANDARD_INPUT = "-"

@@ -58,10 +58,10 @@ def asked(
     answer: Answer,
     place: int,
     order: Sequence[str] = (),
-    beside: str = "",
+    beside: Sequence[str] = (),
 ) -> Asked:
-    """A question about a goal, asked at a place, or of the run up to there, with what was answered
-    and is said beside it. The order of the answer is shown where it isn't the run of the page."""
+    """A question about a goal, asked at a place, or of the run up to there, with its answer and the
+    remarks `beside` it. The order of the answer is shown if it isn't the run of the page."""
     loss = loss_of(answer) if question is LOST else None
     lost = loss.place if loss else None
     own = f"the order of this page, to place {place},"
@@ -76,5 +76,5 @@ def asked(
     else:
         said = of_reach(answer, place, shown)
     at = lost if question is LOST else place
-    more = (f"({beside})",) if beside else ()
+    more = (f"({it})" for it in beside if it)
     return Asked(f"{question.word} {goal}", (said, *more), at, lost, tuple(order))
