@@ -2,13 +2,16 @@
 import contextlib
 import pathlib
 import tempfile
+import threading
 import time
 import unittest
 from typing import Iterator, List
 from unittest import mock
 
-from rdbg.adapter.debugger import Debugger
-from tests.dap_client import Client, editor
+from rdbg.adapter.debugger import Debugger, Progress
+from rdbg.adapter.messages import Arguments
+from rdbg.adapter.server import Server
+from tests.dap_client import PATIENCE, Client, editor
 from tests.dap_schema import Held
 from tests.paths import EXAMPLES
 from tests.test_dap_breakpoints import LOOP
@@ -149,6 +152,28 @@ class Ends(InFile):
                 client.ask("cancel", requestId=waiting)
                 client.ask("pause", threadId=2)
                 self.assertEqual(client.answer(waiting)["message"], "cancelled")
+
+    def test_what_waits_is_cancelled_before_the_run_has_begun(self) -> None:
+        begin, cancel, is_read = Progress.begin, Server._cancel, threading.Event()
+
+        def begin_late(progress: Progress) -> None:
+            is_read.wait(PATIENCE)
+            begin(progress)
+
+        def read(server: Server, given: Arguments) -> None:
+            cancel(server, given)
+            is_read.set()
+
+        with editor() as client, contextlib.ExitStack() as stack:
+            client.begin(EXAMPLES / "turns.json", limit=1_000_000)
+            client.ask("setFunctionBreakpoints", breakpoints=[{"name": "tick = 4000000000"}])
+            stack.enter_context(mock.patch.object(Progress, "begin", begin_late))
+            stack.enter_context(mock.patch.object(Server, "_cancel", read))
+            client.ask("continue", threadId=2)
+            waiting = client.send("evaluate", expression="where", context="repl")
+            client.ask("cancel", requestId=waiting)
+            client.ask("pause", threadId=2)
+            self.assertEqual(client.answer(waiting).get("message"), "cancelled")
 
     def test_something_typed_is_cancelled(self) -> None:
         with editor() as client:

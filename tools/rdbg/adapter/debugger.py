@@ -32,7 +32,7 @@ MOMENT = 1.0
 
 
 class Progress:
-    """How far the run is that goes on. An editor ends it by its name."""
+    """How far the run is that goes on. An editor ends it by its name; without a run there is none."""
 
     def __init__(self, send: Callable[[Values], None]) -> None:
         self._send, self._numbers, self._next = send, itertools.count(1), 0.0
@@ -62,6 +62,7 @@ class Progress:
         if self._is_shown:
             self._is_shown = False
             self._send(event("progressEnd", {"progressId": self.name}))
+        self.name = ""
 
 
 # Of a run of more moves than MANY the last FEW are told.

@@ -117,11 +117,14 @@ class Server:
             self._asked.put(HEARD)
 
     def _cancel(self, given: Arguments) -> None:
-        """Ends what a request to cancel names, or sees to it that it isn't begun."""
+        """Ends the run or the request that a request to cancel names. A request that still waits
+        is not begun."""
         with contextlib.suppress(Wrong):
             number, name = given.number("requestId", 0), given.text("progressId", "")
             it = self.debugger
-            if number == self._at_work != 0 or (it.is_running and name == it.progress.name):
+            # (a run has no name before it begins: a request to cancel without one doesn't mean it)
+            is_run_named = it.is_running and name != "" and name == it.progress.name
+            if number == self._at_work != 0 or is_run_named:
                 it.pause.ask()
             elif number and len(self._cancelled) < MOST_WAITING:
                 self._cancelled.add(number)
