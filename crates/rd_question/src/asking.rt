@@ -247,11 +247,11 @@ pub(crate) fn respond<W: Write, E: Write>(
     }
 }
 
-/// Answers a question about an application file as `respond` does, and writes the answer in large
-/// pieces, all of it before this returns.
+/// Answers a question about an application file as `respond` does. The answer is buffered, and all
+/// of it is written before this returns.
 ///
-/// Errors: those of `respond`; `File` if there is no application, `Lines` if there are no command
-/// lines.
+/// Errors: those of `respond`, `File` if the file has no application, `Lines` if there are no
+/// command lines.
 pub(crate) fn ask<H: Files + AllocGlobal, W: Write, E: Write>(
     handle: &H,
     question: &Question<'_>,
