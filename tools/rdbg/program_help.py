@@ -26,11 +26,12 @@ Options:
 REACH = """\
 Answers what can still come in a model of a FreeRTOS application
 
-Usage: rdbg reach [OPTIONS] <FILE> [GOAL]...
+Usage: rdbg reach [OPTIONS] <FILE> <GOAL>...
+       rdbg reach [OPTIONS] <FILE> --engine
 
 Arguments:
   <FILE>     The application file, JSON or in lines (.fw)
-  [GOAL]...  What is looked for, as one word or several: 'count q = 2 and not asleep'
+  <GOAL>...  What is looked for, as one word or several: 'count q = 2 and not asleep'
 
 Options:
       --lost              Where the run of --from lost the goal: the point of no return
@@ -53,12 +54,13 @@ Options:
   -o <OUT>                Where the order that is found goes, too, as lines that rdbg run takes
       --page <OUT.html>   Writes the order that is found, or the run of --lost, as one page of HTML
       --report <FILE>     Writes what came of it as SARIF, or where FILE ends in .xml as JUnit's XML
+      --engine            Answer the lines of standard input, in place of a goal
   -h, --help              Print help
 
 The first line is found, never, not within a bound, or full: not within one; the status is 1 where
 it is found, 0 where not, 2 where it can't be told; of --lost still (1), lost at (0) or full (2)
-(docs/NO_RETURN.md). Ctrl-C ends it as --within does. Without a goal each line of standard input is
-answered, and an empty line ends the answer: help says which lines there are (docs/REACHING.md)."""
+(docs/NO_RETURN.md). Ctrl-C ends it as --within does. With --engine each line of standard input is
+answered, and an empty line ends each answer; the line help lists the others (docs/REACHING.md)."""
 INSTALL = """\
 Installs the programs, the tools, the pages of docs/ and rdbg(1) in a folder
 

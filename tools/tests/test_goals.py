@@ -58,7 +58,7 @@ class Refusals(unittest.TestCase):
 
     def check(self, path: str, goals: List[str]) -> None:
         """Each goal, by both."""
-        words = [os.environ["RDBG_REACH"], "--moves", "0", "--states", "10", path]
+        words = [os.environ["RDBG_REACH"], "--engine", "--moves", "0", "--states", "10", path]
         ended = talk(words, "".join(f"reach {it}\n" for it in goals).encode())
         self.assertEqual(len(goals), len(ended.answers))
         scope = scope_of(path)

@@ -241,7 +241,8 @@ class Searched(unittest.TestCase):
         self.assertIn("nwiat", errors[0])
 
     def test_as_an_engine(self) -> None:
-        words = [sys.executable, "-B", str(COMPANION), "reach", self.path, "--isr", "ping"]
+        words = [sys.executable, "-B", str(COMPANION), "reach", self.path, "--engine"]
+        words += ["--isr", "ping"]
         done = subprocess.run(
             words, input=b"reach reg dsp 2 = 1\n", stdout=subprocess.PIPE, timeout=100
         )

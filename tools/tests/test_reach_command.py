@@ -91,7 +91,24 @@ class Answers(InFolder):
         for words in (("-o", "out"), ("--within", "5"), ("--page", "o.html"), ("--report", "r")):
             with self.subTest(words), program("ok\n\n") as it:
                 wanted = (2, "", ["rdbg reach: -o, --within, --page and --report go with a goal"])
-                self.assertEqual(wanted, said(LOST, *words))
+                self.assertEqual(wanted, said(LOST, "--engine", *words))
+                self.assertEqual("", it.words())
+
+    def test_no_goal(self) -> None:
+        pathlib.Path("logger.fw").write_text(LINES)
+        why = "rdbg reach: no goal given (for the line protocol: reach FILE --engine)"
+        rows: List[List[str]] = [[], [""], [" "], ["", ""], ["--moves", "5"], ["-o", "out"]]
+        for words in rows:
+            for file in (LOST, "logger.fw"):
+                with self.subTest(words, file=file), program(NEVER) as it:
+                    self.assertEqual((2, "", [why]), said(file, *words))
+                    self.assertEqual("", it.words())
+
+    def test_a_goal_for_an_engine(self) -> None:
+        why = "--engine takes no goal on the command line: it reads goals from standard input"
+        for words in ([LOST, "asleep", "--engine"], ["--engine", LOST, ""]):
+            with self.subTest(words), program("ok\n\n") as it:
+                self.assertEqual((2, "", [f"rdbg reach: {why}"]), said(*words))
                 self.assertEqual("", it.words())
 
     def test_its_help(self) -> None:

@@ -100,7 +100,7 @@ class Real(unittest.TestCase):
 
     def talk(self, file: str, *lines: str, first: Sequence[str] = ()) -> Ended:
         """What comes of an engine of a file that is told these lines."""
-        return talk([self.program, file, *first], told(*lines))
+        return talk([self.program, file, "--engine", *first], told(*lines))
 
     def answer(self, file: str, goal: str, *options: str) -> str:
         """What the program answers to one question."""
@@ -289,9 +289,34 @@ class Wrong(Real):
             ([MEETING, "--moves", "x"], "invalid value 'x' for '--moves <N>'"),
         ):
             with self.subTest(words):
-                ended = talk([self.program, *words], told("reach asleep"))
+                ended = talk([self.program, *words, "--engine"], told("reach asleep"))
                 self.assertEqual(([], 2), (ended.answers, ended.status))
                 self.assertIn(why, ended.errors)
+
+
+class Goals(Real):
+    """Which command lines ask for an engine: those with `--engine`, and without a goal."""
+
+    def check(self, words: Sequence[str], status: int, errors: str) -> None:
+        """These words are answered by nothing but this line on standard error."""
+        for given in (b"", told("reach asleep")):
+            with self.subTest(words, given=given):
+                self.assertEqual(([], errors, status), talk([self.program, MEETING, *words], given))
+
+    def test_neither(self) -> None:
+        why = "rdreach: no goal given (for the line protocol: reach FILE --engine)\n"
+        for words in ("", "--moves 5", "--", "--lost"):
+            self.check(words.split(), 2, why)
+        for goal in ([""], [" "], ["", ""], ["--", "", "  "]):
+            self.check(goal, 2, why)
+
+    def test_both(self) -> None:
+        why = "--engine takes no goal on the command line: it reads goals from standard input"
+        for words in (["asleep", "--engine"], ["--engine", "--", "asleep"], ["", "--engine"]):
+            self.check(words, 2, f"rdreach: {why}\n")
+
+    def test_an_engine_without_a_line(self) -> None:
+        self.assertEqual(([], "", 0), self.talk(MEETING))
 
 
 class Lines(Real):
@@ -299,7 +324,7 @@ class Lines(Real):
 
     def check(self, said: bytes, *answers: str) -> None:
         """What is answered to these bytes."""
-        self.assertEqual((list(answers), "", 0), talk([self.program, MEETING], said))
+        self.assertEqual((list(answers), "", 0), talk([self.program, MEETING, "--engine"], said))
 
     def test_long_ones(self) -> None:
         filled = b"moves 5".ljust(MOST)
@@ -310,7 +335,7 @@ class Lines(Real):
         self.check(filled, "ok")
 
     def test_an_endless_one_is_refused_at_once(self) -> None:
-        with Engine([self.program, MEETING]) as engine:
+        with Engine([self.program, MEETING, "--engine"]) as engine:
             self.assertEqual(LONG, engine.ask("x" * (MOST + 9)))
             self.assertEqual("ok", engine.ask("moves 5"))
 
@@ -325,7 +350,7 @@ class Lines(Real):
         self.check(b"moves 5\nquit\nmoves 6\n", "ok", "ok")
 
     def test_an_answer_is_out_before_the_next_line(self) -> None:
-        with Engine([self.program, MEETING]) as engine:
+        with Engine([self.program, MEETING, "--engine"]) as engine:
             self.assertEqual("ok", engine.ask("moves 5"))
             self.assertEqual(
                 self.answer(MEETING, "asleep", "--moves", "5"), engine.ask("reach asleep")
@@ -334,7 +359,7 @@ class Lines(Real):
             self.assertEqual(0, engine.wait())
 
     def test_it_ends_where_nobody_reads(self) -> None:
-        with Engine([self.program, MEETING]) as engine:
+        with Engine([self.program, MEETING, "--engine"]) as engine:
             engine.deafen()
             engine.tell("moves 5")
             self.assertNotEqual(0, engine.wait())

@@ -45,16 +45,16 @@ class Starts(unittest.TestCase):
 
     def test_an_engine(self) -> None:
         with searches.program("ok\n\n") as it:
-            ran = run(WRAPPER, "reach", LOST, "--moves", "5")
+            ran = run(WRAPPER, "reach", LOST, "--engine", "--moves", "5")
             self.assertEqual((0, "ok\n\n", ""), (ran.returncode, ran.stdout, ran.stderr))
-            self.assertEqual(f"{LOST} --moves 5", it.words())
+            self.assertEqual(f"{LOST} --engine --moves 5", it.words())
 
     def test_help(self) -> None:
         with searches.program(FOUND) as it:
             for words in (["help", "reach"], ["reach", "--help"], ["reach", LOST, "-h"]):
                 ran = run(WRAPPER, *words)
                 self.assertEqual((0, ""), (ran.returncode, ran.stderr))
-                self.assertIn("Usage: rdbg reach [OPTIONS] <FILE> [GOAL]...", ran.stdout)
+                self.assertIn("Usage: rdbg reach [OPTIONS] <FILE> <GOAL>...", ran.stdout)
             self.assertEqual("", it.words())
 
     def test_installed(self) -> None:
@@ -79,9 +79,9 @@ class Terminal(unittest.TestCase):
 
     def test_an_engine(self) -> None:
         with searches.program("ok\n\n", "progress within 1\n", "exit 3") as it:
-            seen = at_terminal("reach", LOST, "--isr", "send rx 41")
+            seen = at_terminal("reach", LOST, "--engine", "--isr", "send rx 41")
             self.assertEqual("progress within 1\nok\n\n", seen)
-            self.assertEqual(f"{LOST} --isr send rx 41", it.words())
+            self.assertEqual(f"{LOST} --engine --isr send rx 41", it.words())
 
     def test_its_end_by_time(self) -> None:
         with searches.program("", FURTHER, SLEEPS):

@@ -12,7 +12,7 @@ use Rattle.clap.specs.declared.parser.matches.Found.{Found}
 use Rattle.clap.proofs.WalkLemmas.{one_text-rows, raw_values-rows}
 use Rattle.rd_text.specs.Words.{texts}
 use Rattle.rd_start.specs.Requests.{HasNumber, number_asked}
-use Rattle.rd_question.specs.CommandLine.{IsAskedBy, AreRefused, IsFaultIn, IsFaultOf, IsFaultOfError, IsHelp, IsRequestIn, command_line, faults_of, number_said, rows_in, texts_of}
+use Rattle.rd_question.specs.CommandLine.{IsAskedBy, AreRefused, IsFaultIn, IsFaultOf, IsFaultOfError, IsGoalFault, IsHelp, IsRequestIn, command_line, faults_of, number_said, rows_in, texts_of}
 use Rattle.rd_question.specs.declared.fault.ReachFault.{ReachFault}
 use Rattle.rd_question.specs.declared.options.ReachRequest.{ReachRequest}
 use Rattle.rd_question.specs.declared.options.ReachRequest.TheVariants.{Ask, Engine, Help}
@@ -88,6 +88,11 @@ asked_by_words words rows (Ask question) same none h =
 asked_by_words words rows (Engine question) same none h =
     record { faults = none; said = subst (λ (r : List Row). IsRequestIn r (Engine question)) same h }
 asked_by_words words rows (Help text) same none h = absurd h
+
+pub asked_if_request : (words : List Text) (rows : List Row) (result : Result ReachRequest ReachFault) → rows ≡ rows_in words → faults_of words ≡ []
+    → IfOk result (IsRequestIn rows) → IfOk result (IsAskedBy words)
+asked_if_request words rows (Ok request) same none h = asked_by_words words rows request same none h
+asked_if_request words rows (Err fault) same none h = tt
 
 -- ---- words that give no question
 
@@ -192,4 +197,11 @@ pub fault_in_words : (words : List Text) (rows : List Row) (result : Result Reac
 fault_in_words words rows (Ok request) why is same none h = tt
 fault_in_words words rows (Err cause) why is same none h =
     let in_rows : IsFaultIn (rows_in words) why = subst (λ (r : List Row). IsFaultIn r why) same h in
-    inr (inr (none, subst (λ (e : ReachFault). IsFaultIn (rows_in words) e) (sym is) in_rows))
+    inr (inr (none, inl (subst (λ (e : ReachFault). IsFaultIn (rows_in words) e) (sym is) in_rows)))
+
+-- a goal is missing, or is one too many
+pub goal_fault_in_words : (words : List Text) (rows : List Row) (result : Result ReachRequest ReachFault) → rows ≡ rows_in words → faults_of words ≡ []
+    → IfErr result (IsGoalFault rows) → IfErr result (IsFaultOf words)
+goal_fault_in_words words rows (Ok request) same none h = tt
+goal_fault_in_words words rows (Err cause) same none h =
+    inr (inr (none, inr (subst (λ (r : List Row). IsGoalFault r cause) same h)))

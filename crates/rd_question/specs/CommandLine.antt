@@ -94,7 +94,8 @@ all_rules = file_word ∷ goal_words ∷ switch (codes "lost") ∷ switch (codes
     ∷ setting (codes "from") ∷ number_of 0 MAX_MOVES (codes "moves") ∷ setting (codes "pace")
     ∷ repeated (codes "isr") ∷ repeated (codes "times") ∷ repeated (codes "after")
     ∷ repeated (codes "apart") ∷ surprises_option ∷ states_option ∷ memory_option
-    ∷ setting (codes "part") ∷ switch (codes "exact") ∷ switch (codes "progress") ∷ []
+    ∷ setting (codes "part") ∷ switch (codes "exact") ∷ switch (codes "progress")
+    ∷ switch (codes "engine") ∷ []
 
 -- No word is the program's own name.
 abbrev pub command_line : CommandLine
@@ -165,14 +166,20 @@ pub record IsAskedIn (rows : List Row) (question : Question) : Type 0 where
 
 -- ---- the request
 
--- There is a goal.
+-- There is a goal, perhaps an empty one.
 abbrev pub has_goal : List Row → Bool
 has_goal rows = is_some (all_of (codes "GOAL") rows)
 
--- An answer is asked for where there is a goal, and an engine where there is none.
+-- the words of the goal
+abbrev pub goal_of : List Row → List Text
+goal_of rows = words_in (texts_of (codes "GOAL") rows)
+
+-- An answer needs a goal with words, and no `--engine`; an engine needs `--engine`, and no goal.
 abbrev pub IsRequestIn : List Row → ReachRequest → Type 0
-IsRequestIn rows (Ask question) = (has_goal rows ≡ true) × IsAskedIn rows question
-IsRequestIn rows (Engine question) = (has_goal rows ≡ false) × IsAskedIn rows question
+IsRequestIn rows (Ask question) =
+    (is_on (codes "engine") rows ≡ false) × (goal_of rows ≢ []) × IsAskedIn rows question
+IsRequestIn rows (Engine question) =
+    (is_on (codes "engine") rows ≡ true) × (has_goal rows ≡ false) × IsAskedIn rows question
 IsRequestIn rows (Help text) = ⊥
 
 -- Nothing is wrong with the words, and the request is what stands in them.
@@ -260,17 +267,25 @@ abbrev pub IsBadNumber : List Row → ReachFault → Type 0
 IsBadNumber rows cause = (option : Bor Text) × (least : ℕ) × (most : ℕ)
     × (cause ≡ fault.Number option least most) × (HasNumber option.now least most rows → ⊥)
 
+-- There is neither a goal with words nor `--engine`, or there are both a goal and `--engine`.
+abbrev pub IsGoalFault : List Row → ReachFault → Type 0
+IsGoalFault rows cause =
+    ((cause ≡ fault.GoalMissing) × (is_on (codes "engine") rows ≡ false) × (goal_of rows ≡ []))
+    ⊎ ((cause ≡ fault.EngineWithGoal) × (is_on (codes "engine") rows ≡ true)
+    × (has_goal rows ≡ true))
+
 -- Why no question stands in the rows: two are asked at once, or what is said of one is wrong so; or
 -- there is no memory.
 abbrev pub IsFaultIn : List Row → ReachFault → Type 0
 IsFaultIn rows cause = (cause ≡ fault.NoMemory) ⊎ ((cause ≡ fault.Both) × AreBothOn rows)
     ⊎ IsBadPace rows cause ⊎ IsBadPart rows cause ⊎ IsBadIsr rows cause ⊎ IsBadNumber rows cause
 
--- Why the words ask for nothing: they are refused, or no question stands in them; or there is no
--- memory.
+-- Why the words ask for nothing: they are refused, no question stands in them, or it has no goal
+-- where it needs one or has one where it may not; or there is no memory.
 abbrev pub IsFaultOf : List Text → ReachFault → Type 0
 IsFaultOf words cause = (cause ≡ fault.NoMemory) ⊎ (IsBadLine cause × AreRefused words)
-    ⊎ ((faults_of words ≡ []) × IsFaultIn (rows_in words) cause)
+    ⊎ ((faults_of words ≡ [])
+    × (IsFaultIn (rows_in words) cause ⊎ IsGoalFault (rows_in words) cause))
 
 -- There is no memory, or else an interrupt is none for this cause.
 abbrev pub IsFaultOfHandler : NoHandler → ReachFault → Type 0

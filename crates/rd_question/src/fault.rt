@@ -25,6 +25,12 @@ pub enum ReachFault {
     /// Two questions are asked at once.
     #[error("--lost and --doomed are two questions: one is asked at a time")]
     Both,
+    /// There is no goal, and no engine was asked for.
+    #[error("no goal given (for the line protocol: reach FILE --engine)")]
+    GoalMissing,
+    /// An engine was asked for, and there is a goal.
+    #[error("--engine takes no goal on the command line: it reads goals from standard input")]
+    EngineWithGoal,
     /// The pace is none.
     #[error("--pace: {fault}")]
     Pace {

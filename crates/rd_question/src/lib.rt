@@ -41,10 +41,11 @@ use std::rt::Files;
 // The exit status where the goal comes behind no order, at the end of lines, and after help.
 const NONE: u8 = 0;
 
-/// Runs the program on the words of its command line, without its own name, and answers its exit
-/// status: 0 where the goal comes behind no order that was asked for, and after help; 1 where it
-/// comes; 2 where that can't be told, whose cause is said on `errors`. Without a goal the lines that
-/// come of `reader` are answered, and the status is 0 at their end.
+/// Runs the program on the words of its command line, without its own name, and returns its exit
+/// status: 0 if no requested run reaches the goal, and after help; 1 if one does; 2 if that is
+/// unknown or there was an error, whose cause is written to `errors`. A command line with neither a
+/// goal nor `--engine` is such an error. With `--engine` it answers the lines of `reader`, and the
+/// status is 0 at their end.
 pub fn run_main<H: Files + AllocGlobal, R: Read, W: Write, E: Write>(
     handle: &H,
     words: &[String],

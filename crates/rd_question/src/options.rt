@@ -5,8 +5,9 @@ ghost use Rattle.std.specs.Prelude.{[], option_map, string_bytes, unwrap_or};
 ghost use Rattle.clap.specs.Words.{app_of, first_of, found_of, kind_of, rows_of, rule_of};
 ghost use Rattle.rd_question.specs.CommandLine.{AreBothOn, IsAskedBy, IsAskedIn, IsBadNumber};
 ghost use Rattle.rd_question.specs.CommandLine.{IsBadPace, IsBadPart, IsFaultIn, IsFaultOf};
-ghost use Rattle.rd_question.specs.CommandLine.{IsFaultOfError, IsHelp, IsPaceOf, IsPartOf};
-ghost use Rattle.rd_question.specs.CommandLine.{IsRequestIn, command_line, file_word, goal_words};
+ghost use Rattle.rd_question.specs.CommandLine.{IsFaultOfError, IsGoalFault, IsHelp, IsPaceOf};
+ghost use Rattle.rd_question.specs.CommandLine.{IsPartOf, IsRequestIn};
+ghost use Rattle.rd_question.specs.CommandLine.{command_line, file_word, goal_words};
 ghost use Rattle.rd_question.specs.CommandLine.{has_goal, is_on, memory_option, number_of};
 ghost use Rattle.rd_question.specs.CommandLine.{number_said, query_of, setting, states_option};
 ghost use Rattle.rd_question.specs.CommandLine.{surprises_option, switch, texts_of, words_in};
@@ -27,58 +28,58 @@ use rd_dealt::part::Part;
 use rd_goal::reading::words_of;
 use std::alloc::{AllocError, Global};
 
-/// How many choices an order may have at the most, where that is asked for.
+/// The largest value of `--moves`.
 pub const MAX_MOVES: usize = 1_000_000_000;
 
-/// How many states may be kept at the most.
+/// The largest value of `--states`.
 pub const MAX_STATES: usize = 1_000_000_000;
 
-/// How many mebibytes may be kept at the most.
+/// The largest value of `--memory`, in mebibytes.
 pub const MAX_MEMORY: usize = 1_048_576;
 
-// How many states are kept, where nothing else is asked, as a word of the command line.
+// The default of `--states`, as a word of the command line.
 const DEFAULT_STATES_WORD: &str = "10000000";
 
-// How many mebibytes are kept, where nothing else is asked, as a word of the command line.
+// The default of `--memory`, as a word of the command line.
 const DEFAULT_MEMORY_WORD: &str = "1024";
 
-// What help says below the options.
-const AS_ENGINE: &str = "Without a goal it is an engine: each line of standard input is answered, \
-    and an empty line\nends the answer; help says which lines there are\n";
+// The last paragraph of help.
+const AS_ENGINE: &str = "With --engine, and without a goal, rdreach answers each line of standard \
+    input and ends each\nanswer with an empty line; the line 'help' lists the lines it accepts\n";
 
-/// What is asked of an application.
+/// A question about an application, or the first settings of an engine.
 #[derive(Drop)]
 pub struct Question<'a> {
     /// The path of the application file.
     pub file: &'a str,
-    /// The words of the goal; none for an engine, which is told goals in lines.
+    /// The words of the goal; none for an engine, which reads goals from lines.
     pub goal: Vec<&'a [u8]>,
-    /// What is asked of the goal.
+    /// Which question is asked about the goal.
     pub query: Query,
-    /// The path of the command lines that the search begins behind; none: it begins at boot.
+    /// The path of the commands after which the search starts; none: it starts at boot.
     pub from: Option<&'a str>,
-    /// How many choices an order has at the most; none: nothing was asked.
+    /// The most moves that a run may have; none: any number.
     pub moves: Option<u32>,
     /// The pace.
     pub pace: Pace,
-    /// The interrupts that may come.
+    /// The interrupts that may occur.
     pub isrs: Vec<Handler>,
-    /// How many surprises an order has at the most; none: they aren't counted.
+    /// The most surprises that a run may have; none: they are not counted.
     pub surprises: Option<u8>,
-    /// How many states are kept: 1 to 1,000,000,000.
+    /// The most states that the search may store: 1 to 1,000,000,000.
     pub states: usize,
-    /// How many mebibytes are kept: 1 to 1,048,576.
+    /// The mebibytes that stored states may take: 1 to 1,048,576.
     pub memory: usize,
-    /// The part of all orders that is gone through; none: all of them.
+    /// The part of all runs that is searched; none: all of them.
     pub part: Option<Part>,
-    /// Whether states are told apart to the last field.
+    /// Whether states that differ in any field are distinguished.
     pub exact: bool,
-    /// Whether it is told meanwhile how far the search is.
+    /// Whether progress is reported during the search.
     pub progress: bool,
 }
 
 impl<'a> Question<'a> {
-    /// How the search goes: by as many choices as are asked for, or by any number of them.
+    /// Returns the options of the search.
     pub(crate) fn manner(&self) -> Manner
         ensures { result ≡ manner_of self.now }
     {
@@ -89,14 +90,14 @@ impl<'a> Question<'a> {
     }
 }
 
-/// What a command line asks for.
+/// The request of a command line.
 #[derive(Drop)]
 pub enum ReachRequest<'a> {
-    /// An answer.
+    /// Answer a question.
     Ask { question: Question<'a> },
-    /// Answers to the lines of an input, with these settings at first.
+    /// Answer the lines of standard input, with these settings at first.
     Engine { question: Question<'a> },
-    /// Help, with its text.
+    /// Print help.
     Help { text: String },
 }
 
@@ -247,7 +248,18 @@ fn progress_arg<'a>(alloc: Global) -> Arg<'a>
         .help("Tells on standard error how far the search is, now and then")
 }
 
-// What the words are parsed by.
+// `--engine`.
+fn engine_arg<'a>(alloc: Global) -> Arg<'a>
+    ensures rule { rule_of result ≡ switch (codes "engine") }
+    ensures local { result.global ≡ false }
+{
+    Arg::new(alloc, "engine")
+        .long("engine")
+        .action(ArgAction::SetTrue)
+        .help("Answer the lines of standard input, in place of a goal")
+}
+
+// Returns the parser of the command line.
 fn command<'a>(alloc: Global) -> Result<Command<'a>, AllocError>
     ensures { IfOk result (λ command. app_of command ≡ command_line) }
 {
@@ -272,10 +284,11 @@ fn command<'a>(alloc: Global) -> Result<Command<'a>, AllocError>
         .arg(memory_arg(alloc))?
         .arg(part_arg(alloc))?
         .arg(exact_arg(alloc))?
-        .arg(progress_arg(alloc))
+        .arg(progress_arg(alloc))?
+        .arg(engine_arg(alloc))
 }
 
-// The words of the goal, which may be said in several texts.
+// Returns the words of the goal, which may be given as several arguments.
 fn goal_in<'a>(alloc: Global, matches: &ArgMatches<'a>) -> Result<Vec<&'a [u8]>, AllocError>
     ensures { IfOk result (λ words. texts words.items
         ≡ words_in (texts_of (codes "GOAL") (rows_of (found_of matches.now)))) }
@@ -289,7 +302,7 @@ fn goal_in<'a>(alloc: Global, matches: &ArgMatches<'a>) -> Result<Vec<&'a [u8]>,
     Ok(words)
 }
 
-// The first text of an argument, where it has one.
+// Returns the first value of an argument, if it has one.
 fn text_of<'a>(matches: &ArgMatches<'a>, name: &str) -> Option<&'a str>
     ensures { option_map (λ text. text.now) result
         ≡ first_of name.now (rows_of (found_of matches.now)) }
@@ -297,14 +310,14 @@ fn text_of<'a>(matches: &ArgMatches<'a>, name: &str) -> Option<&'a str>
     matches.get_str(name)
 }
 
-// Whether there is a goal.
+// Whether there is a goal, perhaps an empty one.
 fn has_goal(matches: &ArgMatches<'_>) -> bool
     ensures { result ≡ has_goal (rows_of (found_of matches.now)) }
 {
     matches.contains_id("GOAL")
 }
 
-// The refusal of an option that says no number within these limits.
+// Returns the error for an option whose value is not a number within these limits.
 fn no_number(option: &'static str, least: usize, most: usize) -> ReachFault
     ensures { result ≡ Number option.entry least most }
 {
@@ -315,7 +328,7 @@ fn no_number(option: &'static str, least: usize, most: usize) -> ReachFault
     }
 }
 
-// The number that an option says, where it is given.
+// Returns the number that is the value of an option, if it is given.
 fn number_said(
     matches: &ArgMatches<'_>,
     option: &'static str,
@@ -335,7 +348,7 @@ fn number_said(
     }
 }
 
-// The number that an option says.
+// Returns the number that is the value of an option which has a default.
 fn number_of(
     matches: &ArgMatches<'_>,
     option: &'static str,
@@ -353,7 +366,7 @@ fn number_of(
     }
 }
 
-// How many choices are asked for, where some are.
+// Returns the value of `--moves`, if it is given.
 fn moves_of(matches: &ArgMatches<'_>) -> Result<Option<u32>, ReachFault>
     ensures said { IfOk result (λ moves.
         moves ≡ number_said (codes "moves") (rows_of (found_of matches.now))) }
@@ -366,7 +379,7 @@ fn moves_of(matches: &ArgMatches<'_>) -> Result<Option<u32>, ReachFault>
     }
 }
 
-// How many surprises are asked for at the most, where that is said.
+// Returns the value of `--surprises`, if it is given.
 fn surprises_of(matches: &ArgMatches<'_>) -> Result<Option<u8>, ReachFault>
     ensures said { IfOk result (λ surprises.
         surprises ≡ number_said (codes "surprises") (rows_of (found_of matches.now))) }
@@ -388,7 +401,7 @@ fn is_on(matches: &ArgMatches<'_>, switch: &str) -> bool
     }
 }
 
-// The part that is asked for, where one is.
+// Returns the value of `--part`, if it is given.
 fn part_in(matches: &ArgMatches<'_>) -> Result<Option<Part>, ReachFault>
     ensures part { IfOk result
         (IsPartOf (first_of (codes "part") (rows_of (found_of matches.now)))) }
@@ -400,7 +413,7 @@ fn part_in(matches: &ArgMatches<'_>) -> Result<Option<Part>, ReachFault>
     }
 }
 
-// What is asked of the goal.
+// Returns the question that `--lost` and `--doomed` select.
 fn query_in(matches: &ArgMatches<'_>) -> Result<Query, ReachFault>
     ensures query { IfOk result (λ query. Some query
         ≡ query_of (is_on (codes "lost") (rows_of (found_of matches.now)))
@@ -416,7 +429,7 @@ fn query_in(matches: &ArgMatches<'_>) -> Result<Query, ReachFault>
     }
 }
 
-// The pace that is asked for, where one is.
+// Returns the value of `--pace`, or no pace if it is not given.
 fn pace_in(matches: &ArgMatches<'_>) -> Result<Pace, ReachFault>
     ensures pace { IfOk result
         (IsPaceOf (first_of (codes "pace") (rows_of (found_of matches.now)))) }
@@ -428,7 +441,7 @@ fn pace_in(matches: &ArgMatches<'_>) -> Result<Pace, ReachFault>
     }
 }
 
-// The path of the application file.
+// Returns the path of the application file.
 fn file_of<'a>(matches: &ArgMatches<'a>) -> &'a str
     ensures { result.now ≡ unwrap_or (first_of (codes "FILE") (rows_of (found_of matches.now))) [] }
 {
@@ -438,7 +451,7 @@ fn file_of<'a>(matches: &ArgMatches<'a>) -> &'a str
     }
 }
 
-// What was asked for by the words that were found.
+// Returns the question that the parsed arguments ask.
 fn question_of<'a>(alloc: Global, matches: &ArgMatches<'a>) -> Result<Question<'a>, ReachFault>
     ensures limits { IfOk result IsQuestion }
     ensures asked { IfOk result (IsAskedIn (rows_of (found_of matches.now))) }
@@ -461,21 +474,32 @@ fn question_of<'a>(alloc: Global, matches: &ArgMatches<'a>) -> Result<Question<'
     })
 }
 
-// A question with a goal asks for its answer, and one without a goal for an engine.
-fn request_of<'a>(matches: &ArgMatches<'a>, question: Question<'a>) -> ReachRequest<'a>
+// Returns the request for a question: an engine with `--engine`, and otherwise an answer.
+//
+// Errors: `EngineWithGoal` if there are both `--engine` and a goal, `GoalMissing` if neither.
+fn request_of<'a>(
+    matches: &ArgMatches<'a>,
+    question: Question<'a>,
+) -> Result<ReachRequest<'a>, ReachFault>
     requires limits { IsQuestion question }
     requires asked { IsAskedIn (rows_of (found_of matches.now)) question }
-    ensures limits { IsRequest result }
-    ensures asked { IsRequestIn (rows_of (found_of matches.now)) result }
+    ensures limits { IfOk result IsRequest }
+    ensures asked { IfOk result (IsRequestIn (rows_of (found_of matches.now))) }
+    ensures fault { IfErr result (IsGoalFault (rows_of (found_of matches.now))) }
 {
-    if has_goal(matches) {
-        ReachRequest::Ask { question }
-    } else {
-        ReachRequest::Engine { question }
+    match (is_on(matches, "engine"), has_goal(matches)) {
+        (true, true) => Err(ReachFault::EngineWithGoal),
+        (true, false) => Ok(ReachRequest::Engine { question }),
+        (false, _) => {
+            if question.goal.is_empty() {
+                return Err(ReachFault::GoalMissing);
+            }
+            Ok(ReachRequest::Ask { question })
+        }
     }
 }
 
-// What becomes of words that are no question: help is one of clap's errors.
+// Returns the request or the error for words that clap rejects; help is one of clap's errors.
 fn without_question<'a>(alloc: Global, error: &clap::Error) -> Result<ReachRequest<'a>, ReachFault>
     ensures limits { IfOk result IsRequest }
     ensures help { IfOk result (λ request. IsHelp request
@@ -483,7 +507,7 @@ fn without_question<'a>(alloc: Global, error: &clap::Error) -> Result<ReachReque
     ensures fault { IfErr result (IsFaultOfError (kind_of error.now)) }
 {
     let text = format!(in alloc; "{error}")?;
-    // (no error has no text, but one that there was no memory for)
+    // (only an error for whose text there was no memory has none)
     if text.is_empty() {
         return Err(ReachFault::NoMemory);
     }
@@ -494,14 +518,16 @@ fn without_question<'a>(alloc: Global, error: &clap::Error) -> Result<ReachReque
     }
 }
 
-/// What the words of the command line ask for, without the program's own name: `FILE [GOAL..]
+/// Returns the request of the command line's words, without the program's own name: `FILE [GOAL..]
 /// [--lost | --doomed] [--from COMMANDS] [--moves N] [--pace M..N]
 /// [--isr CALLS [--times N] [--after I] [--apart T]] [--surprises N] [--states N] [--memory MIB]
-/// [--part K/N] [--exact] [--progress]`, an engine where no goal is said; or help. `Words` where
-/// they are no such line, `Both` where both `--lost` and `--doomed` are said, `Pace` where the
-/// pace is none, `Isr` where an interrupt is none, `Part` where the part is none, `Number` where a
-/// number isn't within its limits, `NoMemory` where there is no memory to read them or for the text
-/// of help.
+/// [--part K/N] [--exact] [--progress]` with a goal, `--engine` in its place, or help.
+///
+/// Errors: `Words` if they are no such line, `Both` for both `--lost` and `--doomed`, `Pace`, `Isr`
+/// or `Part` if the pace, an interrupt or the part is malformed, `Number` if a number is not within
+/// its limits, `GoalMissing` if there is neither a goal with a word in it nor `--engine`,
+/// `EngineWithGoal` if there are both, `NoMemory` if there is no memory for the words or for the
+/// text of help.
 pub fn options<'a>(alloc: Global, words: &'a [String]) -> Result<ReachRequest<'a>, ReachFault>
     ensures limits { IfOk result IsRequest }
     ensures asked { IfOk result (IsAskedBy (map string_bytes words.entry.now)) }
@@ -510,7 +536,7 @@ pub fn options<'a>(alloc: Global, words: &'a [String]) -> Result<ReachRequest<'a
     match command(alloc)?.try_get_matches_from(words) {
         Ok(matches) => {
             let question = question_of(alloc, &matches)?;
-            Ok(request_of(&matches, question))
+            request_of(&matches, question)
         }
         Err(error) => without_question(alloc, &error),
     }

@@ -20,10 +20,13 @@ from rdbg.reaching.asking import DOOMED, LOST as LOST_AT, REACH, STOPPED, Questi
 from rdbg.reaching.handlers import handlers, told as told_of
 from rdbg.reaching.said import UNTOLD, Answer
 from rdbg.reaching.vacuity import Vacuous
-from rdbg.reaching.words import DEFINE, LOST, OUTPUT, PACE, PAGE, PROGRESS, REPORT, WITHIN
+from rdbg.reaching.words import DEFINE, ENGINE, LOST, OUTPUT, PACE, PAGE, PROGRESS, REPORT, WITHIN
 from rdbg.reaching.words import Words, read
 from rdbg.replies import Refused
 
+# The program refuses such words in the same way.
+NO_GOAL = f"no goal given (for the line protocol: reach FILE {ENGINE})"
+GOAL_WITH_ENGINE = f"{ENGINE} takes no goal on the command line: it reads goals from standard input"
 SUMMARY = "answers whether some order of moves comes to a goal; that none does is a theorem"
 
 
@@ -135,9 +138,10 @@ def in_its_words(asked: Words) -> Iterator[Tuple[Words, Optional[Source]]]:
 
 
 def become_engine(asked: Words, words: Sequence[str]) -> NoReturn:
-    """Becomes the program, which answers lines where it is asked for no goal: nothing stands
-    between. Raises `Failure` where it can't be started, and where something is asked that goes with
-    a goal."""
+    """Replaces this process by the program, which answers the lines of standard input itself.
+
+    Raises `Failure` if the program cannot be started, or if an option needs a goal.
+    """
     if asked.own:
         raise Failure(f"{OUTPUT}, {WITHIN}, {PAGE} and {REPORT} go with a goal", 2)
     found = program()
@@ -148,7 +152,10 @@ def become_engine(asked: Words, words: Sequence[str]) -> NoReturn:
 
 
 def unlinked(asked: Words) -> List[str]:
-    """The words of the program as an engine, whose JSON is in no folder once it has begun."""
+    """Returns the program's words for an engine of a file in lines or with consts.
+
+    The program reads the JSON from a descriptor that it inherits, so no file has to be removed.
+    """
     with in_its_words(asked) as (told, source):
         coming = told_of(asked.interrupts(), source.application if source else None)
         if coming:
@@ -187,16 +194,25 @@ def write_page(asked: Words, answer: Answer, source: Source) -> None:
         raise Failure(f"rdbg refused it: no {refused}", 2) from None
 
 
+def start_engine(asked: Words, words: Sequence[str]) -> NoReturn:
+    """Becomes the engine that `words` ask for. Raises `Failure` if they have a goal too."""
+    files, goal_words = asked.plain()[:1], asked.plain()[1:]
+    if goal_words:
+        raise Failure(GOAL_WITH_ENGINE, 2)
+    is_made = files and (files[0].endswith(LINES) or asked.consts)
+    become_engine(asked, unlinked(asked) if is_made else words)
+
+
 def main(words: Sequence[str]) -> int:
-    """Searches, and says what came of it."""
+    """Searches, prints the answer, and returns the exit status."""
     if {"-h", "--help"} & {*words}:
         print(program_help.OF["reach"])
         return 0
     asked = read(words)
-    files, goal_words = asked.plain()[:1], asked.plain()[1:]
-    if not goal_words:
-        is_made = files and (files[0].endswith(LINES) or asked.consts)
-        become_engine(asked, unlinked(asked) if is_made else words)
+    if asked.has(ENGINE) or not asked.plain():
+        start_engine(asked, words)  # (without a file the program prints its usage)
+    if not asked.goal().split():
+        raise Failure(NO_GOAL, 2)
     check_output(asked)
     try:
         with in_its_words(asked) as (told, source):

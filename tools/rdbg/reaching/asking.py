@@ -14,6 +14,7 @@ from rdbg.files.source import Source
 from rdbg.reaching import running, said
 from rdbg.reaching.handlers import handlers, left
 from rdbg.reaching.said import UNTOLD, Answer, Bound
+from rdbg.reaching.words import ENGINE, PROGRESS
 
 # What names the program.
 PROGRAM, NAME = "RDBG_REACH", "rdreach"
@@ -112,7 +113,7 @@ class Asker(NamedTuple):
         answer.
         """
         bounds = (f"{word} {count}" for word, count in vars(bound).items() if count is not None)
-        words = [program(), "--progress", *self.options, "--", self.file]
+        words = [program(), ENGINE, PROGRESS, *self.options, "--", self.file]
         with tempfile.TemporaryFile() as file, commands_file(begin) as path:
             origin = [f"from {path}"] if path else []
             lines = [*more, *origin, *bounds, f"{question.word} {goal}"]

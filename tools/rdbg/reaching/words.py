@@ -13,6 +13,8 @@ REPORT, LOST, PACE = "--report", "--lost", "--pace"
 DEFINE = "-D"
 # Has the program say how far it is, which it always does here.
 PROGRESS = "--progress"
+# Has the program answer lines of standard input, in place of a goal.
+ENGINE = "--engine"
 # What stands behind each of these, which the program doesn't know.
 OWN = {OUTPUT: "OUT", WITHIN: "SECONDS", PAGE: "OUT.html", REPORT: "FILE", DEFINE: "NAME=N"}
 # Options of the program behind which a value stands; those among them that belong to an interrupt.
@@ -92,7 +94,7 @@ class Words(NamedTuple):
         return [word for it in self.parts if not it.option for word in it.words]
 
     def goal(self) -> str:
-        """The goal behind the file, as it is typed. Without words for it the program is an engine."""
+        """Returns the goal as it was typed; it is empty for an engine."""
         return " ".join(self.plain()[1:])
 
     def put(self, file: str, goal: str) -> "Words":

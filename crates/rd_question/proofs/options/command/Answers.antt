@@ -26,5 +26,6 @@ returns c =
     let with_memory = c.in_ok-arg-14.ensures.shape c.memory_arg.ensures.local ∙ ap₂ with_rule with_states c.memory_arg.ensures.rule in
     let with_part = c.in_ok-arg-15.ensures.shape c.part_arg.ensures.local ∙ ap₂ with_rule with_memory c.part_arg.ensures.rule in
     let with_exact = c.in_ok-arg-16.ensures.shape c.exact_arg.ensures.local ∙ ap₂ with_rule with_part c.exact_arg.ensures.rule in
-    IfOk-weaker c.arg-17.result _ _
-    (λ line added. added.shape c.progress_arg.ensures.local ∙ ap₂ with_rule with_exact c.progress_arg.ensures.rule) c.arg-17.ensures
+    let with_progress = c.in_ok-arg-17.ensures.shape c.progress_arg.ensures.local ∙ ap₂ with_rule with_exact c.progress_arg.ensures.rule in
+    IfOk-weaker c.arg-18.result _ _
+    (λ line added. added.shape c.engine_arg.ensures.local ∙ ap₂ with_rule with_progress c.engine_arg.ensures.rule) c.arg-18.ensures
