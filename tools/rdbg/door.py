@@ -6,12 +6,14 @@ import os
 import re
 import secrets
 import socket
+import sys
 import threading
 import time
 from socketserver import BaseRequestHandler, TCPServer, ThreadingMixIn
 from typing import Any, Dict, Type
 
 from rdbg.client import LOCAL
+from rdbg.ending import ENDING
 from rdbg.failure import trying
 from rdbg.owners import client_owner, find_lookup
 
@@ -171,6 +173,11 @@ class Entrance(ThreadingMixIn, TCPServer):
         """A connection has been served."""
         self.unread.remove(request)
         super().shutdown_request(request)
+
+    def handle_error(self, request: Any, client_address: Any) -> None:
+        """Says in one line why a connection was dropped."""
+        why = sys.exc_info()[1]
+        print(f"{ENDING.name}: a connection was dropped: {why}", file=sys.stderr, flush=True)
 
     def service_actions(self) -> None:
         """Is called now and then."""

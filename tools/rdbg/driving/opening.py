@@ -23,6 +23,14 @@ NOTE = "# the server doesn't answer: are as many attached as it was started for 
 as_read = Source.as_read
 
 
+class NotLetIn(Failure):
+    """A server has refused a session; `refusal` is its reason, such as `NoMemory`."""
+
+    def __init__(self, refusal: str) -> None:
+        super().__init__(f"the server lets nobody else in: no {refusal}")
+        self.refusal = refusal
+
+
 def builtin() -> Application:
     """The application that rdbg has without a file."""
     application = sources.source("built-in", BUILTIN).application
@@ -50,7 +58,7 @@ def greet(session: Session) -> None:
         except Refused as refused:
             if refused.name == "Syntax":
                 return
-            raise Failure(f"the server lets nobody else in: no {refused}") from None
+            raise NotLetIn(str(refused)) from None
         raise Unreadable(reply)
 
 

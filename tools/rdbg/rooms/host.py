@@ -13,8 +13,8 @@ from rdbg import children, owners, serve_port
 from rdbg.client import LOCAL, Session, connected, program
 from rdbg.ending import STARTED
 from rdbg.failure import Failure, trying
-from rdbg.rooms import apart
-from rdbg.driving.opening import as_read, greet
+from rdbg.rooms import apart, resources
+from rdbg.driving.opening import NotLetIn, as_read, greet
 from rdbg.driving.target import Limits
 from rdbg.files.source import Source
 
@@ -26,6 +26,8 @@ SECONDS = 10.0
 # A session that has come is answered within so many seconds.
 PATIENCE = 5.0
 TAKEN = "cannot listen"
+# How it refuses a session for which it has no memory, or no thread.
+NO_MEMORY = "NoMemory"
 # So many of the others who came first are named.
 FEW = 3
 
@@ -73,8 +75,11 @@ class Host:
         cls, source: Source, limits: Limits, count: int, seconds: Optional[float] = None
     ) -> "Host":
         """Starts it on an application as it was read, and tries so long at the most. Ctrl-C at the
-        terminal doesn't reach it. Raises `Failure` where it can't be started, and `Hindered` where
-        others came first for all that time."""
+        terminal doesn't reach it.
+
+        Raises `Failure` if it cannot be started, also for lack of descriptors or memory, and
+        `Hindered` if others connected first, or it did not answer, for all that time."""
+        resources.check_descriptors(count)
         until = time.monotonic() + (SECONDS if seconds is None else seconds)
         with as_read(source) as path:
             while True:
@@ -90,7 +95,10 @@ class Host:
                     if is_again:
                         said = serve_port.explained(said, port)
                 except Failure as failure:
+                    admitted = len(host.sessions) - 1
                     said, is_again = host._given_up(port, failure), True
+                    if isinstance(failure, NotLetIn) and failure.refusal == NO_MEMORY:
+                        raise resources.no_memory(count, admitted) from None
                 except BaseException:
                     host.kill()
                     raise
@@ -193,9 +201,10 @@ class Host:
         unknown = "a user who isn't known any more"
         theirs = sorted(set(others) - self._ours)
         said = [f"port {it} of {users.get(it, unknown)}" for it in theirs]
+        if not said:
+            return f"a new rdbg didn't answer: {failure}"
         more = [f"{len(said) - FEW} more"] if len(said) > FEW else []
-        named = f", from {', '.join(said[:FEW] + more)}" if said else ""
-        return f"another came to port {port} first{named}: {failure}"
+        return f"another came to port {port} first, from {', '.join(said[:FEW] + more)}: {failure}"
 
     def kill(self) -> str:
         """Ends it at once, and answers what it said on standard error."""

@@ -15,6 +15,7 @@ from rdbg.rooms.room import Refusal, Room
 
 # So many connections there are at the most.
 MOST = 128
+NO_THREAD = "the system has no thread left for one more connection"
 # So many seconds are waited at the end for those who read what they were told.
 PATIENCE = 2.0
 
@@ -72,8 +73,18 @@ class Port(Entrance):
         return False
 
     def process_request(self, request: Any, client_address: Any) -> None:
-        self._guests[request] = Client(request)
-        super().process_request(request, client_address)
+        """Begins the threads for a connection, or says that the system gives none."""
+        try:
+            self._guests[request] = Client(request)
+            super().process_request(request, client_address)
+        except RuntimeError:
+            self.unread.remove(request)
+            guest = self._guests.pop(request, None)
+            if guest is None:
+                turn_away(request, self.refusal(NO_THREAD))
+            else:  # (the thread that writes is there)
+                guest.hear(f"# no: {NO_THREAD}")
+                guest.finish()
 
     def shutdown_request(self, request: Any) -> None:
         super().shutdown_request(request)
