@@ -11,7 +11,9 @@ from tests.dap_schema import DEBIAN
 from tests.paths import COMPANION
 
 NOBODY = 65534
-IS_ROOT = unittest.skipUnless(os.geteuid() == 0, "only root can be another user")
+# (a test with such a reason fails in the gate, `ci/companions --gate`, instead of being skipped)
+NEEDS_ROOT = "needs root, to act as another user"
+IS_ROOT = unittest.skipUnless(os.geteuid() == 0, NEEDS_ROOT)
 PATIENCE = 30.0
 # Connects, says something and nothing behind it, and prints all that is answered.
 SAYS = """

@@ -6,11 +6,14 @@ import subprocess
 import sys
 import tempfile
 import textwrap
+import time
 import unittest
-from typing import Dict
+from typing import Dict, List
 
 from tests.paths import TOP
+from tests.started import MARK, marked
 
+PATIENCE = 60.0
 # Passes the second time.
 SECOND = """
     class Second(unittest.TestCase):
@@ -19,12 +22,61 @@ SECOND = """
             was_there = seen.exists()
             seen.touch()
             self.assertTrue(was_there)
+        def test_another(self):
+            pass
 """
 INTERRUPTED = """
     class Interrupted(unittest.TestCase):
         def test_it(self):
             self.assertRaises(KeyboardInterrupt, signal.raise_signal, signal.SIGINT)
             self.assertEqual(signal.SIG_DFL, signal.getsignal(signal.SIGHUP))
+"""
+SKIPPED = """
+    class Each(unittest.TestCase):
+        def test_done(self):
+            pass
+        @unittest.skip("no printer")
+        def test_left_out(self):
+            pass
+        def test_in_part(self):
+            for number in (1, 2):
+                with self.subTest(number):
+                    if number == 2:
+                        self.skipTest("no second one")
+    class Together(unittest.TestCase):
+        @classmethod
+        def setUpClass(cls):
+            raise unittest.SkipTest("needs root, to act as another user")
+        def test_one(self):
+            pass
+        def test_two(self):
+            pass
+"""
+WRONG = """
+    class Parts(unittest.TestCase):
+        def test_of_many(self):
+            for number in range(3):
+                with self.subTest(number):
+                    self.assertEqual(1, number)
+    class Setup(unittest.TestCase):
+        @classmethod
+        def setUpClass(cls):
+            raise OSError
+        def test_one(self):
+            pass
+        def test_two(self):
+            pass
+"""
+# Leaves a process of a session of its own, which holds the output of the test.
+LEAVES = """
+    import subprocess
+    class Leaves(unittest.TestCase):
+        def test_it(self):
+            subprocess.Popen(["sleep", "1000"], start_new_session=True)
+            pathlib.Path("started").touch()
+"""
+LASTS = f"""{LEAVES}
+            signal.pause()
 """
 # Says twice that another one has the lock; writes down how it was called.
 APT_GET = """#!/bin/sh
@@ -33,10 +85,12 @@ echo "$*" >> "$APT_CALLS"
 echo "E: Could not get lock /var/lib/dpkg/lock-frontend. It is held by process 7 (apt)" >&2
 exit 100
 """
+# (the layout and the types of these modules are wrong, and there is no JavaScript)
+CHECKS = 3
 
 
 class Companions(unittest.TestCase):
-    """What it tries how often, and what it says of it."""
+    """What it runs how often, what it counts, and what it leaves."""
 
     def setUp(self) -> None:
         folder = tempfile.TemporaryDirectory()
@@ -47,7 +101,7 @@ class Companions(unittest.TestCase):
         (self.top / "tools/tests/__init__.py").touch()
         (self.top / "tools/rdbg").mkdir()
         (self.top / "tools/rdbg/__init__.py").touch()
-        for name in ("companions", "repository.py"):
+        for name in ("companions", "module_tests.py", "repository.py"):
             (self.top / "ci" / name).write_bytes((TOP / "ci" / name).read_bytes())
 
     def write_module(self, name: str, text: str) -> None:
@@ -55,24 +109,82 @@ class Companions(unittest.TestCase):
         head = "import pathlib\nimport signal\nimport unittest\n"
         (self.top / f"tools/tests/test_{name}.py").write_text(head + textwrap.dedent(text))
 
-    def run_it(self, **more: str) -> str:
-        """What it says."""
-        environment: Dict[str, str] = {**os.environ, **more}
-        ran = subprocess.run(
-            [sys.executable, "-B", str(self.top / "ci/companions"), "rdbg", "rdreach"],
+    def start(self, *words: str, **more: str) -> "subprocess.Popen[str]":
+        """Starts it."""
+        self.mark = f"{os.getpid()}-{time.monotonic_ns()}"
+        environment: Dict[str, str] = {**os.environ, MARK: self.mark, **more}
+        return subprocess.Popen(
+            [sys.executable, "-B", str(self.top / "ci/companions"), *words, "rdbg", "rdreach"],
             env=environment,
             stdout=subprocess.PIPE,
             stderr=subprocess.STDOUT,
             universal_newlines=True,
         )
-        return ran.stdout
 
-    def test_what_is_tried_again(self) -> None:
+    def run_it(self, *words: str, **more: str) -> str:
+        """Returns what it prints."""
+        output, _ = self.start(*words, **more).communicate()
+        return output
+
+    def summary(self, *words: str) -> List[str]:
+        """Returns its last lines: what passed only on retry, what was skipped, and the counts."""
+        lines = self.run_it(*words).splitlines()
+        first = next(at for at, it in enumerate(lines) if it.endswith(" passed only on retry"))
+        return [it.replace("ci/companions: ", "") for it in lines[first:]]
+
+    def test_what_passes_only_on_retry_has_not_passed(self) -> None:
         self.write_module("second", SECOND)
-        *_, again, summary = self.run_it().splitlines()
-        self.assertEqual(again, "ci/companions: tried again: test_second (2 tries)")
-        # (the module's layout and types are none of ours, and are looked at once)
-        self.assertEqual(summary, "1 passed, 3 failed")
+        self.assertEqual(
+            self.summary(),
+            [
+                "1 passed only on retry",
+                "passed only on retry: test_second.Second.test_it",
+                "0 skipped",
+                f"1 passed, {CHECKS} failed",
+            ],
+        )
+
+    def test_what_is_skipped_has_not_passed(self) -> None:
+        self.write_module("skipped", SKIPPED)
+        each, together = "test_skipped.Each", "test_skipped.Together"
+        others = [
+            f"skipped: {each}.test_in_part: no second one",
+            f"skipped: {each}.test_left_out: no printer",
+        ]
+        ones_of_root = [
+            f"skipped: {together}.{it}: needs root, to act as another user"
+            for it in ("test_one", "test_two")
+        ]
+        zero, *told, counts = self.summary()
+        self.assertEqual(zero, "0 passed only on retry")
+        self.assertEqual(told, ["4 skipped", *others, *ones_of_root])
+        self.assertEqual(counts, f"1 passed, {CHECKS} failed, 4 skipped")
+        _, *told, counts = self.summary("--gate")
+        self.assertEqual(told, ["2 skipped", *others])
+        self.assertEqual(counts, f"1 passed, {CHECKS + 2} failed, 2 skipped")
+
+    def test_what_fails_is_counted_by_tests(self) -> None:
+        self.write_module("wrong", WRONG)
+        self.write_module("empty", "")
+        self.write_module("broken", "import nothing_of_this_name")
+        self.write_module("dead", "import os\nos.kill(os.getpid(), 9)")
+        self.assertEqual(self.summary()[-1], f"0 passed, {CHECKS + 6} failed")
+
+    def test_nothing_is_left_by_a_module(self) -> None:
+        self.write_module("leaves", LEAVES)
+        self.assertIn("test_leaves: 1 passed, 0 failed", self.run_it())
+        self.assertEqual(marked(self.mark), [])
+
+    def test_nothing_is_left_after_a_signal(self) -> None:
+        self.write_module("lasts", LASTS)
+        process = self.start()
+        end = time.monotonic() + PATIENCE
+        while not (self.top / "tools/started").exists():
+            self.assertLess(time.monotonic(), end)
+            time.sleep(0.02)
+        process.send_signal(signal.SIGTERM)
+        process.communicate(timeout=PATIENCE)
+        self.assertEqual((process.returncode, marked(self.mark)), (128 + signal.SIGTERM, []))
 
     def test_ignored_signals(self) -> None:
         self.write_module("interrupted", INTERRUPTED)
@@ -83,7 +195,7 @@ class Companions(unittest.TestCase):
         finally:
             for number, handler in zip(numbers, before):
                 signal.signal(number, handler)
-        self.assertIn("test_interrupted: 1 tests, 0 wrong", said)
+        self.assertIn("test_interrupted: 1 passed, 0 failed", said)
 
     def test_a_lock_is_waited_for(self) -> None:
         tools = self.top / "path"

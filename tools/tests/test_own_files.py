@@ -142,7 +142,7 @@ class Links(Case):
         shared.chmod(0o1777)
         self.check(shared, FOR_ALL, os.geteuid())
 
-    @unittest.skipUnless(os.geteuid() == 0, "of root alone")
+    @IS_ROOT
     def test_of_another_user(self) -> None:
         own = self.folder / "own"
         own.mkdir()
@@ -155,7 +155,7 @@ class Links(Case):
             answers = said(shell, f"save! {link}")
         self.assertEqual([f"# cannot write {link}: {OF_ANOTHER}"], answers)
 
-    @unittest.skipUnless(os.geteuid() == 0, "of root alone")
+    @IS_ROOT
     def test_no_folder_is_made_behind_one_of_another_user(self) -> None:
         (self.folder / "there").mkdir()
         link = self.folder / "link"
@@ -186,7 +186,7 @@ class Links(Case):
         for way in (page, keep_talk):
             self.assertEqual("", way("/dev/null"))
 
-    @unittest.skipUnless(os.geteuid() == 0, "of root alone")
+    @IS_ROOT
     def test_a_file_of_another_user(self) -> None:
         file = self.folder / "found.commands"
         file.write_text(HEAD)

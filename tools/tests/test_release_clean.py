@@ -1,4 +1,5 @@
 """What `ci/release` makes is installed on a new machine, and the first hour gone through there."""
+import os
 import pathlib
 import shutil
 import subprocess
@@ -32,8 +33,10 @@ class Made:
 
 def setUpModule() -> None:
     """Makes it, once."""
+    if os.geteuid() != 0:
+        raise unittest.SkipTest("needs root, to enter another root")
     if not (clean_root.can_be() and shutil.which("dpkg-deb")):
-        raise unittest.SkipTest("only root enters another root, and dpkg-deb makes the package")
+        raise unittest.SkipTest("this machine has no dpkg-deb, unshare, chroot or mount")
     folder = tempfile.TemporaryDirectory()
     unittest.addModuleCleanup(folder.cleanup)
     top = pathlib.Path(folder.name)

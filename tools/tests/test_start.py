@@ -16,6 +16,7 @@ from rdbg.client import Session
 from tests.paths import COMPANION, EXAMPLES, TOP
 from tests.rooms import free_port
 from tests.started import Started, at_import, seconds_of, sleeper
+from tests.strangers import IS_ROOT
 from tests.test_shell_port import server
 
 LOST = str(EXAMPLES / "lost_item.json")
@@ -235,7 +236,7 @@ class Caches(unittest.TestCase):
         self.assertEqual(0, copy.run("check", LOST))
         self.assertEqual([], copy.cached())
 
-    @unittest.skipUnless(os.geteuid() == 0, "of root alone")
+    @IS_ROOT
     def test_a_folder_of_somebody_else(self) -> None:
         for is_checkout in (True, False):
             copy = Copy(self, is_checkout)
