@@ -1,136 +1,26 @@
-"""What pages say that sources can be asked: constants with their values, chains of crates, how many
-files name a word, how many lines definitions have, links, and what is longer than it should be.
+"""Compares tables, links and file lengths of the pages with the sources.
 
-Said as `81 bytes (`MAX_REPLY`)` or `MAX_CORES` is 16; as the longest chain 'from `a` over `b` and
-`c` to `d`'; as '`Peek`: 3 files of `rd_app`, 1 of `rd_calls`', which are all that name it in code,
-definitions or proofs, crates of tests aside; as a row of changes and their tags; as a row of a
-crate, files of its specs/ and their lines; as a file of a crate, a comma and the functions that it
-has; as seven projections, of phases; and as a link of Markdown. Definitions are listed in the order
-in which they rest on one another, also at the head of a crate's lib.rt. What is too long is named
-by CONTRIBUTING.
+A row of a path names a file of a crate and, after a comma, functions that it has. A row of changes has their tags; the
+page has a row for each tag. A row of definitions has a crate, files of its specs/ and their number of lines, each file
+after those that it uses; so are they listed in the first lines of a crate's lib.rt. Links of Markdown lead to files.
+Functions and files that are too long are named by CONTRIBUTING. Other statements are marked (`markers.py`).
 """
-import ast
-import operator
 import re
 
 from functions import functions_of, homes_in
+from markers import code_of
 
-CONSTANT = re.compile(r"\bconst ([A-Z][A-Z_]+): \w+ = ([^;]+);")
-VALUED = re.compile(
-    r"(\d[\d,]*)(?: [a-z]+){0,3} \(`([A-Z][A-Z_]+)`\)|`([A-Z][A-Z_]+)` is (\d[\d,]*)"
-)
-CHAIN = re.compile(r"longest chain[^.]*? from (`\w+` over (?:`\w+`[, and]*)+ to `\w+`)")
-COUNTED = re.compile(r"`(\w+)`: (\d+ files? of `\w+`(?:,? (?:and )?\d+ of `\w+`)*)")
-PART = re.compile(r"(\d+) (?:files? )?of `(\w+)`")
 DEFINED = re.compile(r"\| `(rd_\w+)` \| ((?:`\w+`(?:, )?)+) \| (\d+) \|")
 STEP = re.compile(r"`(rd_\w+/src/\w+\.rt)`, (`\w+`(?:, `\w+`)*)")
-PROJECTIONS = re.compile(r"(\w+) projections")
-NUMBERS = {"five": 5, "six": 6, "seven": 7, "eight": 8, "nine": 9, "ten": 10}
 TAGGED = re.compile(r"\| ([A-Z]\w*\([^|]*?) \| (\d+(?:, \d+)*) \|")
 CHANGE = re.compile(r"\b([A-Z]\w*)\(")
 TAG = re.compile(r"/// `(\w+)`: .*\npub const \w+: u8 = (\d+);")
 USED = re.compile(r"^use Rattle\.(rd_\w+)\.specs\.(\w+)\.", re.MULTILINE)
 NAMED = re.compile(r"`(\w+)`")
 LINK = re.compile(r"\]\(([^)#\s]+)[^)]*\)")
-COMMENTS = {".rt": re.compile(r"//.*"), ".antt": re.compile(r"(?<!\S)--.*")}
-LIMITS = {"u8": 2**8 - 1, "u32": 2**32 - 1}
-SUMS = {ast.Add: operator.add, ast.Sub: operator.sub, ast.Mult: operator.mul}
 INDEX = "docs/README.md"
+DECISIONS = "docs/decisions/"
 MOST_LINES, MOST_LINES_OF_FILE = 40, 600
-# Crates of tests, which name what they like.
-TESTS = {"rd_rows", "rd_part_rows", "rd_search_rows", "rd_scarce"}
-
-
-def code_of(file):
-    return COMMENTS[file.suffix].sub("", file.read_text(errors="replace"))
-
-
-class Constants:
-    """The constants of the sources by name, with each value that one has somewhere."""
-
-    def __init__(self, top):
-        self.said = {}
-        for file in sorted(top.glob("crates/*/src/**/*.rt")):
-            for name, value in CONSTANT.findall(code_of(file)):
-                self.said.setdefault(name, []).append(value)
-
-    def value(self, node):
-        """What an expression of numbers and constants comes to, or nothing."""
-        if isinstance(node, ast.Constant) and isinstance(node.value, int):
-            return node.value
-        if isinstance(node, ast.Name) and node.id in self.said:
-            return self.number(self.said[node.id][0])
-        if isinstance(node, ast.BinOp) and type(node.op) in SUMS:
-            left, right = self.value(node.left), self.value(node.right)
-            return None if None in (left, right) else SUMS[type(node.op)](left, right)
-        return None
-
-    def number(self, said):
-        limit = re.fullmatch(r"(u8|u32)::MAX", said.strip())
-        if limit:
-            return LIMITS[limit[1]]
-        try:
-            return self.value(ast.parse(" ".join(said.split()), mode="eval").body)
-        except SyntaxError:
-            return None
-
-    def wrong_in(self, text):
-        for found in VALUED.finditer(text):
-            name, said = found[2] or found[3], int((found[1] or found[4]).replace(",", ""))
-            values = [self.number(it) for it in self.said.get(name, [])]
-            if said not in values:
-                yield found.start(), f"`{name}` isn't {said:,}"
-
-
-class Chains:
-    """Which crates each crate names, as crates.txt has them."""
-
-    def __init__(self, top):
-        self.named = {}
-        for line in (top / "crates.txt").read_text().splitlines():
-            name, colon, words = line.partition("#")[0].partition(":")
-            if colon:
-                self.named[name.split()[0]] = words.split()
-
-    def longest(self, crate):
-        below = [self.longest(it) for it in self.named[crate] if it in self.named]
-        return 1 + max(below, default=0)
-
-    def wrong_in(self, text):
-        for found in CHAIN.finditer(text):
-            crates = re.findall(r"`(\w+)`", found[1])
-            for below, above in zip(crates, crates[1:]):
-                if below not in self.named.get(above, []):
-                    yield found.start(), f"{above} doesn't stand on {below}"
-            most = self.longest(crates[-1]) if crates[-1] in self.named else 0
-            if len(crates) != most:
-                yield found.start(), f"a chain of {len(crates)} isn't the longest, which has {most}"
-
-
-class Files:
-    """The files of code, definitions and proofs of each crate."""
-
-    def __init__(self, top):
-        self.texts = {}
-        for file in sorted(top.glob("crates/*/**/*")):
-            parts = file.relative_to(top / "crates").parts
-            if file.suffix in COMMENTS and parts[1] in ("src", "specs", "proofs"):
-                if parts[0] not in TESTS and parts[-1] != "tests.rt":
-                    self.texts.setdefault(parts[0], []).append(code_of(file))
-
-    def naming(self, word):
-        """How many files of each crate name it."""
-        named = re.compile(rf"\b{word}\b")
-        counts = {crate: sum(map(bool, map(named.search, it))) for crate, it in self.texts.items()}
-        return {crate: count for crate, count in counts.items() if count}
-
-    def wrong_in(self, text):
-        for found in COUNTED.finditer(text):
-            said = {crate: int(count) for count, crate in PART.findall(found[2])}
-            are = self.naming(found[1])
-            if said != are:
-                due = ", ".join(f"{count} of `{crate}`" for crate, count in are.items())
-                yield found.start(), f"`{found[1]}` is named by {due}"
 
 
 class Roads:
@@ -146,19 +36,6 @@ class Roads:
             for name in NAMED.findall(found[2]):
                 if not re.search(rf"\bfn {name}\b", code):
                     yield found.start(), f"{found[1]} has no function {name}"
-
-
-class Projections:
-    """How many definitions have a row for each phase."""
-
-    def __init__(self, top):
-        text = code_of(top / "crates/rd_state/specs/Phases.antt")
-        self.count = len(re.findall(r"^abbrev pub \w+ : Phase → .*\n\w+ Run =", text, re.MULTILINE))
-
-    def wrong_in(self, text):
-        for found in PROJECTIONS.finditer(text):
-            if NUMBERS.get(found[1]) != self.count:
-                yield found.start(), f"phases have {self.count} projections"
 
 
 class Tags:
@@ -280,11 +157,12 @@ def broken_links(folder, text):
 
 
 def unlisted(pages):
-    """The pages of docs/ that its index doesn't name."""
+    """Yields a message for each page of docs/, decisions excepted, that the index does not link to."""
+    linked = {f"docs/{it}" for it in LINK.findall(pages[INDEX])}
     for path in pages:
-        if path.startswith("docs/") and "/" not in path[5:] and path != INDEX:
-            if f"`{path}`" not in pages[INDEX]:
-                yield f"{INDEX}: {path} isn't listed"
+        if path.startswith("docs/") and not path.startswith(DECISIONS) and path != INDEX:
+            if path not in linked:
+                yield f"{INDEX}: no link to {path}"
 
 
 def flat(text):
@@ -295,11 +173,7 @@ def flat(text):
 
 # What must be missed, a text for each sort.
 WRONG = {
-    Constants: "a reply of 80 bytes (`MAX_REPLY`)",
-    Chains: "the longest chain goes from `rd_wait` over `rd_queue` to `rd_state`",
-    Files: "`SetEntry`: 1 file of `rd_state`",
     Roads: "`rd_wait/src/prio_list.rt`, `index_of`",
-    Projections: "phases are read through six projections",
     Tags: "| SetTick(tick), SetTurn(turn) | 1, 3 | the same |",
     AllTags: "| SetTick(tick) | 1 | the same |",
     Definitions: "| `rd_wait` | `TaskList` | 1 |",

@@ -1,6 +1,6 @@
 """The instructions of scripts: one table of their forms, and one reader over it.
 
-A form is written as in docs/CALLS.md: its word, then the symbols of its operands. What an operand
+A form is written as in docs/reference/calls.md: its word, then the symbols of its operands. What an operand
 can be stands in `rdbg.operands`."""
 import itertools
 from typing import Dict, NamedTuple, Tuple

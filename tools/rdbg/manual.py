@@ -74,16 +74,15 @@ RDBG_TOKEN | the token of a room that asks for one; sh and dap with a name say i
 )
 PAGES = entries(
     """
-../README.md | the first command, a task as a script, what is proved
-README.md | every page, by who reads it
-FIRST.md, CALLS.md | from C to a first fault; each line and each call of a model
-FROM_C.md, FAULTS.md | how pieces of C become scripts; eight faults with their C
-COMMANDS.md, FORMATS.md | each command, refusal, file, reply and limit
-COMPANIONS.md, HUNTING.md | the companions, and how a fault is looked for
-REACHING.md, NO_RETURN.md | what can still come, and where it was lost for good
-TOGETHER.md, EDITORS.md, SECURITY.md | several at one target, editors, ports
-BUILD.md, RELEASE.md | rdbg at a build server, and installing it
-MODEL.md, PROMISES.md | the kernel's rules, and what is proved
+README.md | all pages: tutorials, guides, reference and explanation
+tutorials/first-fault.md | from C to a first fault, its cause and its fix
+guides/questions.md | which goal to ask for, and what to do if the answer is full
+guides/from-c.md | how pieces of C become scripts
+reference/calls.md | every line and every call of a model
+reference/goals.md | every atom of a goal
+COMMANDS.md, FORMATS.md | commands, refusals, files, replies and limits
+SECURITY.md | who is let in at which port, and what is written
+MODEL.md, PROMISES.md | the rules of the kernel, and what is proved
 """
 )
 DESCRIPTION = (

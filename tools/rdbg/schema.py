@@ -80,7 +80,7 @@ def instruction() -> Schema:
     """The schema of an instruction."""
     words = "|".join(form.word for form in FORMS)
     return {
-        "description": "An instruction, as docs/CALLS.md has them.",
+        "description": "An instruction, as docs/reference/calls.md has them.",
         "type": "string",
         "pattern": f"^ *({words})( |$)",
         "allOf": [line_of(form) for form in FORMS],

@@ -138,8 +138,8 @@ OTHER_NAMES = by_word(
 # Why there is no such key.
 NOT_THERE = {
     "$schema": "tell your editor of the schema in its settings",
-    "semaphores": "a queue stands for a semaphore (docs/FROM_C.md)",
-    "mutexes": "a queue stands for a mutex (docs/FROM_C.md)",
+    "semaphores": "a queue stands for a semaphore (docs/guides/from-c.md)",
+    "mutexes": "a queue stands for a mutex (docs/guides/from-c.md)",
     "timers": "there are no software timers",
     "stack": "no stack is modelled",
     "affinity": "every task can go to every core",

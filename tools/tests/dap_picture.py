@@ -1,4 +1,4 @@
-"""Makes the picture of docs/EDITORS.md: Emacs in a terminal, one step before the item is lost.
+"""Makes the picture of docs/guides/editors.md: Emacs in a terminal, one step before the item is lost.
 
 usage, in tools/: python3 -B -m tests.dap_picture FILE.png
 

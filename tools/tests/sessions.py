@@ -16,7 +16,7 @@ from typing import Iterator, List, Tuple
 from tests.paths import EXAMPLES, WRAPPER
 
 BLOCK = re.compile(r"^```\w*\n(\$ .*?)^```$", re.MULTILINE | re.DOTALL)
-HERE = re.compile(r"<<'?(\w+)'?\s*$")
+HERE = re.compile(r"<<'?(\w+)'?(?= |$)")
 
 
 @dataclasses.dataclass(frozen=True)

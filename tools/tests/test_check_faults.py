@@ -118,19 +118,19 @@ class Instructions(unittest.TestCase):
                 "vTaskDelay is written recv never T, with a queue never that nobody fills"
             ),
             "xQueueSendFromISR jobs": (
-                "xQueueSendFromISR is the command isr send Q HEX, in profile 2 (docs/FROM_C.md)"
+                "xQueueSendFromISR is the command isr send Q HEX, in profile 2 (docs/guides/from-c.md)"
             ),
             "vTaskNotifyGiveFromISR(worker, &woken);": (
                 "vTaskNotifyGiveFromISR is the command isr notify K 0 0 inc, in profile 2"
-                " (docs/FROM_C.md)"
+                " (docs/guides/from-c.md)"
             ),
             "xTaskNotifyFromISR(t, 1, eSetBits, &woken);": (
                 "xTaskNotifyFromISR is the command isr notify K 0 N ACTION, in profile 2"
-                " (docs/FROM_C.md)"
+                " (docs/guides/from-c.md)"
             ),
             "xQueueReceiveFromISR jobs": (
                 "xQueueReceiveFromISR is written recv Q T; of an interrupt it is a call of a task"
-                " with a core of its own (docs/FROM_C.md)"
+                " with a core of its own (docs/guides/from-c.md)"
             ),
             "vTaskSuspend": ("nothing stands for vTaskSuspend: a task can't be stopped"),
         }
@@ -208,7 +208,7 @@ class Files(unittest.TestCase):
         self.assertEqual(
             [
                 'L2 Shape: 2:3: the application: "semaphores" is none of its keys;'
-                " a queue stands for a semaphore (docs/FROM_C.md)"
+                " a queue stands for a semaphore (docs/guides/from-c.md)"
             ],
             edited('"profile"', '"semaphores": [], "profile"'),
         )

@@ -55,9 +55,9 @@ WRONG = {
 
 
 def freertos_names() -> Dict[str, Set[str]]:
-    """The names of FreeRTOS for each word, in docs/CALLS.md."""
-    lines = (DOCS / "CALLS.md").read_text().partition("\n## Calls from an interrupt\n")
-    own = section("CALLS.md", "A task's own instructions")
+    """The names of FreeRTOS for each word, in docs/reference/calls.md."""
+    lines = (DOCS / "reference/calls.md").read_text().partition("\n## Calls from an interrupt\n")
+    own = section("reference/calls.md", "A task's own instructions")
     names: Dict[str, Set[str]] = {row[0].strip("`").split()[0]: set() for row in rows(own, OWN)}
     for line in lines[0].splitlines():
         found = re.match(r"\| (`\w+`.*?) \| `(\w+)([^`]*)`", line)

@@ -1,4 +1,4 @@
-"""docs/EDITORS.md and the folders for editors: what they say is so."""
+"""docs/guides/editors.md and the folders for editors: what they say is so."""
 import json
 import pathlib
 import re
@@ -16,7 +16,7 @@ from tests.paths import DOCS, EXAMPLES, TOP
 from tests.tables import codes, rows
 from tests.test_dap_emacs import driven
 
-PAGE = (DOCS / "EDITORS.md").read_text()
+PAGE = (DOCS / "guides/editors.md").read_text()
 VSCODE = TOP / "tools" / "editors" / "vscode"
 # The keys of the walk, by the rows of its table; F9 is on line 12.
 WALK = """
@@ -80,9 +80,9 @@ class Folders(Held):
 
     def test_the_settings_are_those_of_the_page(self) -> None:
         attributes = self.debugger["configurationAttributes"]
-        split = {it for row in keys("| Key of `launch` | What it says |") for it in row.split(", ")}
+        split = {it for row in keys("| Key of `launch` | Meaning |") for it in row.split(", ")}
         self.assertEqual(set(attributes["launch"]["properties"]), split)
-        found = keys("| Key of `attach` | What it says |")
+        found = keys("| Key of `attach` | Meaning |")
         self.assertEqual(set(attributes["attach"]["properties"]), found)
         self.assertEqual(attributes["attach"]["required"], ["port"])
         for name in self.package["contributes"]["configuration"]["properties"]:

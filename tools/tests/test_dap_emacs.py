@@ -1,6 +1,6 @@
 """`rdbg dap`, driven by a client that isn't ours: Emacs with dap-mode, in batch.
 
-The hunts of docs/LOST_ITEM.md and docs/HUNTING.md are gone through in an editor's words."""
+The hunts of docs/tutorials/lost-item.md and docs/HUNTING.md are gone through in an editor's words."""
 import dataclasses
 import os
 import pathlib
@@ -26,7 +26,7 @@ class Hunt:
     tells: Sequence[str]
 
 
-# Those of docs/LOST_ITEM.md, with its mend by an edit, of docs/HUNTING.md, and of frames.json.
+# Those of docs/tutorials/lost-item.md, with its mend by an edit, of docs/HUNTING.md, and of frames.json.
 HUNTS = (
     Hunt(
         "lost_item",

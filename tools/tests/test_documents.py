@@ -10,7 +10,7 @@ from tests.tables import codes, rows, section
 
 CALLS = "| FreeRTOS | Instruction | r0 |"
 LINES = ("| Line | What it does |", "| Line | What changes |", "| Line | What it shows |")
-LINED = ("Moves", "Long hunts", "Edits", "Interrupts", "Views", "Watches and the wheel")
+LINED = ("Moves", "Long runs", "Edits", "Interrupts", "Views", "Watches and the wheel")
 INTERRUPTS = "| FreeRTOS | Command | Answer |"
 OBJECTS = ("Queues and queue sets", "Stream buffers and message buffers", "Notifications")
 
@@ -21,38 +21,27 @@ def line_of(form: str) -> str:
     return " ".join(words.get(word, word) for word in form.split())
 
 
-# What is to be read before a first model, at the most, and of that the first page.
-KIBIBYTE = 1_024
-MOST, MOST_OF_FIRST = 20 * KIBIBYTE, 8 * KIBIBYTE
-PAGE = re.compile(r"`docs/(\w+\.md)`")
+FIRST_TUTORIAL = "tutorials/first-fault.md"
+LINK = re.compile(r"\]\((?:docs/)?([\w/.-]+\.md)[^)]*\)")
 
 
 class First(unittest.TestCase):
-    """docs/FIRST.md, and what it says is needed besides."""
-
-    def test_they_are_short(self) -> None:
-        needed = {
-            "FIRST.md",
-            *PAGE.findall(section("FIRST.md", "A model of your own").split("Then:")[0]),
-        }
-        self.assertEqual({"FIRST.md", "CALLS.md"}, needed)
-        self.assertLessEqual((DOCS / "FIRST.md").stat().st_size, MOST_OF_FIRST)
-        self.assertLessEqual(sum((DOCS / it).stat().st_size for it in needed), MOST)
+    """The first tutorial."""
 
     def test_it_comes_first(self) -> None:
         for page in (TOP / "README.md", DOCS / "README.md"):
-            self.assertEqual("FIRST.md", PAGE.findall(page.read_text())[0], page)
+            self.assertEqual(FIRST_TUTORIAL, LINK.findall(page.read_text())[0], page)
 
 
 class Calls(unittest.TestCase):
-    """docs/CALLS.md and `rdbg.instructions`."""
+    """docs/reference/calls.md and `rdbg.instructions`."""
 
     def test_forms(self) -> None:
         written: Set[str] = set()
         for title in (*OBJECTS, "Event groups"):
-            for row in rows(section("CALLS.md", title), CALLS):
+            for row in rows(section("reference/calls.md", title), CALLS):
                 written |= {it for it in codes(row[1:2]) if re.match(r"[a-z]+( [A-Z]|$)", it)}
-        own = section("CALLS.md", "A task's own instructions")
+        own = section("reference/calls.md", "A task's own instructions")
         for row in rows(own, "| Instruction | What it does |"):
             written |= codes(row[:1])
         # (`notify K 0 ..` shows how the calls without an index are written)
@@ -62,7 +51,7 @@ class Calls(unittest.TestCase):
 
     def test_names(self) -> None:
         for title in (*OBJECTS, "Event groups"):
-            for call, form, *_ in rows(section("CALLS.md", title), CALLS):
+            for call, form, *_ in rows(section("reference/calls.md", title), CALLS):
                 found = instructions.form_of(form.strip("`").split()[0].strip("`,"))
                 assert found is not None, form
                 if " 0 " not in form:
@@ -81,7 +70,7 @@ class Commands(unittest.TestCase):
         self.assertEqual(written, {form.text for form in commands.FORMS})
 
     def test_interrupts(self) -> None:
-        table = rows(section("CALLS.md", "Calls from an interrupt"), INTERRUPTS)
+        table = rows(section("reference/calls.md", "Calls from an interrupt"), INTERRUPTS)
         forms = {form.text for form in commands.FORMS if form.word == "isr"}
         self.assertLessEqual(forms, codes([form for _, form, _ in table]))
         for calls, form, _ in table:

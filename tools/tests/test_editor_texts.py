@@ -99,7 +99,7 @@ class Words(unittest.TestCase):
         self.assertLessEqual({*OBJECTS, *SETTINGS} - {"set"}, lines)
         self.assertEqual(blocks_there, {*blocks.WORDS, blocks.END, "goto", "wait"})
         self.assertEqual(instructions, {*forms, "give"} - {"set", "end"})
-        page = (DOCS / "CALLS.md").read_text()
+        page = (DOCS / "reference/calls.md").read_text()
         said = " ".join(
             code for row in rows(page, "| Line | What it says |") for code in codes(row)
         )
@@ -156,7 +156,7 @@ class VsCode(unittest.TestCase):
         place = [first[pattern[key]] for key in ("file", "line", "column", "severity")]
         self.assertEqual(place, [str(file), "10", "14", None])
         self.assertIn("queue jbos isn't there", first[pattern["message"]])
-        self.assertIn(f"${matcher['name']}", (DOCS / "EDITORS.md").read_text())
+        self.assertIn(f"${matcher['name']}", (DOCS / "guides/editors.md").read_text())
 
 
 class Emacs(unittest.TestCase):

@@ -202,15 +202,15 @@ class Lines(unittest.TestCase):
 
 
 class Calls(unittest.TestCase):
-    """The calls that are found are those of docs/CALLS.md."""
+    """The calls that are found are those of docs/reference/calls.md."""
 
     def test_names(self) -> None:
         named = set()
         for title in ("Queues and queue sets", "Stream buffers and message buffers"):
-            for row in rows(section("CALLS.md", title), "| FreeRTOS | Instruction | r0 |"):
+            for row in rows(section("reference/calls.md", title), "| FreeRTOS | Instruction | r0 |"):
                 named |= codes(row[:1])
         for title in ("Notifications", "Event groups"):
-            for row in rows(section("CALLS.md", title), "| FreeRTOS | Instruction | r0 |"):
+            for row in rows(section("reference/calls.md", title), "| FreeRTOS | Instruction | r0 |"):
                 named |= codes(row[:1])
         self.assertEqual(named - set(TEMPLATES), set())
 

@@ -31,7 +31,7 @@ class Said(unittest.TestCase):
         os.chdir(folder.name)
 
     def test_a_find(self) -> None:
-        # At boot core 1 has the producer, which sends, and the poller after it (docs/LOST_ITEM.md).
+        # At boot core 1 has the producer, which sends, and the poller after it (docs/tutorials/lost-item.md).
         status, lines, errors = said(LOST, "reg poller 0 = 1", *QUICK)
         self.assertEqual(1, status)
         wanted = ["watch reg poller 0 = 1", *["step 1"] * 4, "show watches", "show task poller"]
@@ -147,7 +147,7 @@ class Said(unittest.TestCase):
     def test_smallest(self) -> None:
         words = ["reg worker 0 = 1", "--surprises", "1", "--smallest"]
         status, lines, errors = said(LOST, *words)
-        # forward's order comes to it at 7 (docs/LOST_ITEM.md: at 5 the job is there, then a tick)
+        # forward's order comes to it at 7 (docs/tutorials/lost-item.md: at 5 the job is there, then a tick)
         self.assertEqual(
             (1, "found: reg worker 0 = 1, at 7, without a surprise"), (status, errors[0])
         )

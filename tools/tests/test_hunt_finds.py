@@ -6,7 +6,7 @@ from typing import List, Sequence
 from tests.hunts import path, replayed, said
 
 
-# The handler of docs/LOST_WAKEUP.md.
+# The handler of docs/tutorials/lost-wakeup.md.
 RADIO = "send in 72; notify gate 0 0 inc"
 
 
@@ -33,7 +33,7 @@ class Finds(unittest.TestCase):
         self.check_end(answers[-1:], "task poller", "regs 1,", "data 41")
 
     def test_the_order_of_the_page_of_the_lost_item(self) -> None:
-        # docs/LOST_ITEM.md: at 5 core 1 makes three moves, then the worker waits again
+        # docs/tutorials/lost-item.md: at 5 core 1 makes three moves, then the worker waits again
         answers = self.hunt("lost_item", "differs", "--all", "2")
         self.check_end(answers, "task worker core - pc 0 phase wait:recv:jobs:max regs 0,0")
 
@@ -58,7 +58,7 @@ class Finds(unittest.TestCase):
         self.assertEqual((0, "none found: reg worker 0 = 2"), (status, errors[0]))
 
     def test_a_lost_wake_up(self) -> None:
-        # docs/LOST_WAKEUP.md: the ring is cleared that came behind the look
+        # docs/tutorials/lost-wakeup.md: the ring is cleared that came behind the look
         answers = self.hunt("lost_wakeup", "stuck", "--isr", RADIO)
         self.check_end(answers[-5:], "cores -,-,-,-", "task gate core - pc 7 phase wait:note:0:max")
         self.check_end(answers[-5:], "task console core - pc 1 phase wait:send:in:max")

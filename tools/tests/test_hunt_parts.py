@@ -14,7 +14,7 @@ from tests.hunts import path, said
 
 LOST = path("lost_item")
 COUNTS = "states 5 moves 9 deepest 4"
-# From boot core 1 sends, and goes on to the poller, which receives (docs/LOST_ITEM.md).
+# From boot core 1 sends, and goes on to the poller, which receives (docs/tutorials/lost-item.md).
 QUICK = "\n".join(["step 1"] * 4)
 SLOW = "\n".join(["step 0", "step 1", "tick", "step 0", "step 1"])
 

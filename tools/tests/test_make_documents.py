@@ -1,4 +1,4 @@
-"""The lines that docs/CALLS.md lists are those that are read."""
+"""The lines that docs/reference/calls.md lists are those that are read."""
 import unittest
 
 from rdbg.firmware.objects import OBJECTS, SETTINGS, form_of
@@ -14,11 +14,11 @@ OTHERS |= {"if TEST goto LABEL", "if TEST break", "if TEST continue"}
 
 
 class Lines(unittest.TestCase):
-    """docs/CALLS.md and `rdbg.firmware.objects`."""
+    """docs/reference/calls.md and `rdbg.firmware.objects`."""
 
     def test_forms(self) -> None:
         """Each line of the table is known by its words."""
-        text = section("CALLS.md", "Lines")
+        text = section("reference/calls.md", "Lines")
         written = {code for row in rows(text, "| Line | What it says |") for code in codes(row[:1])}
         self.assertEqual(OTHERS | {form_of(word) for word in (*OBJECTS, *SETTINGS)}, written)
 

@@ -87,9 +87,9 @@ class Reads(unittest.TestCase):
         "ping: give dome": "give NAME: dome is no semaphore",
         "ping: send done 00": "done is a semaphore: give done",
         "ping: send lock 00": "lock has an item while it is taken, and no interrupt takes one out:"
-        " let a task of the highest priority play it, with wait for its time (docs/FROM_C.md)",
+        " let a task of the highest priority play it, with wait for its time (docs/guides/from-c.md)",
         "ping: give lock": "lock has an item while it is taken, and no interrupt takes one out: let"
-        " a task of the highest priority play it, with wait for its time (docs/FROM_C.md)",
+        " a task of the highest priority play it, with wait for its time (docs/guides/from-c.md)",
     }
     ROUND = ("recv rx 0", "swrite s 0", "gset g 1", "xStreamBufferSendFromISR(s)")
 
@@ -108,7 +108,7 @@ class Reads(unittest.TestCase):
                 f"no interrupt makes {name} here, which makes send Q HEX, notify K I N ACTION, or"
             )
             said += " give NAME: let a task of the highest priority play it, with wait for its time"
-            self.assertEqual([f"{said} (docs/FROM_C.md)"], self.told(f"ping: {call}"))
+            self.assertEqual([f"{said} (docs/guides/from-c.md)"], self.told(f"ping: {call}"))
 
     def test_the_word_that_leaves_them_out_names_none(self) -> None:
         text = (

@@ -52,7 +52,7 @@ class Manual(unittest.TestCase):
         self.assertEqual(words_of(self.help) - words_of(self.page) - titles, set())
 
     def test_the_pages_are_there(self) -> None:
-        named = {name for entry in manual.PAGES for name in re.findall(r"\w+\.md", entry.words)}
+        named = {name for entry in manual.PAGES for name in re.findall(r"[\w/-]+\.md", entry.words)}
         self.assertEqual({name for name in named if not (DOCS / name).is_file()}, set())
 
     @unittest.skipIf(shutil.which("man") is None, "man isn't there")

@@ -1,51 +1,36 @@
-"""The sessions of the documents are as they stand there."""
+"""The shell sessions on all pages print what the pages show."""
 import pathlib
 import unittest
+from typing import Iterator
 
 from tests import sessions
 from tests.paths import DOCS, TOP
 
 
+def pages() -> Iterator[pathlib.Path]:
+    """The pages that have shell sessions."""
+    for page in (TOP / "README.md", *sorted(DOCS.glob("**/*.md"))):
+        if list(sessions.commands(page.read_text())):
+            yield page
+
+
 class Sessions(unittest.TestCase):
-    """Each document whose sessions call `./rdbg` from a shell."""
+    """Shell sessions, run in order, page by page."""
 
-    def check(self, document: pathlib.Path) -> None:
-        """That a document has sessions, all of which are as they stand there."""
-        self.assertEqual(list(sessions.wrong(document)), [])
-        self.assertTrue(list(sessions.commands(document.read_text())))
-
-    def test_readme(self) -> None:
-        self.check(TOP / "README.md")
-
-    def test_first(self) -> None:
-        self.check(DOCS / "FIRST.md")
-
-    def test_companions(self) -> None:
-        self.check(DOCS / "COMPANIONS.md")
-
-    def test_editors(self) -> None:
-        self.check(DOCS / "EDITORS.md")
-
-    def test_from_c(self) -> None:
-        self.check(DOCS / "FROM_C.md")
-
-    def test_hunting(self) -> None:
-        self.check(DOCS / "HUNTING.md")
-
-    def test_reaching(self) -> None:
-        self.check(DOCS / "REACHING.md")
-
-    def test_no_return(self) -> None:
-        self.check(DOCS / "NO_RETURN.md")
-
-    def test_lost_wakeup(self) -> None:
-        self.check(DOCS / "LOST_WAKEUP.md")
+    def test_each_page(self) -> None:
+        count = 0
+        for page in pages():
+            with self.subTest(page.relative_to(TOP)):
+                self.assertEqual(list(sessions.wrong(page)), [])
+            count += 1
+        self.assertGreater(count, 8)
 
     def test_commands_and_what_they_print(self) -> None:
         text = "```\n$ echo \\\n  one\ntwo\n$ cat <<'END'\nthree\nEND\nthree\n```\n"
+        text += "```\n$ cat <<'END' | tail -n 1\nfour\nfive\nEND\nfive\n```\n"
         found = list(sessions.commands(text))
-        self.assertEqual([each.line for each in found], [2, 5])
-        self.assertEqual([each.output for each in found], ["two\n", "three\n"])
+        self.assertEqual([each.line for each in found], [2, 5, 11])
+        self.assertEqual([each.output for each in found], ["two\n", "three\n", "five\n"])
 
 
 if __name__ == "__main__":

@@ -90,7 +90,7 @@ class Examples(unittest.TestCase):
         with example("early_count") as shell:
             answers = said(shell, "step 0", "step 1", "set moves on", "step 0")
             self.assertEqual(comments(answers), [f"sender 1 notify worker 0 0 inc -> 1, {woken}"])
-        # (docs/LOST_NOTIFICATION.md, where the control loop has the core)
+        # (docs/tutorials/lost-notification.md, where the control loop has the core)
         expected = [
             "isr notify worker 1 0 inc -> 1, worker's note 1 = 1:received",
             "isr notify worker 0 1 set -> 1, worker's note 0 = 1:received, woke worker (ready)",

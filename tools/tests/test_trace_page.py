@@ -12,7 +12,7 @@ class Tutorials(Shown):
     def test_a_document_that_makes_its_page(self) -> None:
         lost = next(it for it in tutorials() if it.name == "lost_item")
         made = f"head -n {len(lost.lines)} examples/lost_item.commands | ./rdbg trace"
-        self.assertIn(made, (DOCS / "LOST_ITEM.md").read_text())
+        self.assertIn(made, (DOCS / "tutorials/lost-item.md").read_text())
 
     def test_each_place_is_what_rdbg_says(self) -> None:
         for it in tutorials():

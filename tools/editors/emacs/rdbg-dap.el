@@ -1,7 +1,7 @@
 ;;; rdbg-dap.el --- rdbg as a debugger of dap-mode -*- lexical-binding: t; -*-
 
 ;; What dap-mode needs to know of rdbg, and commands for what it has no buttons for: steps back, the
-;; way back to a breakpoint, a tick, and a line for rdbg.  docs/EDITORS.md goes through a session.
+;; way back to a breakpoint, a tick, and a line for rdbg.  docs/guides/editors.md goes through a session.
 
 ;;; Code:
 

@@ -11,7 +11,7 @@ from rdbg.door import Door
 SUMMARY = "the debugger of an editor, with its buttons: breakpoints, steps, and both ways"
 EPILOG = (
     "An editor starts it, and says by `launch` which file to debug, or by `attach` at which port:"
-    " docs/EDITORS.md. It talks the Debug Adapter Protocol over standard input and output, or, with"
+    " docs/guides/editors.md. It talks the Debug Adapter Protocol over standard input and output, or, with"
     " --port, with each editor that connects to that port of 127.0.0.1."
 )
 
@@ -36,7 +36,7 @@ def main(words: Sequence[str]) -> int:
     if given.anyone:
         made.error("--anyone goes with --port")
     if sys.stdin.isatty():
-        print("rdbg dap: an editor starts this (docs/EDITORS.md); Ctrl-D ends it", file=sys.stderr)
+        print("rdbg dap: an editor starts this (docs/guides/editors.md); Ctrl-D ends it", file=sys.stderr)
     # (streams of their own: no print comes between, and none is waited for at the end)
     lines = os.fdopen(os.dup(sys.stdin.fileno()), "rb")
     answers = os.fdopen(os.dup(sys.stdout.fileno()), "wb")

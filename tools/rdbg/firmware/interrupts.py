@@ -14,7 +14,7 @@ WORD = "interrupt"
 FORM = "interrupt NAME after NAME apart N times N: CALL; CALL"
 COLON, SEMICOLON, ANY_TIMES = ":", ";", "any"
 CALLS = "send Q HEX, notify K I N ACTION, or give NAME"
-ROUND = "let a task of the highest priority play it, with wait for its time (docs/FROM_C.md)"
+ROUND = "let a task of the highest priority play it, with wait for its time (docs/guides/from-c.md)"
 NOTIFY, SEND = "notify", "send"
 KEYS = AFTER, APART, TIMES = "after", "apart", "times"
 # The operands of each call, and how they are read.

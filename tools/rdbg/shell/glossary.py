@@ -75,7 +75,7 @@ FAULTS: Dict[str, str] = {
 TERMS: Dict[str, str] = {
     "goal": "a GOAL is a COND, or `asleep`, `at TASK N` and others, joined by and, or, not: `until"
     " GOAL` runs there, `rc GOAL` goes back there; with `!` to where it became so; `help until`",
-    "registers": "each task has r0 to r7; r0 is the answer of its last call (docs/CALLS.md):"
+    "registers": "each task has r0 to r7; r0 is the answer of its last call (docs/reference/calls.md):"
     " `print r0 TASK`, `info registers TASK`; `poke reg TASK R N` sets one",
     "isr": "an interrupt, a move that no task makes: it is answered 1, or 0 where nothing changed,"
     " and never waits; whom it woke takes a core at once, if its priority is high enough",
@@ -137,7 +137,7 @@ def of_freertos(word: str) -> str:
         return f"{name} is written {CONSTANTS[name]}"
     plain = re.sub("Static$", "", name)
     known = freertos.sentence(word) or (freertos.sentence(plain) if plain != name else "")
-    calls = "docs/CALLS.md has each call that an instruction stands for"
+    calls = "docs/reference/calls.md has each call that an instruction stands for"
     return known or (f"nothing stands for {name}; {calls}" if CALLED.fullmatch(name) else "")
 
 
