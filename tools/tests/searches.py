@@ -7,10 +7,12 @@ import pathlib
 import shlex
 import stat
 import tempfile
+import time
 from typing import Iterator, List, NamedTuple, Optional, Tuple
 from unittest import mock
 
 from rdbg.main import main
+from rdbg.reaching import running
 
 FOUND = "found\nstep 0\ntick\nstates 5 moves 9 deepest 2\n"
 NEVER = "never\nstates 5 moves 9 deepest 4\n"
@@ -25,6 +27,7 @@ echo "$@" > {words}
 {hears}
 cat {errors} >&2
 cat {output}
+: > {printed}
 {end}
 """
 
@@ -44,6 +47,15 @@ class Fake(NamedTuple):
         """Returns the lines of its standard input, of a program that `hears`."""
         return (self.folder / "heard").read_text().splitlines()
 
+    def has_printed(self) -> bool:
+        """Whether it has said all that it says."""
+        return (self.folder / "printed").exists()
+
+    def clock(self) -> mock.Mock:
+        """Returns a clock that stands still until it has said all that it says."""
+        began = time.monotonic()
+        return mock.Mock(monotonic=lambda: time.monotonic() if self.has_printed() else began)
+
 
 @contextlib.contextmanager
 def program(
@@ -55,13 +67,17 @@ def program(
         folder = pathlib.Path(name)
         for file, text in (("output", output), ("errors", errors)):
             (folder / file).write_text(text)
-        places = {it: shlex.quote(str(folder / it)) for it in ("words", "output", "errors")}
+        files = ("words", "output", "errors", "printed")
+        places = {it: shlex.quote(str(folder / it)) for it in files}
         places["hears"] = f"cat > {shlex.quote(str(folder / 'heard'))}" if hears else ""
         made = folder / "rdreach"
         made.write_text(TEXT.format(end=end, **places))
         made.chmod(made.stat().st_mode | stat.S_IXUSR)
+        found = Fake(str(made), folder)
         with mock.patch.dict(os.environ, {"RDBG_REACH": str(made)}):
-            yield Fake(str(made), folder)
+            # (on a busy machine a search would be ended before it has said anything)
+            with mock.patch.object(running, "time", found.clock()):
+                yield found
 
 
 def real() -> Optional[str]:

@@ -1,10 +1,13 @@
 """Companions as processes of their own: what they leave behind, and what becomes of them where a
 module is missing or a signal comes while one is imported."""
+import array
 import contextlib
+import fcntl
 import os
 import pathlib
 import subprocess
 import sys
+import termios
 import time
 from typing import Dict, List, Optional, Sequence
 
@@ -74,6 +77,14 @@ def marked(mark: str) -> List[int]:
             if f"{MARK}={mark}".encode() in (folder / "environ").read_bytes().split(b"\0"):
                 found.append(int(folder.name))
     return found
+
+
+def unread(process: int) -> int:
+    """Returns how many bytes wait in a pipe that is the standard error of a process."""
+    count = array.array("i", [0])
+    with open(f"/proc/{process}/fd/2", "wb", 0) as pipe:
+        fcntl.ioctl(pipe, termios.FIONREAD, count)
+    return count[0]
 
 
 class Started:

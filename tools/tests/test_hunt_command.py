@@ -14,6 +14,8 @@ from tests import searches
 from tests.fake import program
 from tests.hunts import path, replayed, said, written
 from tests.paths import COMPANION, TOP
+from tests.rooms import until
+from tests.started import unread
 
 LOST = path("lost_item")
 # A search that takes longer than anybody waits: a goal of the tick has each tick told apart.
@@ -324,6 +326,12 @@ class Questions(unittest.TestCase):
         self.assertEqual("within 11 moves it comes from anywhere", errors[-1])
 
 
+def has_written(process: int) -> bool:
+    """Whether a process has written something."""
+    counts = pathlib.Path(f"/proc/{process}/io").read_text()
+    return int(counts.partition("wchar: ")[2].split()[0]) > 0
+
+
 class Interrupted(unittest.TestCase):
     """Ctrl-C."""
 
@@ -334,11 +342,11 @@ class Interrupted(unittest.TestCase):
             stderr=subprocess.PIPE,
             text=True,
         )
-        # (once it has started a process of its own it is at work)
+        # (once it has heard from the program that it starts, something was gone through)
         children = pathlib.Path(f"/proc/{ran.pid}/task/{ran.pid}/children")
-        while ran.poll() is None and not children.read_text().strip():
-            time.sleep(0.1)
-        time.sleep(2)
+        until(lambda: bool(children.read_text().strip()))
+        searching = int(children.read_text())
+        until(lambda: has_written(searching) and unread(searching) == 0)
         ran.send_signal(signal.SIGINT)
         _, errors = ran.communicate(timeout=60)
         self.assertEqual(130, ran.returncode, errors)

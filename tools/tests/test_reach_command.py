@@ -14,8 +14,9 @@ from unittest import mock
 
 from tests import searches
 from tests.paths import COMPANION, EXAMPLES
+from tests.rooms import until
 from tests.searches import FAR, FOUND, FURTHER, KILLED, NEVER, SAID_FURTHER, SLEEPS, program, said
-from tests.started import Started
+from tests.started import Started, unread
 
 LOST = str(EXAMPLES / "lost_item.json")
 ASKED = (LOST, "failed")
@@ -215,12 +216,11 @@ class Signals(unittest.TestCase):
     """Ctrl-C and other signals, at a companion of its own process."""
 
     def started(self, it: searches.Fake) -> Started:
-        """One whose program has said how far it is, and says nothing more."""
+        """One that has heard from its program how far it is, and hears nothing more."""
         started = Started("reach", *ASKED)
-        end = time.monotonic() + 30
-        while not it.words() and time.monotonic() < end:
-            time.sleep(0.02)
-        time.sleep(0.5)
+        until(it.has_printed)
+        (searching,) = {*started.family()} - {started.process.pid}
+        until(lambda: unread(searching) == 0)
         return started
 
     def test_ctrl_c(self) -> None:
