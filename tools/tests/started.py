@@ -79,6 +79,19 @@ def marked(mark: str) -> List[int]:
     return found
 
 
+def processor_seconds() -> float:
+    """Returns how many seconds of a processor this process and its children have used, those that
+    have ended not counted. Unlike the clock it doesn't go on while others are at work."""
+    ticks, own = 0, os.getpid()
+    for file in pathlib.Path("/proc").glob("[0-9]*/stat"):
+        with contextlib.suppress(OSError):
+            # (behind the name: the state, the parent; and then, for the user and the kernel)
+            fields = file.read_text().rpartition(")")[2].split()
+            if own in (int(file.parent.name), int(fields[1])):
+                ticks += int(fields[11]) + int(fields[12])
+    return ticks / os.sysconf("SC_CLK_TCK")
+
+
 def unread(process: int) -> int:
     """Returns how many bytes wait in a pipe that is the standard error of a process."""
     count = array.array("i", [0])
