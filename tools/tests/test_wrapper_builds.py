@@ -30,7 +30,7 @@ LINKED = (
 # So many seconds does a busy machine have for what takes a moment.
 PATIENCE = 60.0
 # After so many seconds a file that was written counts as written long ago.
-SETTLED = 4.0
+SETTLED = 4
 # A kit that logs how it was called, and whose builds go on until they are ended.
 RT = """#!/bin/sh
 echo "$@" >> "$RT_CALLS"
@@ -264,6 +264,10 @@ class Choice(Checkout):
         self.assertEqual(self.called(), [])
 
 
+# Says how late it is, in seconds, as a test has it.
+DATE = """#!/bin/sh
+echo "$NOW"
+"""
 # Writes down that files are read.
 READS = """#!/bin/sh
 echo read >> "$READS"
@@ -280,6 +284,14 @@ class KeptSums(Checkout):
         found = shutil.which("sha256sum")
         write_script(self.kit.parent / "sha256sum", READS.format(sha256sum=found))
         self.environment["READS"] = str(self.reads)
+        write_script(self.kit.parent / "date", DATE)
+        self.pass_seconds(0)
+
+    def pass_seconds(self, seconds: int) -> None:
+        """Has so many seconds passed since the sources were written, however long that is ago."""
+        files = [*(self.top / "crates").rglob("*"), *(self.top / "ci").iterdir()]
+        written = max(file.stat().st_ctime for file in files)
+        self.environment["NOW"] = str(int(written) + seconds)
 
     def is_read(self) -> bool:
         """Whether files are read for the sum now."""
@@ -291,7 +303,7 @@ class KeptSums(Checkout):
         # (what has just changed may change again at the same time, and is read until it hasn't)
         self.assertTrue(self.is_read())
         self.assertTrue(self.is_read())
-        time.sleep(SETTLED)
+        self.pass_seconds(SETTLED)
         self.assertTrue(self.is_read())
         self.assertFalse(self.is_read())
         first = self.summed("unproved")
@@ -302,7 +314,7 @@ class KeptSums(Checkout):
         self.assertNotEqual(first, self.summed("unproved"))
 
     def test_other_files(self) -> None:
-        time.sleep(SETTLED)
+        self.pass_seconds(SETTLED)
         first = self.summed("unproved")
         self.assertFalse(self.is_read())
         other = self.source.parent / "other.rt"
@@ -312,7 +324,7 @@ class KeptSums(Checkout):
         self.assertEqual(first, self.summed("unproved"))
 
     def test_where_none_can_be_kept(self) -> None:
-        time.sleep(SETTLED)
+        self.pass_seconds(SETTLED)
         (self.top / "out").write_text("in the way of a folder")
         first = self.summed("unproved")
         self.assertTrue(self.is_read())
