@@ -83,7 +83,8 @@ class Interrupt(NamedTuple):
 
 
 class Text(NamedTuple):
-    """What a file says; of one in lines `made` is what lines of objects become, by number."""
+    """What a file says; of one in lines `made` is what lines of objects become, by number. There
+    are `more` faults than `faults` has."""
 
     root: Optional[Node]
     faults: Sequence[Fault]
@@ -91,6 +92,7 @@ class Text(NamedTuple):
     made: Sequence[Tuple[int, str]] = ()
     comments: Mapping[int, str] = {}
     interrupts: Tuple[Interrupt, ...] = ()
+    more: int = 0
 
 
 class Beside(NamedTuple):

@@ -1,9 +1,12 @@
 """How things of a file are shown in a message, on one line; and tables of words."""
+import contextlib
+import contextvars
 import difflib
 import re
-from typing import Dict, Iterable, List, Mapping, Optional
+from typing import Dict, Iterable, Iterator, List, Mapping, Optional
 
 MOST_SHOWN = 60
+SUGGESTS = contextvars.ContextVar("SUGGESTS", default=True)
 
 
 def shown(text: str) -> str:
@@ -32,8 +35,25 @@ def with_article(noun: str) -> str:
     return f"an {noun}" if noun[0] in "aeiou" else f"a {noun}"
 
 
+@contextlib.contextmanager
+def without_suggestions() -> Iterator[None]:
+    """Has `nearest` find nothing, which takes no time, as long as the block lasts."""
+    before = SUGGESTS.set(False)
+    try:
+        yield
+    finally:
+        SUGGESTS.reset(before)
+
+
+def suggests() -> bool:
+    """Whether what is near to a word is looked for."""
+    return SUGGESTS.get()
+
+
 def nearest(word: str, others: Iterable[str]) -> Optional[str]:
     """The word that a slip would have made this one of, or none where nothing is near."""
+    if not suggests():
+        return None
     found = difflib.get_close_matches(word.lower(), list(others), n=1, cutoff=0.6)
     return found[0] if found else None
 

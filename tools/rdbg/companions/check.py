@@ -8,7 +8,7 @@ from rdbg import kinds
 from rdbg.checking.faults import MOST_FAULTS, remarks_of
 from rdbg.failure import Failure
 from rdbg.files.definitions import take_definitions
-from rdbg.files.source import Source, load, source, standard_input
+from rdbg.files.source import MOST_SHOWN, Source, load, source, standard_input
 from rdbg.options import Parser, bounded
 from rdbg.tree import Fault
 from rdbg.wording import counted
@@ -16,7 +16,6 @@ from rdbg.wording import counted
 SUMMARY = "says of application files where they are wrong, and what would be right"
 STANDARD_INPUT, NOTE = "-", "note: "
 Values = Dict[str, Any]
-MOST = 100
 LARGEST = 999_999_999
 EPILOG = (
     "Each fault is one line on standard output, FILE:LINE:COLUMN: and what would be right; the last"
@@ -33,9 +32,8 @@ def parser() -> Parser:
     made.word("files", "FILE", files, nargs="+")
     made.flag("--first", "prints the first fault of each file, and nothing else")
     made.flag("--json", "prints it as JSON (docs/check.schema.json)")
-    made.word(
-        "--most", "N", f"so many faults a file, else {MOST}", type=bounded(0, LARGEST), default=MOST
-    )
+    most = f"so many faults a file, else {MOST_SHOWN}"
+    made.word("--most", "N", most, type=bounded(0, LARGEST), default=MOST_SHOWN)
     made.word("--name", "FILE", "what standard input is called, and so how it is read")
     take_definitions(made)
     return made
@@ -70,7 +68,8 @@ def check(path: str, given: argparse.Namespace, values: List[Values]) -> int:
     differs = f"; the C differs from it in {counted(len(apart), 'place')}" if apart else ""
     verdict = f"{said(found, given.most)}{differs}"
     if given.json:
-        values.append(as_values(found, [*faults, *remarks[: given.most]], verdict))
+        more = found.count + len(apart) - len(faults)
+        values.append(as_values(found, [*faults, *remarks[: given.most]], verdict, more))
     elif given.first:
         print("".join(f"{found.path}:{fault}\n" for fault in faults[:1]), end="")
     else:
@@ -80,8 +79,9 @@ def check(path: str, given: argparse.Namespace, values: List[Values]) -> int:
     return 1 if found.faults or apart else 0
 
 
-def as_values(found: Source, faults: Sequence[Fault], verdict: str) -> Values:
-    """What there is to say of one file, as docs/check.schema.json has it."""
+def as_values(found: Source, faults: Sequence[Fault], verdict: str, more: int) -> Values:
+    """Returns what there is to say of one file, as docs/check.schema.json has it: these faults, and
+    how many `more` there are."""
     said_of: List[Values] = []
     for it in faults:
         is_note = it.message.startswith(NOTE)
@@ -90,7 +90,8 @@ def as_values(found: Source, faults: Sequence[Fault], verdict: str) -> Values:
         value["message"] = it.message[len(NOTE) if is_note else 0 :]
         said_of.append(value if is_note else {**value, "kind": it.kind})
     is_accepted = found.application is not None
-    return {"file": found.path, "accepted": is_accepted, "verdict": verdict, "faults": said_of}
+    value = {"file": found.path, "accepted": is_accepted, "verdict": verdict, "faults": said_of}
+    return {**value, "more": more} if more else value
 
 
 def drifts(found: Source) -> List[Fault]:
@@ -109,7 +110,7 @@ def said(found: Source, most: int) -> str:
     if found.application is not None:
         cores = counted(found.application.cores, "core")
         return "accepted: " + ", ".join([*found.application.counts(), cores])
-    count = len(found.faults)
+    count, kept = found.count, len(found.faults)
     faults = counted(count, "fault") + " or more" * (count == MOST_FAULTS)
-    shown = f", {most} shown" if count > most else ""
+    shown = f", {min(most, kept)} shown" if count > min(most, kept) else ""
     return f"{found.refusal() or 'makes no application'}; {faults}{shown}"

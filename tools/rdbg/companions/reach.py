@@ -11,7 +11,7 @@ from rdbg.driving.target import Unable
 from rdbg.ending import ENDING
 from rdbg.failure import Failure, of_words, trying, turned
 from rdbg.files.definitions import definition
-from rdbg.files.source import LINES, Source, load
+from rdbg.files.source import LINES, WRONG_TYPE, Source, load
 from rdbg.goals.reading import NoGoal
 from rdbg.goals.scope import Scope
 from rdbg.goals.words import for_search
@@ -125,7 +125,7 @@ def in_its_words(asked: Words) -> Iterator[Tuple[Words, Optional[Source]]]:
         yield asked, None
         return
     if source.application is None:
-        if file.endswith(LINES):
+        if file.endswith(LINES) or source.faults[0].kind == WRONG_TYPE:
             raise Failure(f"{file}:{source.faults[0]}; {file} {source.refused()}", UNTOLD)
         yield asked, None
         return

@@ -1,5 +1,6 @@
 """An application's text, as JSON or in lines, with all its faults and what it says."""
 import contextlib
+import os
 import pathlib
 import sys
 from typing import ContextManager, Iterator, Mapping, NamedTuple, Optional, Tuple
@@ -8,21 +9,27 @@ from rdbg import own_file
 from rdbg.application import Application, Beside, Instruction, Task, Text, application
 from rdbg.checking.faults import faults_of
 from rdbg.failure import Failure, trying
-from rdbg.from_c.lines import ENDING, code_below, in_lines
+from rdbg.from_c.lines import ENDING, code_below, has_lines, in_lines
 from rdbg.json_layout import json_of
-from rdbg.tree import MOST_BYTES, Fault, Node, Object
+from rdbg.tree import MOST_BYTES, Fault, Node, Object, Place
 from rdbg.wording import counted
 
 # A text in lines, or a C source in whose comments the lines stand.
 LINES = (".fw", ENDING)
+JSON = ".json"
+ACCEPTED = "a model is a .json file, a .fw file, or a .c file with '// rdbg:' lines"
+# The kind of the one fault of a file that holds no model.
+WRONG_TYPE = "file type"
+# So many faults of a file are shown by default.
+MOST_SHOWN = 100
 # Consts by their names, which were given beside a text.
 Given = Mapping[str, int]
 
 
 class Source(NamedTuple):
-    """A file: its text, its faults in the order in which rdbg looks for them, the application where
-    there is none; of a text in lines what there is to remark, what lines of objects become, and
-    which consts were given."""
+    """A file: its text, its faults in the order in which rdbg looks for them, the application if
+    there are none; of a text in lines what there is to remark, what lines of objects become, which
+    consts were given, and how many `more` faults there are than these."""
 
     path: str
     text: str
@@ -32,6 +39,12 @@ class Source(NamedTuple):
     remarks: Tuple[Fault, ...] = ()
     made: Tuple[Tuple[int, str], ...] = ()
     given: Given = {}
+    more: int = 0
+
+    @property
+    def count(self) -> int:
+        """How many faults there are."""
+        return len(self.faults) + self.more
 
     @property
     def is_c(self) -> bool:
@@ -46,7 +59,7 @@ class Source(NamedTuple):
 
     def refused(self) -> str:
         """That it is no application, beside its faults."""
-        refusal, count = self.refusal() or "refused", counted(len(self.faults), "fault")
+        refusal, count = self.refusal() or "refused", counted(self.count, "fault")
         return f"is {refusal}: {count}, as `./rdbg check {self.path}` says"
 
     def named(self) -> Optional[Beside]:
@@ -96,16 +109,36 @@ def without_faults(path: str, given: Optional[Given] = None) -> Tuple[Source, Ap
     """A file without faults, and its application. Raises `Failure` for faults, which it prints."""
     found = load(path, given)
     if found.application is None:
-        for fault in found.faults:
+        for fault in found.faults[:MOST_SHOWN]:
             print(f"{path}:{fault}", file=sys.stderr)
+        if found.count > MOST_SHOWN:
+            print(f"{path}: {found.count - MOST_SHOWN} more faults", file=sys.stderr)
         raise Failure(f"{path} {found.refused()}")
     return found, found.application
+
+
+def wrong_type(path: str, text: str) -> str:
+    """Returns why a file holds no model at all, by its name and its first words; `""` if it may.
+
+    JSON is read whatever the name of its file is: a pipe and a temporary file have no ending.
+    """
+    ending = os.path.splitext(path)[1]
+    if path.endswith(ENDING):
+        # (one that is too long is refused for that)
+        is_short = len(text) <= MOST_BYTES
+        return f"no '// rdbg:' lines in {path}" if is_short and not has_lines(text) else ""
+    if not ending or ending in (*LINES, JSON) or text.lstrip().startswith("{"):
+        return ""
+    return f"unknown file type '{ending}' ({ACCEPTED})"
 
 
 def source(path: str, content: bytes, given: Optional[Given] = None) -> Source:
     """What a file of this content is, where consts of these names are these numbers."""
     consts, shown = dict(given or {}), content.decode("utf-8", "replace")
-    if path.endswith(LINES):
+    wrong = wrong_type(path, shown)
+    if wrong:
+        text = Text(None, [Fault(Place(1, 1), WRONG_TYPE, wrong)])
+    elif path.endswith(LINES):
         from rdbg.firmware.reader import read as read_lines
 
         # (a C source that is too long is left as it is, and is refused for it)
@@ -126,7 +159,7 @@ def source(path: str, content: bytes, given: Optional[Given] = None) -> Source:
         tasks = (it._replace(code=tuple(put(it, text.comments, below))) for it in said.tasks)
         said = said._replace(tasks=tuple(tasks), interrupts=text.interrupts)
     faults, remarks, made = tuple(text.faults), tuple(text.remarks), tuple(text.made)
-    return Source(path, shown, text.root, faults, said, remarks, made, consts)
+    return Source(path, shown, text.root, faults, said, remarks, made, consts, text.more)
 
 
 def put(task: Task, comments: Mapping[int, str], below: Mapping[int, str]) -> Iterator[Instruction]:

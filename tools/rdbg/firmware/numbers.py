@@ -7,7 +7,7 @@ from rdbg.checking.slips import slip
 from rdbg.firmware.tokens import Refusal, Stop, Token, shown
 from rdbg.operands import Scope
 from rdbg.tree import Place
-from rdbg.wording import nearest
+from rdbg.wording import nearest, suggests
 
 LARGEST = 0xFFFF_FFFF
 # (parentheses within parentheses)
@@ -96,7 +96,7 @@ class Constants:
 
     def near(self, word: str) -> str:
         """The end of a message on a word that is no const: which one is near."""
-        return near_to(word, self.values)
+        return near_to(word, self.values) if suggests() else ""
 
 
 class Kept(NamedTuple):

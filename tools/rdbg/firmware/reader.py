@@ -2,6 +2,7 @@
 
 docs/FORMATS.md has the grammar. What it refuses is a fault of its own; what else can be wrong is
 found in the tree, as in that of a JSON (`rdbg.checking.faults`)."""
+import contextlib
 import itertools
 import re
 from typing import Callable, Dict, List, Mapping, Optional, Sequence, Set, Tuple
@@ -18,8 +19,10 @@ from rdbg.instructions import FORM_OF
 from rdbg.operands import Scope
 from rdbg.shapes import FILE
 from rdbg.tree import Fault, Member, Node, Number, Object, Place
+from rdbg.wording import without_suggestions
 
-# The rest of a text isn't read behind so many lines or so many refusals.
+# The rest of a text isn't read after so many lines. Of more refusals than these only their number
+# is kept.
 MOST_LINES = 20_000
 MOST_REFUSALS = 500
 CONST = ("const", "#define")
@@ -52,6 +55,8 @@ class Reader:
 
     def __init__(self, given: Mapping[str, int]) -> None:
         self.refusals: List[Refusal] = []
+        # (refusals of which only the number is kept)
+        self.more = 0
         self.remarks: List[Fault] = []
         # What lines of objects become that are written as others, in words.
         self.made: List[Tuple[int, str]] = []
@@ -77,15 +82,14 @@ class Reader:
             lines = self._lines(text)
             self._targets = meant.jumped_to(lines)
             consts = [tokens for tokens in lines if is_const(tokens)]
-            for tokens in consts:
-                self._try(tokens)
+            self._try_all(consts)
             known = semaphores.named(lines, self.constants)
             self._semaphores = {**known, **dict(meant.semaphores_of(lines)), **known}
-            for tokens in lines:
-                if not is_const(tokens):
-                    self._try(tokens)
+            self._try_all([tokens for tokens in lines if not is_const(tokens)])
         except Stop as stop:
             self.refusals.append(stop)
+            return None
+        if self.more:
             return None
         self._check_constants()
         self._check_sets()
@@ -102,17 +106,36 @@ class Reader:
                 found.append(tokens)
             if len(found) > MOST_LINES:
                 raise Stop(tokens[0].place, f"there are {MOST_LINES:,} lines; the rest isn't read")
-            if len(self.refusals) >= MOST_REFUSALS:
-                break
+        self._keep_count(MOST_REFUSALS)
         return found
 
-    def _try(self, tokens: List[Token]) -> None:
-        """Reads a line, and keeps what is refused of it."""
-        with self.kept.keeping():
-            self._line(tokens)
-        if len(self.refusals) >= MOST_REFUSALS:
-            message = f"there are {len(self.refusals)} faults up to here; the rest isn't read"
-            raise Stop(tokens[0].place, message)
+    def _try_all(self, lines: Sequence[List[Token]]) -> None:
+        """Reads lines, and keeps what is refused of them; of too many refusals only their number,
+        so that nothing near has to be found for each."""
+        for at, tokens in enumerate(lines):
+            if len(self.refusals) >= MOST_REFUSALS:
+                with without_suggestions():
+                    self._count(lines[at:])
+                return
+            with self.kept.keeping():
+                self._line(tokens)
+
+    def _count(self, lines: Sequence[List[Token]]) -> None:
+        """Reads lines, and counts what is refused of them."""
+        for tokens in lines:
+            with contextlib.suppress(Stop), self.kept.keeping():
+                try:
+                    self._line(tokens)
+                except Stop:
+                    # (each line is one too many)
+                    self.more += 1
+                    raise
+            self._keep_count(MOST_REFUSALS)
+
+    def _keep_count(self, most: int) -> None:
+        """Keeps so many refusals at most, and the number of the others."""
+        self.more += max(0, len(self.refusals) - most)
+        del self.refusals[most:]
 
     def _line(self, tokens: List[Token]) -> None:
         """Reads a line: labels, then what its first word says."""
@@ -398,7 +421,8 @@ def read(content: bytes, given: Mapping[str, int]) -> Text:
         others = [fault for fault in others if fault.place.line not in lines]
         others = sorted([*faults, *others], key=lambda fault: fault.place)
     remarks = sorted(reader.remarks, key=lambda it: it.place)
-    return Text(root, others, remarks, reader.made, reader.comments, reader.interrupts())
+    made, comments = reader.made, reader.comments
+    return Text(root, others, remarks, made, comments, reader.interrupts(), reader.more)
 
 
 def once(faults: Sequence[Fault], several: Set[int]) -> List[Fault]:

@@ -59,6 +59,11 @@ def lines_of(found: Sequence[Piece]) -> List[Line]:
     return [line for it in found if it.kind == COMMENT for line in bodies(it, alone)]
 
 
+def has_lines(text: str) -> bool:
+    """Whether a source has a comment with lines of a model."""
+    return any(it.kind == COMMENT and MARK.match(it.text) for it in pieces(text))
+
+
 def without_model(piece: Match[str]) -> str:
     """A piece of a source, where it is a comment with lines of a model as so much space."""
     is_of_model = piece.lastgroup == COMMENT and MARK.match(piece[0])
