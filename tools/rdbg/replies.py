@@ -28,7 +28,8 @@ class Unreadable(Failure):
     """A reply of no form that there is."""
 
     def __init__(self, line: str) -> None:
-        super().__init__(f"rdbg answered what no reply looks like: '{line[:200]}'")
+        self.line = line[:200]
+        super().__init__(f"rdbg answered what no reply looks like: '{self.line}'")
 
 
 class Moved(NamedTuple):

@@ -11,6 +11,7 @@ from rdbg.client import Session
 from tests.dap_client import ALL, Client, Message, editor, started
 from tests.dap_schema import Held
 from tests.paths import COMPANION, EXAMPLES
+from tests.rooms import free_port
 from tests.started import processor_seconds
 from tests.test_shell_port import server
 
@@ -74,7 +75,7 @@ class Attached(Held):
     def test_restart_behind_an_attach_that_was_refused(self) -> None:
         with editor() as client:
             client.ask("initialize")
-            client.refused("attach", port=1)
+            client.refused("attach", port=free_port())
             client.ask("launch", program=str(LOST))
             client.event("initialized")
             client.stopped("configurationDone")

@@ -3,10 +3,12 @@ for its own."""
 import subprocess
 import sys
 import unittest
-from typing import Optional, Tuple
+from typing import Callable, Optional, Tuple
 
 from tests import fake
+from tests.dap_client import editor
 from tests.paths import COMPANION
+from tests.rooms import LOST
 
 # What a terminal would clear its screen by, ring, call itself, or go back over; a letter stays.
 WILD = "\x1b[2J\x07\x1b]0;mine\x07\x9b2J\x7f\x85\rh\xe4 \u4e2d"
@@ -45,6 +47,65 @@ def ran(lines: str) -> Tuple[int, str, str]:
             env={"PYTHONIOENCODING": "utf-8"},
         )
     return done.returncode, done.stdout.decode(), done.stderr.decode()
+
+
+# A server that answers the first looks as rdbg does.
+LOOKS = {
+    "": b"no Syntax\n",
+    "show moves": b"moves 0 undone 0 kept 0\n",
+    "show cores": b"cores - ready - tick 0 turn 0\n",
+}
+YOU = b"# you are ada, session 1; here: nobody else\n"
+FULL = "the history of the server is full, so that it executes nothing more: no HistoryFull"
+OTHER = "this is not a server of rdbg, or of another version: no Syntax"
+GARBAGE = "this is not a server of rdbg: it answered '\ufffd\\x1b[2J'"
+
+
+class NoServer(unittest.TestCase):
+    """A server whose history is full, or that is not rdbg's: a line, status 2, no traceback."""
+
+    def check(self, answers: Callable[[str], Optional[bytes]], why: str, *words: str) -> None:
+        """Checks what each tool says of a server that answers so."""
+        for tool in ("sh", "trace"):
+            with self.subTest(tool, words=words), fake.port(answers) as port:
+                told = [sys.executable, "-B", str(COMPANION), tool, "--port", str(port), *words]
+                done = subprocess.run(
+                    told, input=b"where\n", stdout=subprocess.PIPE, stderr=subprocess.PIPE
+                )
+                said = f"rdbg {tool}: port {port}: {why}\n"
+                self.assertEqual((done.returncode, done.stderr.decode()), (2, said))
+
+    def test_it_answers_the_same_to_everything(self) -> None:
+        for words in ((), (LOST,)):
+            self.check(lambda line: b"no Syntax\n", OTHER, *words)
+            self.check(lambda line: b"\xff\x1b[2J\n", GARBAGE, *words)
+            self.check(lambda line: b"no HistoryFull\n" if line else b"no Syntax\n", FULL, *words)
+        closed = "the server lets nobody else in: no HistoryFull"
+        self.check(lambda line: b"no HistoryFull\n", closed)
+
+    def test_it_answers_so_once_it_is_compared(self) -> None:
+        for answer, why in ((b"no Syntax\n", OTHER), (b"no HistoryFull\n", FULL)):
+            self.check(lambda line, answer=answer: LOOKS.get(line, answer), why, LOST)  # type: ignore[misc]
+        self.check(lambda line: LOOKS.get(line, b"\xff\x1b[2J\n"), GARBAGE, LOST)
+
+    def test_it_knows_names(self) -> None:
+        for answer, why in ((b"no Syntax\n", OTHER), (b"no HistoryFull\n", FULL)):
+            with fake.port(lambda line: YOU if line.startswith("# name") else answer) as port:
+                told = ["sh", "--port", str(port), "--name", "ada"]
+                done = subprocess.run(
+                    [sys.executable, "-B", str(COMPANION), *told],
+                    stdin=subprocess.DEVNULL,
+                    stderr=subprocess.PIPE,
+                )
+                self.assertEqual(done.stderr.decode(), f"rdbg sh: port {port}: {why}\n")
+                self.assertEqual(done.returncode, 2)
+
+    def test_an_editor(self) -> None:
+        for answer, why in ((b"no Syntax\n", OTHER), (b"no HistoryFull\n", FULL)):
+            with fake.port(lambda line: answer if line else b"no Syntax\n") as port:
+                with editor() as client:
+                    client.ask("initialize")
+                    self.assertEqual(f"port {port}: {why}", client.refused("attach", port=port))
 
 
 class FalsePort(unittest.TestCase):

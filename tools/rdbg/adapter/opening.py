@@ -18,7 +18,6 @@ from rdbg.files import source as sources
 from rdbg.files.definitions import definition
 from rdbg.files.source import Source
 from rdbg.firmware.writer import text_of
-from rdbg.replies import Refused
 from rdbg.shell import paces
 from rdbg.shell.shell import Shell
 
@@ -140,12 +139,9 @@ def attach(given: Arguments, pause: Pause, hear: Tell) -> Shell:
         raise Wrong(f"port is a number from 1 to 65535, and not {port}")
     path = file_of(given)
     source = None if path is None else read(path, given)
-    try:
-        with turned(Wrong, Failure):
-            name = given.text("as", "") or None
-            target = attached(port, source, name, given.flag("anyone"), REMEDY)
-    except Refused as refused:
-        raise Wrong(f"the server lets nobody else in: no {refused}") from None
+    name, anyone = given.text("as", "") or None, given.flag("anyone")
+    with turned(Wrong, Failure):
+        target = attached(port, source, name, anyone, REMEDY)
     shell = EditorShell(target, source, pause)
     shell.hear = hear
     return shell

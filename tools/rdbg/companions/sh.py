@@ -16,9 +16,10 @@ from rdbg.driving.target import Limits
 
 SUMMARY = "a prompt: rdbg's lines with history, Tab and help, and what each move did"
 EPILOG = (
-    "Not at a terminal it is a filter: it prints what rdbg answers, and lines of its own begin with"
-    " '# '; hints go to standard error. The status is 0, 1 where the application is refused, or"
-    " where rdbg, or a room, has ended, 2 where a file or a port can't be had."
+    "If standard input or output is not a terminal, it is a filter: it prints what rdbg answers,"
+    " lines of its own begin with '# ', and hints go to standard error. The exit status is 0; 1 if"
+    " the application is refused, or rdbg or the room ends; 2 if a file or a port cannot be had, or"
+    " the server there belongs to another user, serves nobody else, or is not rdbg's."
 )
 
 

@@ -19,6 +19,12 @@ BUILTIN = b"""{"profile": 1, "cores": 1, "queues": [{"name": "q0", "length": 2, 
 # So many seconds pass before it is said that a server doesn't answer.
 PATIENCE = 3
 NOTE = "# the server doesn't answer: are as many attached as it was started for (--sessions)?"
+# What a refusal of the first looks means.
+REFUSALS = {
+    "HistoryFull": "the history of the server is full, so that it executes nothing more",
+    "Syntax": "this is not a server of rdbg, or of another version",
+}
+OTHER = "the server refuses to show its target"
 # What those that start programs of their own give them.
 as_read = Source.as_read
 
@@ -85,19 +91,37 @@ def attach(
     timer = threading.Timer(PATIENCE, lambda: print(NOTE, file=sys.stderr, flush=True))
     timer.daemon = True
     timer.start()
-    try:
-        session = Session.attach(port, name, anyone, remedy)
-        if name is None:
-            greet(session)
-    finally:
-        timer.cancel()
-    target = Target(session, source.application if source else None, None)
-    with closed_if_wrong(session), session.looking():
-        target.places()
-        target.tell("show cores")
-        if source is not None and source.application is not None:
-            compare(target, source.application, source.path)
+    with expecting_rdbg(port):
+        try:
+            session = Session.attach(port, name, anyone, remedy)
+            if name is None:
+                greet(session)
+        finally:
+            timer.cancel()
+        target = Target(session, source.application if source else None, None)
+        with closed_if_wrong(session), session.looking():
+            target.places()
+            target.tell("show cores")
+            if source is not None and source.application is not None:
+                compare(target, source.application, source.path)
     return target
+
+
+@contextlib.contextmanager
+def expecting_rdbg(port: int) -> Iterator[None]:
+    """Turns the first answers of a server that does not serve, or is not rdbg's, into a `Failure`
+    with status 2."""
+    try:
+        yield
+    except NotLetIn as failure:
+        raise Failure(f"port {port}: {failure}", 2) from None
+    except Unreadable as unreadable:
+        why = f"this is not a server of rdbg: it answered '{unreadable.line}'"
+        raise Failure(f"port {port}: {why}", 2) from None
+    except Refused as refused:
+        raise Failure(
+            f"port {port}: {REFUSALS.get(refused.name, OTHER)}: no {refused}", 2
+        ) from None
 
 
 def compare(target: Target, application: Application, path: str) -> None:
