@@ -94,6 +94,12 @@ class Signals:
         self.port.stop()
 
 
+def say(text: str) -> None:
+    """Prints what cannot wait until the end of the room. It goes on if nobody can read that."""
+    with contextlib.suppress(OSError, ValueError):
+        print(f"rdbg room: {text}", file=sys.stderr, flush=True)
+
+
 def open_room(source: Source, limits: Limits, sessions: int, talk: Optional[Talk]) -> Room:
     """A room, once it has its program. Where others are first it says so, and tries again."""
     while True:
@@ -155,7 +161,7 @@ def main(words: Sequence[str]) -> int:
     signals = Signals()
     room = open_room(source, limits, given.sessions, talk)
     signals.port = port
-    room.say = lambda text: print(f"rdbg room: {text}", file=sys.stderr, flush=True)
+    room.say = say
     audits = serve(room, port, door, given)
     for row in room.counts.rows():
         print(f"# {row}")
