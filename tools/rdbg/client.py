@@ -19,7 +19,7 @@ from rdbg import children, owners, replies
 from rdbg.commands import MOST_BYTES
 from rdbg.ending import ENDING, STARTED
 from rdbg.failure import Failure, trying
-from rdbg.shown import shown
+from rdbg.printable import printable
 
 WRAPPER = pathlib.Path(__file__).resolve().parents[2] / "rdbg"
 # So many bytes of lines fit into an empty pipe, so that writing them waits for nobody.
@@ -37,7 +37,7 @@ READ = 65_536
 @functools.lru_cache(maxsize=4_096)
 def text_of(line: bytes) -> str:
     """A line that has come, without its end, as a terminal can show it, whoever wrote it."""
-    return shown(line[:-1].decode("utf-8", "replace"))
+    return printable(line[:-1].decode("utf-8", "replace"))
 
 
 def said_by(words: Sequence[str], errors: Optional[int]) -> Tuple[bytes, int]:

@@ -1,11 +1,13 @@
-"""What ends a companion with a line for its user, and no traceback."""
+"""Errors that end a tool with one line for its user, and without a traceback."""
 import contextlib
 from typing import Callable, Iterator, Type
 
+from rdbg.printable import printable
+
 
 class Failure(Exception):
-    """Why a companion can't go on, as one line, and the exit status that says so: 1 where rdbg or
-    the application is to blame, 2 for words of the command line and files that can't be had."""
+    """Why a tool cannot go on, as one line, and its exit status: 1 if rdbg or the application is to
+    blame, 2 for wrong arguments and for files that cannot be read or written."""
 
     def __init__(self, message: str, status: int = 1) -> None:
         super().__init__(message)
@@ -13,16 +15,18 @@ class Failure(Exception):
 
 
 @contextlib.contextmanager
-def trying(what: str) -> Iterator[None]:
-    """As long as something is tried, as `read FILE`. Where the system can't, `Failure` says why."""
+def trying(action: str) -> Iterator[None]:
+    """Turns an `OSError` of the block into a `Failure` that says what could not be done.
+
+    The action names its file as the user wrote it, as in `read FILE`."""
     try:
         yield
     except OSError as error:
-        raise Failure(f"cannot {what}: {error.strerror}", 2) from None
+        raise Failure(f"cannot {printable(action)}: {error.strerror or error}", 2) from None
 
 
 def of_words(message: str) -> Failure:
-    """A failure to which words of the command line, or a file, are to blame."""
+    """Returns a failure that the command line, or a file, is to blame for."""
     return Failure(message, 2)
 
 
@@ -30,8 +34,8 @@ def of_words(message: str) -> Failure:
 def turned(
     into: Callable[[str], Exception], *kinds: Type[Exception], of: str = ""
 ) -> Iterator[None]:
-    """As long as something is tried: errors of these kinds become another, in the same words, and
-    behind what they are of, where that is said."""
+    """Turns errors of these kinds into another one with the same message, after the name of what
+    they concern, if that is given."""
     try:
         yield
     except kinds as wrong:

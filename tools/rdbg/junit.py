@@ -2,7 +2,7 @@
 from typing import Iterable, Sequence, Tuple
 from xml.etree import ElementTree
 
-from rdbg.shown import shown
+from rdbg.printable import printable
 
 # What a case that isn't as expected has in such a report, one of which that isn't known, and one
 # that is as expected.
@@ -14,19 +14,19 @@ def case(
 ) -> ElementTree.Element:
     """A case of a file: what it has that isn't as expected, and why, the lines that are told of it,
     and more that is said of it. XML takes each character of them."""
-    about = {"classname": shown(file), "name": shown(name), **more}
+    about = {"classname": printable(file), "name": printable(name), **more}
     made = ElementTree.Element("testcase", about)
     what, why = wrong
     if what != AS_EXPECTED:
-        ElementTree.SubElement(made, what, {"message": shown(why)})
+        ElementTree.SubElement(made, what, {"message": printable(why)})
     if lines:
-        ElementTree.SubElement(made, "system-out").text = "\n".join(map(shown, lines))
+        ElementTree.SubElement(made, "system-out").text = "\n".join(map(printable, lines))
     return made
 
 
 def with_notes(made: ElementTree.Element, notes: Iterable[str]) -> ElementTree.Element:
     """Adds notes to a case, as its `system-err`."""
-    text = "\n".join(map(shown, notes))
+    text = "\n".join(map(printable, notes))
     if text:
         ElementTree.SubElement(made, "system-err").text = text
     return made
@@ -41,7 +41,7 @@ def document(name: str, cases: Sequence[ElementTree.Element], **more: str) -> st
     }
     numbers = {key: str(value) for key, value in counted.items()}
     whole = ElementTree.Element("testsuites", numbers)
-    about = {"name": shown(name), **numbers, **more}
+    about = {"name": printable(name), **numbers, **more}
     ElementTree.SubElement(whole, "testsuite", about).extend(cases)
     text = ElementTree.tostring(whole, encoding="unicode")
     return f'<?xml version="1.0" encoding="utf-8"?>\n{text}\n'

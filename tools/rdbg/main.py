@@ -10,6 +10,7 @@ from typing import List, NamedTuple, Sequence
 from rdbg import ending
 from rdbg.ending import ENDING
 from rdbg.failure import Failure
+from rdbg.printable import printable
 
 FOLDER = os.path.join(os.path.dirname(os.path.abspath(__file__)), "companions")
 # How the line begins on which a companion says what it is for.
@@ -107,7 +108,8 @@ def main(words: Sequence[str]) -> int:
         return status
     except Failure as failure:
         ENDING.check()
-        print(" ".join(["rdbg", *words[:1]]) + f": {failure}", file=sys.stderr)
+        name = " ".join(["rdbg", *words[:1]])
+        print(printable(f"{name}: {failure}"), file=sys.stderr)
         return failure.status
     except OSError as error:
         ENDING.check()

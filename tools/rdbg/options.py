@@ -1,9 +1,10 @@
 """Command lines: their words, and the numbers and ports in them."""
 import argparse
-from typing import Any, Callable, Tuple
+from typing import Any, Callable, NoReturn, Tuple
 
-from rdbg.wording import shown
 from rdbg.digits import number
+from rdbg.printable import printable
+from rdbg.wording import shown
 
 MOST_COUNT = 1_000_000
 MOST_PORT = 65_535
@@ -12,7 +13,11 @@ ANYONE = "connects to a server at --port that another user runs, too"
 
 
 class Parser(argparse.ArgumentParser):
-    """Reads the words of a command line."""
+    """Parses the arguments of a tool."""
+
+    def error(self, message: str) -> NoReturn:
+        """Ends the tool with its usage and a message about arguments that it does not take."""
+        super().error(printable(message))
 
     def word(self, name: str, value: str, text: str, **more: Any) -> None:
         """Takes an option, or what stands by itself: what its value is called, and what it is."""

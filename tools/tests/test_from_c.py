@@ -207,10 +207,14 @@ class Calls(unittest.TestCase):
     def test_names(self) -> None:
         named = set()
         for title in ("Queues and queue sets", "Stream buffers and message buffers"):
-            for row in rows(section("reference/calls.md", title), "| FreeRTOS | Instruction | r0 |"):
+            for row in rows(
+                section("reference/calls.md", title), "| FreeRTOS | Instruction | r0 |"
+            ):
                 named |= codes(row[:1])
         for title in ("Notifications", "Event groups"):
-            for row in rows(section("reference/calls.md", title), "| FreeRTOS | Instruction | r0 |"):
+            for row in rows(
+                section("reference/calls.md", title), "| FreeRTOS | Instruction | r0 |"
+            ):
                 named |= codes(row[:1])
         self.assertEqual(named - set(TEMPLATES), set())
 

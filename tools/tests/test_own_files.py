@@ -13,14 +13,14 @@ from rdbg.failure import Failure
 from rdbg.main import main
 from rdbg.rooms.talk import HEAD, Talk
 from rdbg.shell.prompt import Lines
-from rdbg.whole_file import written
+from rdbg.atomic_file import write_atomically
 from tests.rooms import LOST
 from tests.shell_talk import example, said
 from tests.strangers import IS_ROOT, NOBODY, become
 
-LAID = "a link that another user has laid"
+LAID = "a link of another user"
 OF_ANOTHER = f"it is {LAID}"
-FOR_ALL = "it is a link, in a folder that all may write to"
+FOR_ALL = "it is a link in a folder that everybody may write to"
 THERE = "is there, and wasn't saved by this prompt: it stays as it is"
 
 
@@ -44,7 +44,7 @@ def save(path: str) -> str:
 def page(path: str) -> str:
     """Writes what is made to be handed on, and answers why it can't be."""
     try:
-        with written(path) as file:
+        with write_atomically(path) as file:
             file.write("a page")
     except Failure as failure:
         return str(failure)
@@ -191,7 +191,7 @@ class Links(Case):
         file = self.folder / "found.commands"
         file.write_text(HEAD)
         os.chown(file, NOBODY, -1)
-        why = f"cannot write {file}: it is a file of another user"
+        why = f"cannot write {file}: it is a file of another user (uid {NOBODY})"
         self.assertEqual(why, keep_talk(str(file)))
         type_a_line(str(file))
         with example("lost_item") as shell:
@@ -203,7 +203,7 @@ class Links(Case):
         for name, way in ALL.items():
             with self.subTest(name):
                 target.write_text(HEAD)
-                with mock.patch("rdbg.links.behind", lambda path: path):
+                with mock.patch("rdbg.links.resolve", lambda path: path):
                     link.symlink_to(target)
                     way(str(link))
                     link.unlink()
@@ -295,13 +295,13 @@ class Folders(Case):
     def test_where_all_can_rename_one(self) -> None:
         link = self.made("shared", 0o777) / "out"
         link.symlink_to(self.aim)
-        self.refused(link, link, "a link, in a folder that all may write to")
+        self.refused(link, link, "a link in a folder that everybody may write to")
 
     def test_one_that_is_laid_meanwhile(self) -> None:
         link = self.folder / "out"
         link.symlink_to(self.aim)
         for name, way in ALL.items():
-            with self.subTest(name), mock.patch("rdbg.links.behind", lambda path: path):
+            with self.subTest(name), mock.patch("rdbg.links.resolve", lambda path: path):
                 way(str(link / f"{name}.commands"))
                 self.assertEqual([], list(self.aim.iterdir()))
 
@@ -310,7 +310,7 @@ class Folders(Case):
         one.symlink_to(other)
         other.symlink_to(one)
         file = one / "page"
-        self.assertEqual(f"cannot write {file}: its links lead nowhere", page(str(file)))
+        self.assertEqual(f"cannot write {file}: too many links", page(str(file)))
 
 
 class There(Case):

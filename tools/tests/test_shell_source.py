@@ -8,6 +8,7 @@ from types import SimpleNamespace
 from typing import List
 from unittest import mock
 
+from rdbg import input_file
 from rdbg.shell import sourcing
 from tests.paths import EXAMPLES
 from tests.shell_talk import example, said
@@ -119,11 +120,12 @@ class Start(InFolder):
     def test_what_others_may_have_written_isn_t_read(self) -> None:
         path = self.put(sourcing.START, "step 0")
         os.chmod(path, 0o666)
-        why = f"# {path} isn't read: it is to be a file of yours that not all may write"
+        what = "a regular file that you own and that not everybody can write"
+        why = f"# cannot read {path}: it must be {what}"
         self.assertEqual(self.begun(b"tick\n"), [why, "ok at 1"])
         os.chmod(path, 0o644)
         another = SimpleNamespace(**{**vars(os), "geteuid": lambda: os.geteuid() + 1})
-        with mock.patch.object(sourcing, "os", another):
+        with mock.patch.object(input_file, "os", another):
             self.assertEqual(self.begun(b"tick\n")[0], why)
         os.unlink(path)
         os.mkfifo(path)

@@ -8,7 +8,7 @@ from typing import Dict
 from unittest import mock
 
 from rdbg.client import program
-from rdbg.shell.prompt import history_file
+from rdbg.shell.history import history_path
 from tests.paths import EXAMPLES
 from tests.shell_terminal import PROMPT, Terminal
 
@@ -114,9 +114,9 @@ class HistoryFile(unittest.TestCase):
         }
         for (name, value), path in places.items():
             with mock.patch.dict(os.environ, {name: value}, clear=True):
-                self.assertEqual(str(history_file()), path)
+                self.assertEqual(str(history_path()), path)
         with mock.patch.dict(os.environ, {"RDBG_HISTORY": ""}):
-            self.assertIsNone(history_file())
+            self.assertIsNone(history_path())
 
 
 if __name__ == "__main__":

@@ -187,7 +187,7 @@ class Breakpoints:
             asked = [Arguments({"line": it}, "setBreakpoints.lines") for it in given.all("lines")]
         if text.is_named(given.part("source")):
             return self.put(LINE, shell, text, asked)
-        found = "no file is known here" if text.source is None else f"it isn't {text.source.path}"
+        found = "no file is known here" if text.source is None else f"it isn't {text.source.name}"
         return [{"verified": False, "message": found} for _ in asked]
 
 

@@ -5,9 +5,9 @@ import sys
 import threading
 from typing import Any, Set
 
-from rdbg import own_file
 from rdbg.adapter.server import Server
 from rdbg.door import Door, Entrance, Unheard, drop
+from rdbg.temporary import temporary_file
 
 # So many editors at a time are served. So many connections may be silent, so many seconds each:
 # then the oldest is closed.
@@ -22,7 +22,7 @@ def listen(port: int, door: Door) -> None:
     had, or a token is asked for and can't be written."""
     with Editors(port, door) as editors, contextlib.ExitStack() as ends:
         if door.token:
-            path = ends.enter_context(own_file.kept("token", f"{door.token}\n", "the token"))
+            path = ends.enter_context(temporary_file("token", f"{door.token}\n", "the token"))
             print(f"{UNTOLD}: {ASKED} {path}", file=sys.stderr, flush=True)
         print(f"listening {port}{door.said}", flush=True)
         editors.serve_forever()

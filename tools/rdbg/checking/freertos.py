@@ -92,7 +92,9 @@ FROM_ISR = by_word(
     }
 )
 # What is said of the others.
-INTERRUPT = "; of an interrupt it is a call of a task with a core of its own (docs/guides/from-c.md)"
+INTERRUPT = (
+    "; of an interrupt it is a call of a task with a core of its own (docs/guides/from-c.md)"
+)
 
 
 def called(word: str) -> str:
@@ -108,7 +110,9 @@ def sentence(word: str, in_lines: bool = False) -> Optional[str]:
     plain = re.sub(r"(?i)FromISR$", "", name)
     end = "" if plain == name else INTERRUPT
     if end and plain.lower() in FROM_ISR:
-        return f"{name} is the command {FROM_ISR[plain.lower()]}, in profile 2 (docs/guides/from-c.md)"
+        return (
+            f"{name} is the command {FROM_ISR[plain.lower()]}, in profile 2 (docs/guides/from-c.md)"
+        )
     by_name = {**BY_NAME, **(CALLS_IN_LINES if in_lines else {})}
     if plain.lower() in by_name:
         return f"{name} is written {by_name[plain.lower()]}{end}"

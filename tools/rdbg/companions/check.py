@@ -8,8 +8,10 @@ from rdbg import kinds
 from rdbg.checking.faults import MOST_FAULTS, remarks_of
 from rdbg.failure import Failure
 from rdbg.files.definitions import take_definitions
-from rdbg.files.source import MOST_SHOWN, Source, load, source, standard_input
+from rdbg.files.source import MOST_SHOWN, Source, load, source
+from rdbg.input_file import LARGEST_SOURCE, read_standard_input
 from rdbg.options import Parser, bounded
+from rdbg.printable import printable
 from rdbg.tree import Fault
 from rdbg.wording import counted
 
@@ -54,13 +56,14 @@ def check(path: str, given: argparse.Namespace, values: List[Values]) -> int:
     try:
         consts = dict(given.consts)
         if path == STANDARD_INPUT:
-            found = source(given.name or path, standard_input(), consts)
+            found = source(given.name or path, read_standard_input(LARGEST_SOURCE), consts)
         else:
             found = load(path, consts)
     except Failure as failure:
         sys.stdout.flush()
-        where = "" if path in str(failure) else f"{path}: "
-        print(f"rdbg check: {where}{failure}", file=sys.stderr)
+        name, why = printable(path), printable(str(failure))
+        where = "" if name in why else f"{name}: "
+        print(f"rdbg check: {where}{why}", file=sys.stderr)
         return failure.status
     apart = drifts(found)
     faults = [*found.faults, *apart][: given.most]
@@ -68,14 +71,14 @@ def check(path: str, given: argparse.Namespace, values: List[Values]) -> int:
     differs = f"; the C differs from it in {counted(len(apart), 'place')}" if apart else ""
     verdict = f"{said(found, given.most)}{differs}"
     if given.json:
-        more = found.count + len(apart) - len(faults)
+        more = found.fault_count + len(apart) - len(faults)
         values.append(as_values(found, [*faults, *remarks[: given.most]], verdict, more))
     elif given.first:
-        print("".join(f"{found.path}:{fault}\n" for fault in faults[:1]), end="")
+        print("".join(f"{found.name}:{fault}\n" for fault in faults[:1]), end="")
     else:
         for fault in [*faults, *remarks[: given.most]]:
-            print(f"{found.path}:{fault}")
-        print(f"{found.path}: {verdict}")
+            print(f"{found.name}:{fault}")
+        print(f"{found.name}: {verdict}")
     return 1 if found.faults or apart else 0
 
 
@@ -110,7 +113,7 @@ def said(found: Source, most: int) -> str:
     if found.application is not None:
         cores = counted(found.application.cores, "core")
         return "accepted: " + ", ".join([*found.application.counts(), cores])
-    count, kept = found.count, len(found.faults)
+    count, kept = found.fault_count, len(found.faults)
     faults = counted(count, "fault") + " or more" * (count == MOST_FAULTS)
     shown = f", {min(most, kept)} shown" if count > min(most, kept) else ""
     return f"{found.refusal() or 'makes no application'}; {faults}{shown}"

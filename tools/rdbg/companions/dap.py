@@ -36,7 +36,10 @@ def main(words: Sequence[str]) -> int:
     if given.anyone:
         made.error("--anyone goes with --port")
     if sys.stdin.isatty():
-        print("rdbg dap: an editor starts this (docs/guides/editors.md); Ctrl-D ends it", file=sys.stderr)
+        print(
+            "rdbg dap: an editor starts this (docs/guides/editors.md); Ctrl-D ends it",
+            file=sys.stderr,
+        )
     # (streams of their own: no print comes between, and none is waited for at the end)
     lines = os.fdopen(os.dup(sys.stdin.fileno()), "rb")
     answers = os.fdopen(os.dup(sys.stdout.fileno()), "wb")

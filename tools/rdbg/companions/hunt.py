@@ -6,10 +6,10 @@ import sys
 import time
 from typing import IO, Iterator, List, Optional, Sequence, Tuple
 
-from rdbg import digits, links, options, whole_file
+from rdbg import atomic_file, digits, options
 from rdbg.application import NO_INTERRUPT
 from rdbg.driving.target import Unable
-from rdbg.failure import Failure, trying
+from rdbg.failure import Failure
 from rdbg.files.definitions import take_definitions
 from rdbg.files.source import Source, without_faults
 from rdbg.hunting import goals, report
@@ -122,25 +122,19 @@ def check_words(given: argparse.Namespace, goal: Goal) -> None:
 
 @contextlib.contextmanager
 def outputs(path: Optional[str], source: str) -> Iterator[Tuple[IO[str], IO[str]]]:
-    """Where the lines go, and where what is said of them. A file is emptied before anything is
-    looked for, so that none of an earlier hunt stand there where nothing is found. Raises `Failure`
-    where it can't be written."""
+    """Yields the file for the lines of the finds, and the file for the text about them.
+
+    An existing output file is emptied first, so that it has no lines of an earlier hunt if this one
+    finds nothing; a new one is made only for a find. Raises `Failure` if it cannot be written."""
     if path is None or path == STANDARD:
         yield sys.stdout, sys.stderr
         return
-    with trying(f"write {path}"):
-        behind = links.behind(path)
-        was_there = os.path.lexists(behind)
-        if was_there and os.path.samefile(behind, source):
+    with contextlib.suppress(OSError):
+        if os.path.samefile(path, source):
             raise Failure(f"-o {path} is the application itself, which would be lost", CANT)
-        file = open(behind, "w", encoding="utf-8", opener=links.no_link)
-    try:
-        with file:
-            yield file, sys.stdout
-    finally:
-        with contextlib.suppress(FileNotFoundError):
-            if not was_there and not os.path.getsize(behind):
-                os.unlink(behind)
+    atomic_file.empty(path)
+    with atomic_file.write_atomically(path, skips_empty=True) as file:
+        yield file, sys.stdout
 
 
 class Hunt:
@@ -259,7 +253,7 @@ def hunt(given: argparse.Namespace, source: Source, path: str) -> int:
         raise Failure(f"{OPTION} NAME after or apart: {why}{left_out}", CANT)
     for output in (given.page, given.report):
         if output not in (None, STANDARD):
-            whole_file.check(output)
+            atomic_file.check_writable(output)
     end = None if given.within is None else time.monotonic() + given.within
     words_passed = tuple(word for pair in passed(given) for word in pair)
     stage = Stage(source, may_come)

@@ -1,7 +1,6 @@
 """Joins the answers of the parts of one search."""
 import contextlib
 import dataclasses
-import pathlib
 import sys
 from typing import List, Sequence
 
@@ -11,6 +10,7 @@ from rdbg.files.definitions import take_definitions
 from rdbg.files.source import without_faults
 from rdbg.hunting.interrupts import handlers
 from rdbg.hunting.stage import Stage
+from rdbg.input_file import LARGEST_COMMANDS, read_bounded
 from rdbg.options import APPLICATION, Parser
 from rdbg.reaching import said
 from rdbg.reaching.said import Answer, Bound, Kind
@@ -41,7 +41,7 @@ def parser() -> Parser:
 def read(path: str) -> Answer:
     """The answer in a file. Raises `Failure` where there is none of a part."""
     with trying(f"read {path}"):
-        text = pathlib.Path(path).read_text(encoding="utf-8", errors="replace")
+        text = read_bounded(path, LARGEST_COMMANDS).decode("utf-8", "replace")
     with turned(of_words, Failure, of=path):
         answer = said.read(text.splitlines())
     if answer.part is None:

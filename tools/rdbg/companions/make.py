@@ -6,6 +6,7 @@ import sys
 from typing import Iterable, Iterator, Optional, Sequence, Set, Tuple
 
 from rdbg.application import Application, Instruction, Task
+from rdbg.atomic_file import STANDARD_OUTPUT, write_atomically
 from rdbg.failure import Failure
 from rdbg.files.definitions import take_definitions
 from rdbg.files.source import Given, source, without_faults
@@ -14,8 +15,8 @@ from rdbg.from_c.lines import in_lines
 from rdbg.json_layout import json_of
 from rdbg.operands import to_text
 from rdbg.options import Parser
+from rdbg.printable import printable
 from rdbg.tree import MOST_BYTES, Place
-from rdbg.whole_file import STANDARD_OUTPUT, written
 
 SUMMARY = "makes an application's JSON from a text in lines (.fw), or the text from the JSON"
 EPILOG = (
@@ -94,9 +95,9 @@ def make_lines(path: str, output: str, consts: Given) -> int:
     if os.path.lexists(output):
         raise Failure(f"{output} is there already, and it would be lost", 2)
     found, application = without_faults(path, consts)
-    with written(output) as file:
+    with write_atomically(output) as file:
         file.write(in_lines(found.text))
-    print(f"{output}: {', '.join(application.counts())}")
+    print(f"{printable(output)}: {', '.join(application.counts())}")
     return 0
 
 
@@ -112,13 +113,13 @@ def make(path: str, output: Optional[str], consts: Given) -> int:
     text = json_of(application)
     if len(text) > MOST_BYTES:
         raise Failure(f"the JSON of {path} has {len(text):,} bytes; rdbg reads {MOST_BYTES:,}")
-    with written(chosen) as file:
+    with write_atomically(chosen) as file:
         file.write(text)
     told = sys.stderr if chosen == STANDARD_OUTPUT else sys.stdout
     if chosen != STANDARD_OUTPUT:
-        print(f"{chosen}: {', '.join(application.counts())}")
+        print(f"{printable(chosen)}: {', '.join(application.counts())}")
     for line in expansions(application, found.made):
-        print(f"{path}:{line}", file=told)
+        print(f"{found.name}:{line}", file=told)
     return 0
 
 
@@ -137,7 +138,7 @@ def back(path: str, output: Optional[str]) -> int:
     if again is None or json_of(again) != json_of(application):
         # (what was found of an `if` would become other instructions than there are)
         text = text_of(application, is_plain=True)
-    with written(chosen) as file:
+    with write_atomically(chosen) as file:
         file.write(text)
     jumps = [*jumps_of(application)]
     if jumps:

@@ -6,7 +6,8 @@ import signal
 import sys
 from typing import Iterator, List, NoReturn, Optional, Sequence, Tuple
 
-from rdbg import ending, program_help, whole_file
+from rdbg import ending, program_help
+from rdbg.atomic_file import STANDARD_OUTPUT, check_writable, write_atomically
 from rdbg.driving.target import Unable
 from rdbg.ending import ENDING
 from rdbg.failure import Failure, of_words, trying, turned
@@ -15,6 +16,8 @@ from rdbg.files.source import LINES, WRONG_TYPE, Source, load
 from rdbg.goals.reading import NoGoal
 from rdbg.goals.scope import Scope
 from rdbg.goals.words import for_search
+from rdbg.input_file import read_bounded
+from rdbg.printable import printable
 from rdbg.reaching import beside, running, said, vacuity
 from rdbg.reaching.asking import DOOMED, LOST as LOST_AT, REACH, STOPPED, Question, program
 from rdbg.reaching.handlers import handlers, told as told_of
@@ -42,9 +45,9 @@ def check_output(asked: Words) -> None:
     for option, path in asked.own.items():
         if option == WITHIN:
             continue
-        if path == whole_file.STANDARD_OUTPUT:
+        if path == STANDARD_OUTPUT:
             raise Failure(f"{option} takes a file; the order is on standard output without it", 2)
-        whole_file.check(path)
+        check_writable(path)
         for file in filter(os.path.exists, asked.files()):
             if os.path.exists(path) and os.path.samefile(file, path):
                 raise Failure(f"{option} {path} is {file} itself, which would be lost", 2)
@@ -83,7 +86,7 @@ def say(asked: Words, outcome: running.Outcome, source: Optional[Source]) -> int
     answer = said.read(output.splitlines())
     try:
         if OUTPUT in asked.own and answer.has_order:
-            with whole_file.written(asked.own[OUTPUT]) as file:
+            with write_atomically(asked.own[OUTPUT]) as file:
                 file.writelines(f"{line}\n" for line in answer.order)
     finally:
         # (what was found isn't lost where it can't be written)
@@ -161,8 +164,9 @@ def unlinked(asked: Words) -> List[str]:
         if coming:
             print(f"rdbg reach: {coming}", file=sys.stderr)
         made = os.memfd_create("application.json", 0)
-        with open(told.plain()[0], "rb") as file:
-            os.write(made, file.read())
+        json = told.plain()[0]
+        with trying(f"read {json}"), os.fdopen(os.dup(made), "wb") as file:
+            file.write(read_bounded(json))
     return told.put(f"/proc/self/fd/{made}", "").program
 
 
@@ -180,7 +184,9 @@ def write_page(asked: Words, answer: Answer, source: Source) -> None:
     begin = [it.text for it in lines_in(text_of(from_path).text)] if from_path is not None else []
     lines = begin if question is LOST_AT else [*answer.order] or begin
     if not lines:
-        print(f"rdbg reach: no order leads there, so {path} isn't written", file=sys.stderr)
+        print(
+            f"rdbg reach: no order leads there, so {printable(path)} isn't written", file=sys.stderr
+        )
         return
     order = answer.order if question is LOST_AT else ()
     try:

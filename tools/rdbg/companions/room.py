@@ -12,6 +12,7 @@ from rdbg.options import APPLICATION, Parser, bounded, port
 from rdbg.door import TOKEN, Door
 from rdbg.ending import Terminated
 from rdbg.failure import Failure
+from rdbg.printable import printable
 from rdbg.rooms import keys, remarks
 from rdbg.rooms.host import MOST_SESSIONS, Audit, Hindered
 from rdbg.rooms.program import HISTORY
@@ -143,7 +144,8 @@ def tell(given: argparse.Namespace, door: Door, where: str) -> None:
     if where:
         print(f"web {where}", flush=True)
     if sys.stdout.isatty():
-        print(f"# rdbg sh --port {given.port} --name NAME {given.file}: a prompt in it", flush=True)
+        name = printable(given.file)
+        print(f"# rdbg sh --port {given.port} --name NAME {name}: a prompt in it", flush=True)
 
 
 def main(words: Sequence[str]) -> int:
@@ -170,7 +172,7 @@ def main(words: Sequence[str]) -> int:
     is_incomplete = talk is not None and bool(talk.fault or talk.missing)
     if talk is not None and is_incomplete:
         missing = f" (missing: {talk.missing})" if talk.missing else ""
-        why = f"cannot write {talk.path}: {talk.last_fault}{missing}"
+        why = f"cannot write {printable(talk.path)}: {talk.last_fault}{missing}"
         print(f"rdbg room: {why}", file=sys.stderr)
     if not all(audit.is_good for audit in audits):
         return 1

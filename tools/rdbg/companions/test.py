@@ -7,9 +7,11 @@ import sys
 from typing import IO, Iterator, List, Sequence, Tuple
 from xml.etree import ElementTree
 
-from rdbg import client, junit, whole_file
+from rdbg import client, junit
+from rdbg.atomic_file import check_writable, write_atomically
 from rdbg.failure import Failure, of_words, turned
 from rdbg.options import Parser, bounded, part
+from rdbg.printable import printable
 from rdbg.reaching import asking
 from rdbg.testing import cases
 from rdbg.testing.cases import Case
@@ -46,11 +48,12 @@ def checked(path: str) -> Tuple[str, List[Case]]:
     """The file with the cases, and these. Says all that is wrong with it, then raises `Failure`."""
     file = cases.file_of(path)
     found, faults = cases.load(file)
-    said = [f"{file}:{fault}" for fault in faults]
+    name = printable(file)
+    said = [f"{name}:{fault}" for fault in faults]
     if not said:
         folder = os.path.dirname(file)
         pairs = ((it, wrong_with(it, folder)) for it in found)
-        said = [f"{file}:{it.place}: {wrong}" for it, wrong in pairs if wrong]
+        said = [f"{name}:{it.place}: {printable(wrong)}" for it, wrong in pairs if wrong]
     if said:
         print(*said, sep="\n", file=sys.stderr)
         raise Failure(f"{file} has {counted(len(said), 'fault')}; nothing is tried", NONE)
@@ -139,7 +142,7 @@ def test(given: argparse.Namespace) -> int:
     which, count = given.part
     found = listed[which - 1 :: count]
     if given.report is not None:
-        whole_file.check(given.report)
+        check_writable(given.report)
     # (which are built where they have to be, once for all)
     asking.program()
     client.program()
@@ -147,7 +150,7 @@ def test(given: argparse.Namespace) -> int:
     folder = os.path.dirname(file)
     for case, result in results_of(folder, found, given.jobs, given.strict):
         tried.append((case, result))
-        print(*said_of(case, result), sep="\n", flush=True)
+        print(*map(printable, said_of(case, result)), sep="\n", flush=True)
         warning = warning_of(file, case, result)
         if warning:
             print(warning, file=sys.stderr, flush=True)
@@ -156,7 +159,7 @@ def test(given: argparse.Namespace) -> int:
     print(f"{counted(len(tried), 'case')}: {each or 'none in this part'}", flush=True)
     if given.report is not None:
         took = sum(it.seconds for _, it in tried)
-        with whole_file.written(given.report) as out:
+        with write_atomically(given.report) as out:
             made = [element(*it, warning_of(file, *it)) for it in tried]
             out.write(junit.document(file, made, time=f"{took:.3f}"))
     if counts[Verdict.REFUSED]:

@@ -5,12 +5,14 @@ import pathlib
 import sys
 from typing import ContextManager, Iterator, Mapping, NamedTuple, Optional, Tuple
 
-from rdbg import own_file
 from rdbg.application import Application, Beside, Instruction, Task, Text, application
 from rdbg.checking.faults import faults_of
 from rdbg.failure import Failure, trying
 from rdbg.from_c.lines import ENDING, code_below, has_lines, in_lines
+from rdbg.input_file import read_bounded
 from rdbg.json_layout import json_of
+from rdbg.printable import printable
+from rdbg.temporary import temporary_file
 from rdbg.tree import MOST_BYTES, Fault, Node, Object, Place
 from rdbg.wording import counted
 
@@ -42,9 +44,14 @@ class Source(NamedTuple):
     more: int = 0
 
     @property
-    def count(self) -> int:
+    def fault_count(self) -> int:
         """How many faults there are."""
         return len(self.faults) + self.more
+
+    @property
+    def name(self) -> str:
+        """The path as messages name it."""
+        return printable(self.path)
 
     @property
     def is_c(self) -> bool:
@@ -59,8 +66,8 @@ class Source(NamedTuple):
 
     def refused(self) -> str:
         """That it is no application, beside its faults."""
-        refusal, count = self.refusal() or "refused", counted(self.count, "fault")
-        return f"is {refusal}: {count}, as `./rdbg check {self.path}` says"
+        refusal, count = self.refusal() or "refused", counted(self.fault_count, "fault")
+        return f"is {refusal}: {count}, as `./rdbg check {self.name}` says"
 
     def named(self) -> Optional[Beside]:
         """What an accepted text in lines names besides tasks and objects; none of a JSON."""
@@ -75,7 +82,7 @@ class Source(NamedTuple):
         even if its file was edited since."""
         assert self.application is not None
         text = json_of(self.application) if self.path.endswith(LINES) else self.text
-        return own_file.kept("application.json", text, "a copy of the application")
+        return temporary_file("application.json", text, "a copy of the application")
 
     def as_json(self) -> ContextManager[str]:
         """The path of a JSON of an accepted application: the file, or one made for as long."""
@@ -86,16 +93,8 @@ class Source(NamedTuple):
 def load(path: str, given: Optional[Given] = None) -> Source:
     """Reads a file by its ending, with such consts. Raises `Failure` where it can't be read."""
     with trying(f"read {path}"):
-        content = pathlib.Path(path).read_bytes()
+        content = read_bounded(path)
     return source(path, content, given)
-
-
-def standard_input() -> bytes:
-    """What comes by standard input. Raises `Failure` where nothing can."""
-    try:
-        return sys.stdin.buffer.read()
-    except (AttributeError, OSError):
-        raise Failure("cannot read standard input", 2) from None
 
 
 def accepted(path: Optional[str], given: Optional[Given] = None) -> Optional[Source]:
@@ -110,9 +109,9 @@ def without_faults(path: str, given: Optional[Given] = None) -> Tuple[Source, Ap
     found = load(path, given)
     if found.application is None:
         for fault in found.faults[:MOST_SHOWN]:
-            print(f"{path}:{fault}", file=sys.stderr)
-        if found.count > MOST_SHOWN:
-            print(f"{path}: {found.count - MOST_SHOWN} more faults", file=sys.stderr)
+            print(f"{found.name}:{fault}", file=sys.stderr)
+        if found.fault_count > MOST_SHOWN:
+            print(f"{found.name}: {found.fault_count - MOST_SHOWN} more faults", file=sys.stderr)
         raise Failure(f"{path} {found.refused()}")
     return found, found.application
 

@@ -8,7 +8,8 @@ from typing import Any, Dict, Iterator, Optional, Sequence
 from urllib.parse import quote
 from xml.etree import ElementTree
 
-from rdbg import junit, whole_file
+from rdbg import junit
+from rdbg.atomic_file import write_atomically
 from rdbg.client import version
 from rdbg.driving.parts import look_through
 from rdbg.driving.trail import instruction_of
@@ -153,7 +154,7 @@ def write(
     path: str, file: str, goal: str, results: Sequence[Values], expect: Optional[str] = None
 ) -> None:
     """Writes the report to a path, of what a search for a goal in a file has come to."""
-    with whole_file.written(path) as report:
+    with write_atomically(path) as report:
         if path.endswith(XML):
             report.write(junit.document(file, [case(file, goal, results, expect or NONE)]))
         else:

@@ -8,6 +8,8 @@ import pathlib
 import re
 from typing import Mapping, Sequence
 
+from rdbg.printable import printable
+
 Files = Sequence[pathlib.Path]
 HERE = pathlib.Path(__file__).resolve().parent
 # The scripts that all pages of runs have, each behind those that it uses.
@@ -69,8 +71,7 @@ def document(
     allowed = f"{policy}; style-src '{digest(style)}'; script-src '{digest(script)}'"
     values = {
         "policy": allowed,
-        # (a file's name may be no text)
-        "title": html.escape(title).encode("utf-8", "replace").decode(),
+        "title": html.escape(printable(title)),
         "style": style,
         "body": body,
         "script": script,

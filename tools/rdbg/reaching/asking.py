@@ -6,7 +6,7 @@ import tempfile
 import time
 from typing import Dict, Iterator, NamedTuple, Optional, Sequence, Tuple
 
-from rdbg import own_file
+
 from rdbg.client import built_by_wrapper
 from rdbg.driving.opening import as_read
 from rdbg.failure import Failure
@@ -15,6 +15,7 @@ from rdbg.reaching import running, said
 from rdbg.reaching.handlers import handlers, left
 from rdbg.reaching.said import UNTOLD, Answer, Bound
 from rdbg.reaching.words import ENGINE, PROGRESS
+from rdbg.temporary import temporary_file
 
 # What names the program.
 PROGRAM, NAME = "RDBG_REACH", "rdreach"
@@ -87,7 +88,7 @@ def commands_file(lines: Sequence[str]) -> Iterator[str]:
         yield ""
         return
     text = "".join(f"{line}\n" for line in lines)
-    with own_file.kept("run.commands", text, "the moves that were made") as path:
+    with temporary_file("run.commands", text, "the moves that were made") as path:
         yield path
 
 

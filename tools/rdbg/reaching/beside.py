@@ -19,7 +19,7 @@ def missed(answer: Answer, source: Source) -> Iterator[str]:
         told = f"no order came to {name} {' '.join(map(str, numbers))}"
         if task is not None and source.path.endswith(LINES):
             lines = sorted({task.code[pc].place.line for pc in numbers})
-            told += f" ({source.path}:{in_ranges(lines)})"
+            told += f" ({source.name}:{in_ranges(lines)})"
         yield told
 
 

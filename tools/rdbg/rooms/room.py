@@ -20,7 +20,7 @@ from rdbg.rooms.turns import Turns
 from rdbg.driving import trail
 from rdbg.driving.target import Limits, read_line
 from rdbg.shell.views import next_moves
-from rdbg.shown import shown
+from rdbg.printable import printable
 from rdbg.files.source import Source
 from rdbg.wording import counted
 
@@ -271,7 +271,7 @@ class Room:
                 self._tell_doing(other)
         if member.doing is not None and member.doing.has(command):
             for line in lines:
-                member.hear(f"# {shown(line)}")
+                member.hear(f"# {printable(line)}")
             member.doing.add(lines, self.place)
             return
         self._tell_doing(member)
@@ -280,11 +280,11 @@ class Room:
 
     def tell(self, text: str, but: Optional[Member] = None) -> str:
         """Tells all who are here, but for one, and answers it."""
-        self._heard.append(Notice(time.time(), shown(text)))
+        self._heard.append(Notice(time.time(), printable(text)))
         # (others may come and go meanwhile)
         for member in list(self._members.values()):
             if member is not but:
-                member.hear(f"# {shown(text)}")
+                member.hear(f"# {printable(text)}")
         return text
 
     def _keep(self, who: str, line: str, reply: str) -> None:
@@ -463,9 +463,9 @@ class Room:
         if found is None:
             away = f"{name} is away" if name in self._seats.by_name() else "nobody has this name"
             raise Refusal(f"{away}; {self.who()}")
-        found.hear(f"# {member.name} to you: {shown(text)}")
+        found.hear(f"# {member.name} to you: {printable(text)}")
         if found is not member:
-            member.hear(f"# {member.name} to {name}: {shown(text)}")
+            member.hear(f"# {member.name} to {name}: {printable(text)}")
 
     def wheel_wanted(self, member: Member) -> str:
         """Somebody asks for the wheel. Who has it is told; where that one is away, it is given up

@@ -4,7 +4,7 @@ import re
 from typing import Dict, Iterator, List, Optional
 
 from rdbg.commands import is_name
-from rdbg.shown import shown
+from rdbg.printable import printable
 
 GUEST = "guest"
 # Words that stand at the head of what a room says.
@@ -35,7 +35,7 @@ class Seat:
 def check(name: str) -> None:
     """Raises `Refusal` where a name can be nobody's."""
     if not is_name(name):
-        raise Refusal(f"'{shown(name[:16])}' can't be a name: {NAMING}")
+        raise Refusal(f"'{printable(name[:16])}' can't be a name: {NAMING}")
     if name in NOT_NAMES:
         raise Refusal(f"'{name}' can't be a name: the room says it itself")
 

@@ -6,9 +6,9 @@ import stat
 import time
 from typing import IO, Deque
 
-from rdbg import own_file
+from rdbg.atomic_file import open_private
 from rdbg.failure import Failure, trying
-from rdbg.shown import shown
+from rdbg.printable import printable
 from rdbg.wording import counted
 
 HEAD = "when\twho\tline\treply\n"
@@ -19,7 +19,7 @@ MAX_WAITING_BYTES = 1_048_576
 def field(text: str) -> str:
     """Returns a text as one field: tabs and line ends in it are escaped, since they separate fields
     and rows, and so are other characters that are not printable."""
-    return shown(text.replace("\\", "\\\\"))
+    return printable(text.replace("\\", "\\\\"))
 
 
 def row_of(who: str, line: str, reply: str) -> bytes:
@@ -32,7 +32,7 @@ def row_of(who: str, line: str, reply: str) -> bytes:
 
 def open_talk(path: str) -> int:
     """Opens the file of a talk. Raises `Failure` if the file is there and is not a talk."""
-    number = own_file.opened(path, os.O_RDWR | os.O_CREAT | os.O_APPEND)
+    number = open_private(path, os.O_RDWR | os.O_APPEND)
     is_plain = stat.S_ISREG(os.fstat(number).st_mode)
     if is_plain and os.pread(number, len(HEAD), 0) not in (b"", HEAD.encode()):
         os.close(number)

@@ -13,9 +13,9 @@ import urllib.parse
 from email.message import Message
 from typing import BinaryIO, Callable, Dict, Iterator, List, Optional, Tuple
 
-from rdbg import own_file
 from rdbg.client import LOCAL
 from rdbg.digits import is_digits
+from rdbg.temporary import temporary_file
 
 # A request's head has so many bytes at the most, its body so many, and both take so many seconds.
 MOST_HEAD, MOST_BODY, SECONDS = 16_384, 4_096, 10.0
@@ -179,7 +179,7 @@ def said(address: str, is_terminal: bool) -> Iterator[Said]:
         # (in one piece, whatever else is printed meanwhile)
         yield address, lambda it: os.write(sys.stdout.fileno(), f"web {it}\n".encode())
         return
-    with own_file.kept("address", f"{address}\n", "the page's address") as path:
+    with temporary_file("address", f"{address}\n", "the page's address") as path:
 
         def write(text: str) -> None:
             # (all addresses are as long)

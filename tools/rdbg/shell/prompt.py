@@ -3,21 +3,18 @@ import contextlib
 import functools
 import importlib
 import os
-import pathlib
 import select
 import sys
 from types import ModuleType
 from typing import Optional
 
-from rdbg import links, own_file
 from rdbg.client import Incoming
 from rdbg.driving.interrupt import Woken
-from rdbg.failure import Failure
 from rdbg.shell import sourcing
 from rdbg.shell.completion import Completer
+from rdbg.shell.history import MOST_LINES, History, history_path
 from rdbg.shell.shell import Shell
 
-MOST_LINES = 2_000
 # Wipes the line of a terminal.
 WIPE = "\r\x1b[K"
 # Lines with these words aren't repeated by Enter.
@@ -27,21 +24,8 @@ ONCE = (
 ).split()
 
 
-def history_file() -> Optional[pathlib.Path]:
-    """Where typed lines are kept: RDBG_HISTORY (if empty, nowhere), or in the user's folder."""
-    named = os.environ.get("RDBG_HISTORY")
-    if named is not None:
-        return pathlib.Path(named) if named else None
-    state = os.environ.get("XDG_STATE_HOME", "")
-    try:
-        folder = pathlib.Path(state) if state else pathlib.Path.home() / ".local" / "state"
-    except RuntimeError:
-        return None
-    return folder / "rdbg" / "history"
-
-
 class Lines:
-    """Lines from a terminal. A history that can't be read or written is none."""
+    """Lines that are typed at a terminal, with a history and completion."""
 
     def __init__(self, shell: Shell) -> None:
         self.shell = shell
@@ -49,7 +33,7 @@ class Lines:
         self.readline: Optional[ModuleType] = None
         with contextlib.suppress(ImportError):
             self.readline = importlib.import_module("readline")
-        self.file = history_file() if self.readline else None
+        self.history = History(history_path() if self.readline else None)
         if self.readline is None:
             return
         self.readline.set_completer(Completer(shell))
@@ -58,33 +42,19 @@ class Lines:
         self.readline.parse_and_bind("bind ^I rl_complete" if is_edit else "tab: complete")
         self.readline.set_auto_history(False)
         self.readline.set_history_length(MOST_LINES)
-        if self.file is None:
-            return
-        try:
-            folder = os.path.dirname(links.behind(str(self.file)))
-            pathlib.Path(folder).mkdir(mode=0o700, parents=True, exist_ok=True)
-            os.close(own_file.opened(str(self.file), os.O_WRONLY | os.O_CREAT | os.O_APPEND))
-            self.readline.read_history_file(str(self.file))
-        except (Failure, OSError, ValueError):
-            self.file = None
+        for line in self.history.lines:
+            with contextlib.suppress(ValueError):
+                self.readline.add_history(line)
 
     def keep(self, line: str) -> None:
-        """Puts a line into the history, if it isn't the last one there."""
+        """Adds a line to the history, unless it is the last one there."""
         if self.readline is None:
             return
         length = self.readline.get_current_history_length()
         if length and self.readline.get_history_item(length) == line:
             return
         self.readline.add_history(line)
-        if self.file is None:
-            return
-        try:
-            if hasattr(self.readline, "append_history_file"):
-                self.readline.append_history_file(1, str(self.file))
-            else:
-                self.readline.write_history_file(str(self.file))
-        except OSError:
-            self.file = None
+        self.history.add(line)
 
     def next(self) -> Optional[str]:
         """The line that is typed next, none at Ctrl-D; what is told meanwhile stands above it.
@@ -119,7 +89,7 @@ class Lines:
 
 def greet(shell: Shell) -> None:
     """Says what there is, and how to go on."""
-    what = shell.source.path if shell.source else "the built-in application"
+    what = shell.source.name if shell.source else "the built-in application"
     if not shell.target.is_own:
         what = f"attached, {what}" if shell.source else "attached"
     shell.say(f"{what}; `help` lists the words, Tab completes, Ctrl-D ends")

@@ -3,10 +3,10 @@ import contextlib
 import itertools
 import os
 import re
-import stat
 from typing import Callable, Dict, Iterator, List, Optional, Sequence, Tuple
 
-from rdbg import commands, own_file, record, replies
+from rdbg import commands, record, replies
+from rdbg.atomic_file import identity, write_atomically
 from rdbg.driving import trail
 from rdbg.driving.interrupt import Interrupted
 from rdbg.driving.journal import Run
@@ -14,17 +14,16 @@ from rdbg.driving.opening import begin, closed_if_wrong
 from rdbg.driving.target import Limits, Target, Unable, read
 from rdbg.driving.walk import Walk
 from rdbg.effects import Move
-from rdbg.failure import Failure, trying, turned
+from rdbg.failure import Failure, turned
 from rdbg.files.source import Source, load
 from rdbg.looks import Names
+from rdbg.printable import printable
 from rdbg.shell.notices import MOST_MOVES
 from rdbg.shell.shell import Shell
 from rdbg.wording import counted
 
-# How the name of a file ends that is written over; and how one is opened that isn't there.
-ENDING, NEW = ".commands", os.O_WRONLY | os.O_CREAT | os.O_EXCL
-
-
+# How the name of a file ends that may be written over.
+ENDING = ".commands"
 DEFAULT_MOVES = 20
 CHUNK = 512
 # The words of an instruction that are values, and not names.
@@ -35,33 +34,34 @@ BYTES = "data"
 ANY = "tick = 0"
 
 
-def check_there(shell: Shell, path: str, there: os.stat_result, is_anew: bool) -> None:
-    """Raises `Unable` where a file that is there stays; `is_anew`: it may be written over."""
+def check_existing(shell: Shell, path: str, existing: os.stat_result, is_anew: bool) -> None:
+    """Raises `Unable` if an existing file must not be written over. `is_anew` allows it for one
+    that this prompt has not saved."""
+    name = printable(path)
     if not path.endswith(ENDING):
-        raise Unable(f"{path} is there, and doesn't end in {ENDING}: it stays as it is")
-    if not is_anew and (there.st_dev, there.st_ino) not in shell.saved:
-        why = f"{path} is there, and wasn't saved by this prompt: it stays as it is"
-        raise Unable(f"{why}; `save! {path}` writes it anew")
+        raise Unable(f"{name} is there, and doesn't end in {ENDING}: it stays as it is")
+    if not is_anew and identity(existing) not in shell.saved:
+        why = f"{name} is there, and wasn't saved by this prompt: it stays as it is"
+        raise Unable(f"{why}; `save! {name}` writes it anew")
 
 
 def write(shell: Shell, path: str, text: str, is_anew: bool) -> None:
-    """Writes a file. Raises `Unable` where it can't, or may not, be written."""
+    """Writes a file of commands. Raises `Unable` if it cannot or must not be written."""
+    replaced: List[os.stat_result] = []
+
+    def check(existing: os.stat_result) -> None:
+        check_existing(shell, path, existing, is_anew)
+        replaced.append(existing)
+
     try:
-        with turned(Unable, Failure), trying(f"write {path}"):
-            try:
-                is_made, number = True, own_file.opened(path, NEW)
-            except FileExistsError:
-                is_made, number = False, own_file.opened(path, os.O_WRONLY)
-            with os.fdopen(number, "w", encoding="ascii") as file:
-                there = os.fstat(number)
-                if not is_made:
-                    check_there(shell, path, there, is_anew)
-                shell.saved.add((there.st_dev, there.st_ino))
-                if stat.S_ISREG(there.st_mode):
-                    file.truncate()
-                file.write(text)
+        with turned(Unable, Failure), write_atomically(path, is_private=True, check=check) as file:
+            file.write(text)
+            made = os.fstat(file.fileno())
     except ValueError:
         raise Unable(f"cannot write {path!r}: no file has such a name") from None
+    # (the system may give the number of a replaced file to another one)
+    shell.saved.difference_update(map(identity, replaced))
+    shell.saved.add(identity(made))
 
 
 def moves(shell: Shell, words: Sequence[str]) -> None:
@@ -167,12 +167,12 @@ def save(shell: Shell, words: Sequence[str], is_anew: bool = False) -> None:
         raise Unable("save to which file? `save found.commands`")
     file = words[0]
     if os.path.exists(file):
-        check_there(shell, file, os.stat(file), is_anew)
+        check_existing(shell, file, os.stat(file), is_anew)
     with shell.wheel():
         lines = lines_of_moves(shell)
         look = shell.target.look()
     write(shell, file, "".join(f"{line}\n" for line in lines), is_anew)
-    shell.say(f"{len(lines)} moves are in {file}")
+    shell.say(f"{len(lines)} moves are in {printable(file)}")
     if shell.target.application is None:
         shell.say("the application's file isn't known here, so they weren't tried")
         return
@@ -209,12 +209,12 @@ def reload(shell: Shell, words: Sequence[str]) -> None:
     with staying():
         source = load(shell.source.path, shell.source.given)
     if source.faults or source.application is None:
-        faults = "\n".join(f"{source.path}:{fault}" for fault in source.faults)
+        faults = "\n".join(f"{source.name}:{fault}" for fault in source.faults)
         raise Unable(f"{faults}\nthe target stays as it is")
     try:
         replayed(shell, source, shell.target.limits)
     except Interrupted:
-        before = f"the target is that of {shell.source.path} as it was read before"
+        before = f"the target is that of {shell.source.name} as it was read before"
         shell.stopped(f"at {shell.target.place}: {before}")
 
 
@@ -241,9 +241,9 @@ def replayed(shell: Shell, source: Source, limits: Limits) -> None:
     shell.target.session.close()
     shell.take(target, source)
     if not left:
-        shell.say(f"all {done} moves are the same on {source.path}, at {target.place}")
+        shell.say(f"all {done} moves are the same on {source.name}, at {target.place}")
         return
-    shell.say(f"{target.place} of {done} moves are the same on {source.path}; the next one")
+    shell.say(f"{target.place} of {done} moves are the same on {source.name}; the next one")
     shell.say(f"  was  {was}\n  is   {now}")
 
 

@@ -23,6 +23,7 @@ from rdbg.goals.paced import PacedWalk
 from rdbg.goals.scope import Scope
 from rdbg.instructions import form_of
 from rdbg.looks import Look, Names
+from rdbg.printable import printable
 from rdbg.reaching.asking import Question
 from rdbg.replies import Cores, Refused
 from rdbg.shell.notices import READ_ANEW, REMARK, Notices
@@ -114,7 +115,8 @@ class Shell:
         """Prints lines of sh's own."""
         self._wipe()
         for line in text.split("\n"):
-            print(f"# {line}".rstrip())
+            # (the script of a `.fw` file may have tabs)
+            print(("# " + "\t".join(map(printable, line.split("\t")))).rstrip())
             self.notices.said(line.strip())
 
     def refuse(self, why: str) -> None:

@@ -185,7 +185,7 @@ def at_line(shell: Shell, file: Optional[str], line: int) -> List[Sequence[str]]
     if source is None or application is None:
         raise Unable("no file is known: `break TASK PC`")
     if file is not None and pathlib.Path(file).name != pathlib.Path(source.path).name:
-        raise Unable(f"the file is {source.path}: `break {line}`, or `break TASK PC`")
+        raise Unable(f"the file is {source.name}: `break {line}`, or `break TASK PC`")
     lines = {it.place.line for task in application.tasks for it in task.code}
     if source.is_c and line not in lines:
         line = below(source.text).get(line, line)
@@ -196,14 +196,14 @@ def at_line(shell: Shell, file: Optional[str], line: int) -> List[Sequence[str]]
         if it.place.line >= line and it.begins
     ]
     if not found:
-        raise Unable(f"{source.path} has no instruction at line {line} or behind it")
+        raise Unable(f"{source.name} has no instruction at line {line} or behind it")
     first = min(it.place.line for _, it in found)
     there = [(at, it) for at, it in found if it.place.line == first]
     if len({it.place for _, it in there}) > 1:
         texts = [f"`break {at}` ({it.written})" for at, it in there]
         raise Unable(f"line {first} has {len(there)} instructions: {', '.join(texts)}")
     for at, it in there:
-        shell.say(f"{source.path}:{first}  {at} {it.written}")
+        shell.say(f"{source.name}:{first}  {at} {it.written}")
     return [at.split() for at, _ in there]
 
 

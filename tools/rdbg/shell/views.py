@@ -83,10 +83,10 @@ def next_moves(application: Optional[Application], look: Look) -> str:
 
 def place_in_file(shell: Shell, task: replies.Task) -> str:
     """The file and the line of the next instruction of a task; empty where it isn't known."""
-    path = shell.source.path if shell.source else ""
-    application = shell.target.application if path else None
+    name = shell.source.name if shell.source else ""
+    application = shell.target.application if name else None
     found = script_of(application, task.name)[task.pc : task.pc + 1]
-    return "".join(f"{path}:{it.place.line}" for it in found)
+    return "".join(f"{name}:{it.place.line}" for it in found)
 
 
 def phase_text(task: replies.Task) -> str:
@@ -227,7 +227,7 @@ def listing(shell: Shell, words: Sequence[str]) -> None:
         if not script:
             raise Unable(f"the script of {name} isn't known: `rdbg sh --port P FILE` says it")
         it = look.tasks[name]
-        where = "" if shell.source is None else f"  {shell.source.path}"
+        where = "" if shell.source is None else f"  {shell.source.name}"
         shell.say(f"{name}, {phase_text(it)}{where}")
         shell.say("\n".join(table(list(listed(script, it.pc, shell.source is not None)))))
 

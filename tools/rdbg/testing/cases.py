@@ -2,7 +2,6 @@
 import argparse
 import dataclasses
 import os
-import pathlib
 import re
 from typing import Any, Callable, Dict, List, NamedTuple, Optional, Tuple
 
@@ -11,6 +10,7 @@ from rdbg.digits import seconds
 from rdbg.driving.pacing import IS, pace
 from rdbg.failure import Failure, trying, turned
 from rdbg.files.definitions import definition
+from rdbg.input_file import read_bounded
 from rdbg.reaching.asking import QUESTIONS, REACH
 from rdbg.tree import Fault, Node, Number, Object, Place, kind_of
 from rdbg.wording import nearest, quoted, shown
@@ -242,7 +242,7 @@ def file_of(path: str) -> str:
 def load(path: str) -> Tuple[List[Case], List[Fault]]:
     """The cases of a file, and what is wrong with it. Raises `Failure` where it can't be read."""
     with trying(f"read {path}"):
-        content = pathlib.Path(path).read_bytes()
+        content = read_bounded(path)
     root, faults = json_text.read(content)
     if root is None:
         return [], faults

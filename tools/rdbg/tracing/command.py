@@ -14,14 +14,17 @@ from rdbg.driving.opening import attach, builtin
 from rdbg.driving.parts import AT_A_PORT, Part, Told, Trim, part_at
 from rdbg.driving.target import Limits, Unable
 from rdbg.effects import Move
+from rdbg.atomic_file import write_atomically
 from rdbg.failure import Failure, of_words, trying, turned
-from rdbg.files.source import Source, standard_input
+from rdbg.files.source import Source
 from rdbg.goals.claims import Goal
 from rdbg.goals.reading import NoGoal
 from rdbg.goals.scope import Scope
 from rdbg.goals.words import for_search, read
+from rdbg.input_file import LARGEST_COMMANDS, read_bounded, read_standard_input
 from rdbg.looks import Names
 from rdbg.page.recorder import Recorder
+from rdbg.printable import printable
 from rdbg.reaching import losing, vacuity
 from rdbg.reaching.asking import LOST, QUESTIONS, REACH, Question, ask_behind
 from rdbg.reaching.handlers import told as told_of
@@ -34,7 +37,6 @@ from rdbg.tracing.page.document import page
 from rdbg.tracing.page.report import Report, Text
 from rdbg.tracing.run import Line, Plan, Run, parts, plan
 from rdbg.tracing.table import Row, Table, rows
-from rdbg.whole_file import written
 from rdbg.wording import nearest, shown
 
 
@@ -120,13 +122,15 @@ def lines_in(text: str) -> Tuple[Line, ...]:
 def text_of(path: Optional[str]) -> Text:
     """The text of a file, or of standard input."""
     if path is None or path == STANDARD_INPUT:
-        return Text("", standard_input().decode("utf-8", "replace"))
-    with trying(f"read {path}"), open(path, encoding="utf-8", errors="replace") as file:
-        return Text(path, file.read())
+        return Text("", read_standard_input().decode("utf-8", "replace"))
+    with trying(f"read {path}"):
+        text = read_bounded(path, LARGEST_COMMANDS).decode("utf-8", "replace")
+    return Text(path, text.replace("\r\n", "\n").replace("\r", "\n"))
 
 
 def tell_refused(found: Plan, name: str) -> None:
     """Says which lines were refused."""
+    name = printable(name)
     for line, reply in found.refused[:MOST_REFUSED]:
         print(f"{name}:{line.number}: {line.text}: {reply}", file=sys.stderr)
     left = len(found.refused) - MOST_REFUSED
@@ -147,7 +151,7 @@ def with_progress(found: Iterable[Part], count: int) -> Iterator[Part]:
 
 def write_events(found: Iterable[Part], trims: Sequence[Trim], path: str) -> None:
     """Writes the events of all parts."""
-    with written(path) as file:
+    with write_atomically(path) as file:
         events = Events(file.write)
         for part in found:
             events.add(part)
@@ -165,7 +169,7 @@ def write_page(
 ) -> None:
     """Writes the page of all parts, of which there is one at the least, and of another run."""
     recorder, seen = Recorder(application), None  # type: Recorder, Optional[int]
-    with written(path) as file:
+    with write_atomically(path) as file:
         for part in found:
             seen = report.seen_in(part) if seen is None else seen
             recorder.add(part)

@@ -3,6 +3,7 @@ import pathlib
 from typing import Mapping, Optional
 
 from rdbg.page.document import body_of, document, json_of
+from rdbg.printable import printable
 from rdbg.tracing.page.note import as_html
 from rdbg.tracing.page.report import Report
 
@@ -24,7 +25,7 @@ def page(
 ) -> str:
     """The whole page of a run's values, of what leads to its places, and of what is said beside it;
     it opens at a place, or at the first. Another run stands below it where one is given."""
-    title = f"{way['file'] or 'rdbg'}: places {run['first']} to {run['last']}"
+    title = f"{printable(str(way['file'] or 'rdbg'))}: places {run['first']} to {run['last']}"
     values = {"title": title, "way": way, "run": run, "report": report.values(at), "other": other}
     parts = {"run": json_of(values), "note": as_html(report.note)}
     body = body_of(HERE / "run.html", parts, LINK)

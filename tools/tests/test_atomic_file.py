@@ -13,7 +13,7 @@ import unittest
 from typing import List
 
 from rdbg.failure import Failure
-from rdbg.whole_file import replaced, written
+from rdbg.atomic_file import locate, write_atomically
 from tests.paths import COMPANION, EXAMPLES
 from tests.started import Started
 
@@ -25,7 +25,7 @@ class Ended(Exception):
 
 
 class WholeFile(unittest.TestCase):
-    """`rdbg.whole_file`, in a folder of its own."""
+    """`rdbg.atomic_file`, in a folder of its own."""
 
     def setUp(self) -> None:
         folder = tempfile.TemporaryDirectory()
@@ -35,7 +35,7 @@ class WholeFile(unittest.TestCase):
         self.file = pathlib.Path("page.html")
 
     def write(self, path: str, text: str) -> None:
-        with written(path) as file:
+        with write_atomically(path) as file:
             file.write(text)
 
     def names(self) -> List[str]:
@@ -44,7 +44,7 @@ class WholeFile(unittest.TestCase):
 
     def test_it_is_there_once_it_is_whole(self) -> None:
         self.file.write_text("old")
-        with written("page.html") as file:
+        with write_atomically("page.html") as file:
             file.write("new \u00e9")
             file.flush()
             self.assertEqual("old", self.file.read_text())
@@ -54,7 +54,7 @@ class WholeFile(unittest.TestCase):
     def test_it_stays_where_the_writing_ends(self) -> None:
         self.file.write_text("old")
         for path in ("page.html", "other.html"):
-            with contextlib.suppress(Ended), written(path) as file:
+            with contextlib.suppress(Ended), write_atomically(path) as file:
                 file.write("new")
                 raise Ended
         self.assertEqual("old", self.file.read_text())
@@ -94,8 +94,10 @@ class WholeFile(unittest.TestCase):
         reader.join()
         self.assertEqual(["through"], heard)
         self.assertTrue(stat.S_ISFIFO(os.stat("pipe").st_mode))
-        self.assertEqual(["", ""], [replaced(it, os.stat(it)) for it in ("/dev/null", "/dev/fd/1")])
-        self.assertEqual("/dev/shm/page.html", replaced("/dev/shm/page.html", None))
+        paths = {"/dev/null": False, "/dev/fd/1": False, "/dev/shm/page.html": True}
+        for path, is_replaceable in paths.items():
+            with locate(path) as destination:
+                self.assertEqual(is_replaceable, destination.is_replaceable, path)
         self.write("/dev/null", "away")
         self.assertTrue(stat.S_ISCHR(os.stat("/dev/null").st_mode))
 
@@ -104,7 +106,7 @@ class WholeFile(unittest.TestCase):
         with contextlib.redirect_stdout(output):
             self.write("-", "said")
         self.assertEqual("said", output.getvalue())
-        line = "from rdbg.whole_file import written\nwith written('/dev/stdout') as file:\n"
+        line = "from rdbg.atomic_file import write_atomically\nwith write_atomically('/dev/stdout') as file:\n"
         command = [sys.executable, "-B", "-c", f"{line}    file.write('to it')\nprint(' and more')"]
         with open("out.txt", "w", encoding="utf-8") as file:
             environment = {**os.environ, "PYTHONPATH": str(COMPANION.parent)}
