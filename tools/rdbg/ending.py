@@ -12,7 +12,7 @@ import os
 import signal
 import sys
 from types import FrameType
-from typing import TYPE_CHECKING, Dict, Iterator, NoReturn, Optional, Set
+from typing import TYPE_CHECKING, Callable, Dict, Iterator, NoReturn, Optional, Set
 
 if TYPE_CHECKING:
     import subprocess
@@ -21,6 +21,8 @@ if TYPE_CHECKING:
 SAID = {signal.SIGINT: "interrupted", signal.SIGTERM: "ended by SIGTERM"}
 # The programs that were started, and haven't been waited for, with the signal that ends each.
 STARTED: "Dict[subprocess.Popen[bytes], int]" = {}
+# How messages name it.
+STANDARD_OUTPUT = "standard output"
 # Files and folders that were made for a while, and aren't gone yet.
 MADE: Set[str] = set()
 
@@ -142,6 +144,30 @@ def take_away() -> None:
             os.unlink(path)
 
 
-def give_up() -> None:
-    """Has nothing more go there, so that Python doesn't say once more at the end that it can't."""
+def name_output_errors() -> None:
+    """Has each error in writing standard output name it, so that it is told from all others."""
+    if sys.stdout is None:
+        return
+
+    def named(method: Callable[..., object]) -> Callable[..., object]:
+        def call(*arguments: object) -> object:
+            try:
+                return method(*arguments)
+            except OSError as error:
+                error.filename = STANDARD_OUTPUT
+                raise
+
+        return call
+
+    for name in ("write", "flush"):
+        setattr(sys.stdout, name, named(getattr(sys.stdout, name)))
+
+
+def give_up_output(error: OSError) -> str:
+    """Returns the message for an error that ends a tool, and discards what is left of its output.
+
+    (Python would report it once more when it exits.)"""
     os.dup2(os.open(os.devnull, os.O_WRONLY), sys.stdout.fileno())
+    why = error.strerror or str(error)
+    is_output = error.filename == STANDARD_OUTPUT
+    return f"cannot write {STANDARD_OUTPUT}: {why}" if is_output else why

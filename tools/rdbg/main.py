@@ -1,5 +1,5 @@
 """Finds the companion that the first word names, and runs it."""
-import errno
+import contextlib
 import importlib
 import io
 import os
@@ -15,6 +15,8 @@ from rdbg.printable import printable
 FOLDER = os.path.join(os.path.dirname(os.path.abspath(__file__)), "companions")
 # How the line begins on which a companion says what it is for.
 SUMMARY = 'SUMMARY = "'
+# The exit status if the output cannot be written.
+CANNOT_WRITE = 2
 
 
 class Entry(NamedTuple):
@@ -97,24 +99,35 @@ def run(words: Sequence[str]) -> int:
     return 0
 
 
+def finish(words: Sequence[str], name: str) -> int:
+    """Runs the tool, and returns its exit status once its output is written. A failure is one line
+    on standard error. Raises `OSError` if the output cannot be written."""
+    try:
+        status = run(words)
+    except Failure as failure:
+        ENDING.check()
+        print(f"{name}: {printable(str(failure))}", file=sys.stderr)
+        status = failure.status
+    except SystemExit as ended:
+        # (the parser of the arguments has printed its help or an error)
+        status = ended.code if isinstance(ended.code, int) else 0
+    sys.stdout.flush()
+    return status
+
+
 def main(words: Sequence[str]) -> int:
-    """Runs the companion, and answers its exit status. A failure is one line on standard error."""
+    """Runs the tool that the first word names, and returns its exit status: 2 if its output cannot
+    be written, of which nothing is said if its reader has gone."""
     for stream in (sys.stdout, sys.stderr):
         if isinstance(stream, io.TextIOWrapper):
             stream.reconfigure(errors="backslashreplace")
+    name = printable(" ".join(["rdbg", *words[:1]]))
     try:
-        status = run(words)
-        sys.stdout.flush()
-        return status
-    except Failure as failure:
-        ENDING.check()
-        name = " ".join(["rdbg", *words[:1]])
-        print(printable(f"{name}: {failure}"), file=sys.stderr)
-        return failure.status
+        return finish(words, name)
     except OSError as error:
         ENDING.check()
-        # (the output can't be written, or who read it has gone)
-        ending.give_up()
+        why = ending.give_up_output(error)
         if not isinstance(error, BrokenPipeError):
-            print(" ".join(["rdbg", *words[:1]]) + f": {error.strerror}", file=sys.stderr)
-        return 2 if error.errno == errno.ENOMEM else 1
+            with contextlib.suppress(OSError):
+                print(f"{name}: {why}", file=sys.stderr)
+        return CANNOT_WRITE

@@ -1,5 +1,6 @@
 """Command lines: their words, and the numbers and ports in them."""
 import argparse
+import sys
 from typing import Any, Callable, NoReturn, Tuple
 
 from rdbg.digits import number
@@ -14,6 +15,10 @@ ANYONE = "connects to a server at --port that another user runs, too"
 
 class Parser(argparse.ArgumentParser):
     """Parses the arguments of a tool."""
+
+    def print_help(self, file: Any = None) -> None:
+        """Prints the help. Raises `OSError` if that fails, which argparse would pass over."""
+        print(self.format_help(), end="", file=file or sys.stdout)
 
     def error(self, message: str) -> NoReturn:
         """Ends the tool with its usage and a message about arguments that it does not take."""

@@ -7,7 +7,7 @@ import sys
 from typing import Iterator, List, Sequence
 
 from rdbg import caches
-from rdbg.ending import ENDING, Terminated
+from rdbg.ending import ENDING, Terminated, name_output_errors
 
 HERE = os.path.dirname(os.path.abspath(__file__))
 # Where these are missing it does without.
@@ -39,6 +39,7 @@ def lacking() -> List[str]:
 def start(words: Sequence[str]) -> int:
     """Runs a companion as a process of its own, and answers its status."""
     ENDING.install(" ".join(["rdbg", *words[:1]]))
+    name_output_errors()
     caches.keep()
     try:
         from rdbg.main import main

@@ -159,7 +159,8 @@ class Untaken(unittest.TestCase):
             with self.subTest(why), program(FOUND, FAR, "exit 1"), contextlib.ExitStack() as ends:
                 output = ends.enter_context(open(path, "wb")).fileno() if path else broken(ends)
                 ran = subprocess.run(command, stdout=output, stderr=subprocess.PIPE)
-                self.assertEqual((2, f"rdbg reach: {why}\n"), (ran.returncode, ran.stderr.decode()))
+                wanted = f"rdbg reach: cannot write standard output: {why}\n"
+                self.assertEqual((2, wanted), (ran.returncode, ran.stderr.decode()))
 
 
 def broken(ends: contextlib.ExitStack) -> int:

@@ -228,7 +228,6 @@ def main(words: Sequence[str]) -> int:
         return status
     except OSError as error:
         ENDING.check()
-        ending.give_up()
-        raise Failure(error.strerror or str(error), UNTOLD) from None
+        raise Failure(ending.give_up_output(error), UNTOLD) from None
     except MemoryError:
         raise Failure("there is no memory", UNTOLD) from None
