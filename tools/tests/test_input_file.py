@@ -149,13 +149,16 @@ class Pipes(InFolder):
             writer.wait()
 
     def test_those_of_a_shell(self) -> None:
-        check = shlex.join([sys.executable, "-B", str(COMPANION), "check"])
+        tool = " ".join(map(shlex.quote, [sys.executable, "-B", str(COMPANION)]))
+        check = f"{tool} check"
         for line, status in (
             (f"{check} <(sleep 0.5; cat {LOST})", 0),
             (f"cat {LOST} | {check} /dev/stdin", 0),
             (f"{check} /dev/stdin < {LOST}", 0),
             (f"cat {LOST} | {check} -", 0),
             (f"{check} <(true)", 1),
+            (f"{tool} hunt <(cat {LOST}) 'tick = 1'", 1),
+            (f"cat {LOST} | {tool} reach /dev/stdin 'tick = 1'", 1),
         ):
             with self.subTest(line):
                 began = time.monotonic()

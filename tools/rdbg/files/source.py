@@ -1,7 +1,6 @@
 """An application's text, as JSON or in lines, with all its faults and what it says."""
 import contextlib
 import os
-import pathlib
 import sys
 from typing import ContextManager, Iterator, Mapping, NamedTuple, Optional, Tuple
 
@@ -85,8 +84,9 @@ class Source(NamedTuple):
         return temporary_file("application.json", text, "a copy of the application")
 
     def as_json(self) -> ContextManager[str]:
-        """The path of a JSON of an accepted application: the file, or one made for as long."""
-        is_json = not self.path.endswith(LINES)
+        """The path of a JSON of an accepted application: the file, or one made for as long. (A pipe
+        cannot be read again.)"""
+        is_json = not self.path.endswith(LINES) and os.path.isfile(self.path)
         return contextlib.nullcontext(self.path) if is_json else self.as_read()
 
 
