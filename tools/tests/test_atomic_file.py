@@ -1,4 +1,4 @@
-"""Files that companions write are whole, or stay as they were."""
+"""Output files that are replaced once they are complete, or not at all."""
 import contextlib
 import io
 import os
@@ -24,7 +24,7 @@ class Ended(Exception):
     """What ends the writing."""
 
 
-class WholeFile(unittest.TestCase):
+class AtomicFile(unittest.TestCase):
     """`rdbg.atomic_file`, in a folder of its own."""
 
     def setUp(self) -> None:

@@ -1,5 +1,4 @@
-"""Files that have what somebody typed: who reads them, through which links they are written, and
-onto which files they aren't."""
+"""Private output files: who can read them, and which links and existing files are refused."""
 import os
 import pathlib
 import stat
