@@ -1,6 +1,7 @@
 """What is wrong with a command line that the program has refused, in a sentence."""
 from typing import Dict, List, Optional, Sequence, Tuple
 
+from rdbg import invocation
 from rdbg.digits import natural
 from rdbg.wording import nearest, shown
 
@@ -23,7 +24,9 @@ NEEDED = {"run": (), "serve": ("--app", "--port", "--sessions")}
 def unknown(word: str, words: Sequence[str]) -> str:
     """That a word is none of these, and which is near."""
     near = nearest(word, words)
-    return f"'{word}' is no word of rdbg; " + (f"{near}?" if near else "see rdbg --help")
+    return f"'{word}' is no word of rdbg; " + (
+        f"{near}?" if near else f"see {invocation.command()} --help"
+    )
 
 
 def wrong_value(option: str, value: Optional[str]) -> Optional[str]:
@@ -45,7 +48,9 @@ def wrong_option(command: str, option: str) -> str:
     if not option.startswith("-"):
         return f"'{option}' stands by itself; an application is given by --app FILE"
     near = nearest(option, options)
-    return f"{command} takes no {option}; " + (f"{near}?" if near else f"see rdbg help {command}")
+    return f"{command} takes no {option}; " + (
+        f"{near}?" if near else f"see {invocation.command()} help {command}"
+    )
 
 
 def why(words: Sequence[str]) -> Optional[str]:

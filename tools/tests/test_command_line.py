@@ -58,7 +58,7 @@ class CommandLine(unittest.TestCase):
 
     def test_unknown_words(self) -> None:
         self.assertEqual(unknown("chekc", ["check", "run"]), "'chekc' is no word of rdbg; check?")
-        self.assertIn("see rdbg --help", unknown("xyz", ["check", "run"]))
+        self.assertIn("see ./rdbg --help", unknown("xyz", ["check", "run"]))
 
     def test_options_are_those_of_the_help(self) -> None:
         for option, (name, limits) in OPTIONS.items():

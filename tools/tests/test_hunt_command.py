@@ -280,7 +280,7 @@ class Statuses(unittest.TestCase):
         self.assertEqual(["rdbg hunt: the program was ended by SIGKILL"], errors)
         with searches.program("", "rdreach: no such option\n", "exit 2"):
             status, lines, errors = said(LOST, "stuck")
-        self.assertEqual((2, [], ["rdreach: no such option"]), (status, lines, errors))
+        self.assertEqual((2, [], ["rdbg: no such option"]), (status, lines, errors))
 
     def test_a_refused_application(self) -> None:
         with tempfile.TemporaryDirectory() as folder:

@@ -2,6 +2,7 @@
 import os
 import pathlib
 import pty
+import re
 import socket
 import subprocess
 import tempfile
@@ -10,8 +11,10 @@ from typing import Dict, Optional
 
 from rdbg.client import program
 from tests.paths import EXAMPLES, TOP, WRAPPER
+from tests.strangers import IS_ROOT, become
 
 LOST = "examples/lost_item.json"
+LOST_FILE = str(EXAMPLES / "lost_item.json")
 
 
 def run(
@@ -72,7 +75,7 @@ class Terminal(unittest.TestCase):
     def test_a_text_in_lines(self) -> None:
         with tempfile.NamedTemporaryFile("w", suffix=".fw") as file:
             seen = at_terminal("run", f"--app={file.name}")
-        self.assertIn(f"'./rdbg make {file.name}' makes JSON of it", seen)
+        self.assertIn(f"rdbg run: {file.name} is no JSON: './rdbg make {file.name}' makes it", seen)
 
     def test_a_wrong_command_line(self) -> None:
         seen = at_terminal("run", "--moves", "0")
@@ -83,6 +86,54 @@ class Terminal(unittest.TestCase):
 
     def test_a_prompt_is_pointed_to(self) -> None:
         self.assertIn("'./rdbg sh' is a prompt", at_terminal("run", "--app", LOST))
+
+
+class Refused(unittest.TestCase):
+    """Why an application is refused, without a terminal: a line after the program's own."""
+
+    def check(self, file: str, why: str, stranger: bool = False) -> None:
+        """Asks both words that take an application."""
+        choices = (["run"], ["serve", "--port", "1", "--sessions", "1"])
+        for words in choices:
+            for option in (["--app", file], [f"--app={file}"]):
+                asked = [*words, *option]
+                with self.subTest(asked):
+                    ran = subprocess.run(
+                        [str(WRAPPER), *asked],
+                        env={**os.environ, "RDBG_PROGRAM": program()},
+                        stdin=subprocess.DEVNULL,
+                        stdout=subprocess.PIPE,
+                        stderr=subprocess.PIPE,
+                        preexec_fn=become if stranger else None,
+                    )
+                    self.assertEqual((1, b""), (ran.returncode, ran.stdout))
+                    first, *_, last = ran.stderr.decode().splitlines(True)[-2:]
+                    if not stranger:
+                        own = subprocess.run([program(), *asked], stderr=subprocess.PIPE, input=b"")
+                        self.assertEqual(own.stderr.decode(), first)
+                    self.assertRegex(last, "^" + re.escape(why.replace("WORD", words[0])))
+
+    def test_why(self) -> None:
+        with tempfile.TemporaryDirectory() as folder:
+            lines, texts = f"{folder}/a.fw", f"{folder}/a.json"
+            pathlib.Path(lines).write_text("cores 1\n")
+            pathlib.Path(texts).write_text("[]\n")
+            self.check("nosuch.json", "rdbg WORD: cannot read nosuch.json: no such file")
+            self.check("a\nb", "rdbg WORD: cannot read a?b: no such file")
+            self.check(folder, f"rdbg WORD: cannot read {folder}: it is a folder")
+            why = f"rdbg WORD: {lines} is no JSON: './rdbg make {lines}' makes it"
+            self.check(lines, why)
+            self.check(texts, f"{texts}:1:1: the application is a list")
+
+    @IS_ROOT
+    def test_a_file_of_another_user(self) -> None:
+        with tempfile.TemporaryDirectory() as folder:
+            os.chmod(folder, 0o755)
+            file = pathlib.Path(folder) / "a.json"
+            file.write_text((EXAMPLES / "turns.json").read_text())
+            file.chmod(0o600)
+            why = f"rdbg WORD: cannot read {file}: permission denied"
+            self.check(str(file), why, stranger=True)
 
 
 class Wrapper(unittest.TestCase):
@@ -123,6 +174,27 @@ class Wrapper(unittest.TestCase):
             self.assertRegex(
                 version, "^rdbg [0-9.]+ at commit .*; .*\nrdbg is not .*proved; its SHA-256"
             )
+
+    def test_an_installed_one_names_itself(self) -> None:
+        with tempfile.TemporaryDirectory() as folder:
+            prefix, page = pathlib.Path(folder) / "prefix", pathlib.Path(folder) / "page.html"
+            self.assertEqual(run(WRAPPER, "install", str(prefix)).returncode, 0)
+            wrong = pathlib.Path(folder) / "wrong.json"
+            wrong.write_text("{}")
+            asked = (
+                (["sh", LOST_FILE], "help save\nstep 1\nhelp L3\n", "`rdbg run --app FILE"),
+                (["trace", str(wrong)], "step 1\n", "`rdbg check "),
+                (["trace", LOST_FILE, "--page", str(page)], "step 1\n", ""),
+                (["run", "--app", "a.fw"], "", ""),
+                (["hepl"], "", "see rdbg --help"),
+            )
+            for words, given, told in asked:
+                with self.subTest(words):
+                    ran = run(prefix / "bin/rdbg", *words, given=given)
+                    self.assertIn(told, ran.stdout + ran.stderr)
+                    self.assertNotIn("./rdbg", ran.stdout + ran.stderr)
+            self.assertIn("rdbg sh ", page.read_text())
+            self.assertNotIn("./rdbg", page.read_text())
 
     def test_installed_pages(self) -> None:
         with tempfile.TemporaryDirectory() as folder:

@@ -79,7 +79,7 @@ pub fn refuse_words<E: Write>(errors: &mut E, error: &io::Error) -> u8
 fn report<E: Write>(errors: &mut E, fault: &ReachFault) -> u8
     ensures { result ≡ 2 }
 {
-    let _ = writeln!(errors, "rdreach: {fault}");
+    let _ = writeln!(errors, "rdbg reach: {fault}");
     2
 }
 

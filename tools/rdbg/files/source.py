@@ -9,6 +9,7 @@ from rdbg.checking.faults import faults_of
 from rdbg.failure import Failure, trying
 from rdbg.from_c.lines import ENDING, code_below, has_lines, in_lines
 from rdbg.input_file import read_bounded
+from rdbg.invocation import command
 from rdbg.json_layout import json_of
 from rdbg.printable import printable
 from rdbg.temporary import temporary_file
@@ -66,7 +67,7 @@ class Source(NamedTuple):
     def refused(self) -> str:
         """That it is no application, beside its faults."""
         refusal, count = self.refusal() or "refused", counted(self.fault_count, "fault")
-        return f"is {refusal}: {count}, as `./rdbg check {self.name}` says"
+        return f"is {refusal}: {count}, as `{command()} check {self.name}` says"
 
     def named(self) -> Optional[Beside]:
         """What an accepted text in lines names besides tasks and objects; none of a JSON."""

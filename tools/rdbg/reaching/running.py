@@ -13,6 +13,16 @@ from rdbg.reaching import progress
 from rdbg.reaching.progress import Gauge, Progress
 
 READ = 65_536
+# How the program's errors begin.
+OWN_NAMES = ("rdbg reach: ", "rdreach: ")
+
+
+def named(line: str) -> str:
+    """An error of the program in the name of the tool that started it, as `rdbg hunt: ..`."""
+    for own in OWN_NAMES:
+        if line.startswith(own):
+            return f"{ENDING.name}: {line[len(own):]}"
+    return line
 
 
 class Outcome(NamedTuple):
@@ -26,8 +36,8 @@ class Outcome(NamedTuple):
 
 
 class Listener:
-    """Listens to a program, as long as it says something, and keeps what it has said until now. Of
-    its errors all but how far it is are passed on."""
+    """Reads a program's output until its end, and keeps it. Its errors are passed on in the name of
+    the tool that started it; its lines of progress are not."""
 
     def __init__(self, process: "subprocess.Popen[bytes]", gauge: Gauge) -> None:
         assert process.stdout is not None and process.stderr is not None
@@ -53,7 +63,7 @@ class Listener:
             self.last = found
             return
         self._gauge.clear()
-        print(line, file=sys.stderr, flush=True)
+        print(named(line), file=sys.stderr, flush=True)
 
     def listen(self, end: Optional[float] = None) -> bool:
         """Listens until the program has said all, or until a time. Whether it has said all."""

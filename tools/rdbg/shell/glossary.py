@@ -7,6 +7,7 @@ from typing import Dict, List, Sequence, Tuple
 from rdbg import commands, instructions
 from rdbg.checking import freertos
 from rdbg.driving.target import Unable
+from rdbg.invocation import command
 from rdbg.shell.shell import Shell
 from rdbg.shell.views import REGISTERS
 
@@ -123,7 +124,7 @@ def meaning(word: str) -> List[str]:
         found.append(f"no {refusal}: {REFUSALS[refusal]}".format(number="N"))
     fault = next((it for it in FAULTS if word.lower() in it.lower().split()), None)
     if fault:
-        found.append(f"refused as {fault}: {FAULTS[fault]}; `./rdbg check FILE` says where")
+        found.append(f"refused as {fault}: {FAULTS[fault]}; `{command()} check FILE` says where")
     term = "registers" if word in REGISTERS else word.lower()
     if term in TERMS and word.lower() not in GOALS:
         found.append(TERMS[term])

@@ -5,6 +5,7 @@ from typing import Callable, Dict, NamedTuple, Optional, Sequence, Tuple
 
 from rdbg import commands
 from rdbg.driving.target import Unable
+from rdbg.invocation import command
 from rdbg.reaching import asking
 from rdbg.shell import glossary, paces, reach, replay, seek, sourcing, steps, views
 from rdbg.shell.shell import Shell
@@ -42,9 +43,9 @@ GOALS = (
     "A run goes one order of many: one that doesn't meet a goal says nothing of the others."
 )
 SAVE = (
-    "`./rdbg run --app FILE < found.commands` comes to this place and state; a new program\n"
-    "tries it at once. A file that is there and wasn't saved by this prompt stays: `save! FILE`\n"
-    "writes it anew, but for one whose name doesn't end in .commands."
+    f"`{command()} run --app FILE < found.commands` then comes to this place and state; a new\n"
+    "program tries that at once. `save` does not overwrite a file that this prompt did not save;\n"
+    "`save! FILE` does, if its name ends in .commands."
 )
 PACE = (
     "`pace 5..20`: in go, until! and continue each busy core makes at least 5 moves between two\n"

@@ -5,6 +5,7 @@ import shlex
 from typing import Dict, List, Optional, Sequence
 
 from rdbg.files.source import LINES, Source
+from rdbg.invocation import command
 from rdbg.page.recorder import Recorder
 from rdbg.driving.parts import Told
 
@@ -41,8 +42,8 @@ def of_run(
     name = file_of(source)
     words = words_of(source)
     more = ["--moves", str(moves)] if moves else []
-    prompt = " ".join(["./rdbg", "sh", *words, *more])
-    program = " ".join(["./rdbg", "run", *(["--app", *words] if words else []), *more])
+    prompt = " ".join([command(), "sh", *words, *more])
+    program = " ".join([command(), "run", *(["--app", *words] if words else []), *more])
     if name.endswith(LINES):
         program = ""  # (which reads JSON alone)
     lines = {"lines": settled(told), "base": base}
@@ -56,8 +57,8 @@ def of_port(
     move from boot where all of them are known."""
     name = file_of(source)
     words = words_of(source)
-    prompt = " ".join(["./rdbg", "sh", *words])
-    server = " ".join(["./rdbg", "sh", "--port", str(port), *words])
+    prompt = " ".join([command(), "sh", *words])
+    server = " ".join([command(), "sh", "--port", str(port), *words])
     is_known = recorder.first == 0 and all(recorder.lines) and source is not None
     told = [Told(line, place) for place, line in enumerate(recorder.lines, 1)] if is_known else []
     way = {"file": name, "prompt": prompt, "lines": settled(told)}
