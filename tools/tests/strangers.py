@@ -4,6 +4,7 @@ import contextlib
 import os
 import subprocess
 import sys
+import tempfile
 import unittest
 from typing import Iterator, List, Sequence
 
@@ -79,6 +80,13 @@ sys.path.insert(0, os.path.dirname(sys.argv[0]))
 {}
 runpy.run_path(sys.argv[0], run_name="__main__")
 """
+# A module reads the time from a file's size, a tenth of a second for each byte.
+CLOCK = """
+import importlib, os, time, types
+module = importlib.import_module({!r})
+module.time = types.SimpleNamespace(**vars(time))
+module.time.monotonic = lambda: os.stat({!r}).st_size / 10
+"""
 # The system says of nobody who it is.
 UNTOLD = "import rdbg.owners; rdbg.owners.find_lookup = lambda: None"
 
@@ -153,6 +161,26 @@ def connected(port: int, count: int) -> Iterator[None]:
             yield
         finally:
             process.stdin.close()
+
+
+class Clock:
+    """The clock of one module of a companion. It stands still until a test moves it."""
+
+    def __init__(self, module: str) -> None:
+        self._file = tempfile.NamedTemporaryFile()
+        # What is done before the companion starts.
+        self.action = CLOCK.format(module, self._file.name)
+
+    def __enter__(self) -> "Clock":
+        return self
+
+    def __exit__(self, *_: object) -> None:
+        self._file.close()
+
+    def move(self, seconds: float) -> None:
+        """Moves the clock on."""
+        self._file.write(b"." * round(10 * seconds))
+        self._file.flush()
 
 
 def before(action: str) -> Sequence[str]:

@@ -13,7 +13,7 @@ from rdbg.adapter.listening import MOST, MOST_SILENT
 from tests.adapter_port import INITIALIZE, PATIENCE, SOON, Port, framed, listening, rest
 from tests.dap_client import Client
 from tests.paths import COMPANION, EXAMPLES
-from tests.strangers import IS_ROOT, UNTOLD, before, connected, told_nobody
+from tests.strangers import IS_ROOT, UNTOLD, Clock, before, connected, told_nobody
 
 LOST = EXAMPLES / "lost_item.json"
 
@@ -118,16 +118,19 @@ class Silent(unittest.TestCase):
                 self.assertEqual(rest(other), b"")
 
     def test_silent_and_slow_ones_are_closed(self) -> None:
-        with listening(head=before(SOON)) as port, port.editor() as client:
+        with Clock("rdbg.door") as clock, contextlib.ExitStack() as stack:
+            port = stack.enter_context(listening(head=before(clock.action)))
+            client = stack.enter_context(port.editor())
             client.ask("initialize")
             with port.connect() as silent, port.connect() as slow:
-                began = time.monotonic()
+                end = time.monotonic() + PATIENCE
                 with contextlib.suppress(ConnectionError):
-                    while time.monotonic() - began < PATIENCE:
+                    while time.monotonic() < end:
                         slow.sendall(b"X")
+                        clock.move(0.5)
                         time.sleep(0.1)
                 self.assertEqual(rest(silent) + rest(slow), b"")
-                self.assertLess(time.monotonic() - began, 10)
+                self.assertLess(time.monotonic(), end)
             # (who has said something stays)
             client.ask("launch", program=str(LOST))
 

@@ -8,10 +8,10 @@ import stat
 import unittest
 from typing import Iterator, Tuple
 
-from rdbg.adapter.listening import MOST, MOST_SILENT
-from tests.adapter_port import INITIALIZE, PATIENCE, SOON, Port, framed, listening, rest
+from rdbg.adapter.listening import MOST, MOST_SILENT, SECONDS
+from tests.adapter_port import INITIALIZE, PATIENCE, Port, framed, listening, rest
 from tests.paths import EXAMPLES
-from tests.strangers import IS_ROOT, UNTOLD, before, told_nobody
+from tests.strangers import IS_ROOT, UNTOLD, Clock, before, told_nobody
 
 LOST = str(EXAMPLES / "lost_item.json")
 SAID = re.compile(
@@ -91,9 +91,14 @@ class Token(unittest.TestCase):
                 client.ask("launch", program=LOST, token=token)
 
     def test_who_does_not_say_it_soon_is_closed(self) -> None:
-        with asking(SOON) as (port, file), port.connect() as other, port.editor() as client:
+        with Clock("rdbg.door") as clock, contextlib.ExitStack() as stack:
+            port, file = stack.enter_context(asking(clock.action))
+            other = stack.enter_context(port.connect())
+            client = stack.enter_context(port.editor())
             client.ask("launch", program=LOST, token=file.read_text().strip())
             other.sendall(framed(INITIALIZE))
+            self.assertIn(b"Content-Length", other.recv(20))
+            clock.move(SECONDS + 1)
             self.assertEqual(1, rest(other).count(b'"success": true'))
             client.event("initialized")
             client.stopped("configurationDone")

@@ -4,26 +4,20 @@ import os
 import pathlib
 import signal
 import subprocess
-import tempfile
 import time
 import unittest
 from typing import Sequence
 
 from tests.rooms import LOST, Caller, Process, free_port, room, rows, talk
 from tests.shell_terminal import Terminal
-from tests.strangers import before
+from tests.strangers import Clock, before
 
 IDLE = "who started the room has ada, who is idle for {}, give back the wheel: it is free"
 AWAY = "who started the room has ada, who is away, give back the wheel: it is free"
 
 
-# A room's clock is in a file, which has a byte for each tenth of a second.
-CLOCK = """
-import os, time, types
-from rdbg.rooms import member
-member.time = types.SimpleNamespace(**vars(time))
-member.time.monotonic = lambda: os.stat({!r}).st_size / 10
-"""
+# The module of a room that tells who is idle.
+IDLE_CLOCK = "rdbg.rooms.member"
 
 
 def says(here: Process, *lines: str) -> str:
@@ -40,35 +34,15 @@ def resident(process: int) -> int:
     return int(status.partition("VmRSS:")[2].split()[0])
 
 
-class Clock:
-    """The clock by which a room tells who is idle. It stands still until a test moves it."""
-
-    def __init__(self) -> None:
-        # (a room reads the time from the file's size, of which it never sees a half)
-        self._file = tempfile.NamedTemporaryFile()
-        self.head = before(CLOCK.format(self._file.name))
-
-    def __enter__(self) -> "Clock":
-        return self
-
-    def __exit__(self, *_: object) -> None:
-        self._file.close()
-
-    def move(self, seconds: float) -> None:
-        """Moves the clock on."""
-        self._file.write(b"." * round(10 * seconds))
-        self._file.flush()
-
-
 class Free(unittest.TestCase):
     """`free`, by a pipe."""
 
     def test_one_who_is_idle(self) -> None:
         pipe = subprocess.PIPE
         with contextlib.ExitStack() as stack:
-            file, clock = stack.enter_context(talk()), stack.enter_context(Clock())
+            file, clock = stack.enter_context(talk()), stack.enter_context(Clock(IDLE_CLOCK))
             words = ["--talk", str(file), "--idle", "1"]
-            here = stack.enter_context(room(*words, keys=pipe, head=clock.head))
+            here = stack.enter_context(room(*words, keys=pipe, head=before(clock.action)))
             with Caller(here.port, "ada") as ada, Caller(here.port, "bo") as bo:
                 self.assertEqual(says(here, "free"), "# no: nobody has the wheel")
                 ada.ask("wheel take")
@@ -97,9 +71,9 @@ class Free(unittest.TestCase):
             ada.send("# did")
 
     def test_one_who_says_something(self) -> None:
-        with Clock() as clock, contextlib.ExitStack() as stack:
+        with Clock(IDLE_CLOCK) as clock, contextlib.ExitStack() as stack:
             words, pipe = ["--idle", "2"], subprocess.PIPE
-            here = stack.enter_context(room(*words, keys=pipe, head=clock.head))
+            here = stack.enter_context(room(*words, keys=pipe, head=before(clock.action)))
             ada = stack.enter_context(Caller(here.port, "ada"))
             bo = stack.enter_context(Caller(here.port, "bo"))
             ada.ask("wheel take")
@@ -178,9 +152,9 @@ class AtATerminal(unittest.TestCase):
         self.port = free_port()
 
     def test_what_is_typed(self) -> None:
-        clock = Clock()
+        clock = Clock(IDLE_CLOCK)
         self.addCleanup(clock.__exit__)
-        terminal = self.terminal("--idle", "1", head=clock.head)
+        terminal = self.terminal("--idle", "1", head=before(clock.action))
         usage = "# `free` gives back the wheel of who is away, or idle for 1 second\n"
         terminal.expect(usage)
         with Caller(self.port, "ada") as ada:
