@@ -7,7 +7,9 @@ import subprocess
 import sys
 import threading
 from typing import IO, Any, Dict, Iterator, List, Optional
+from unittest import mock
 
+from rdbg.adapter.debugger import Debugger
 from rdbg.adapter.server import Server
 from tests.paths import COMPANION
 
@@ -183,6 +185,24 @@ def editor() -> Iterator[Client]:
                 with contextlib.suppress(OSError):
                     stream.close()
             there.close()
+
+
+@contextlib.contextmanager
+def held_run() -> Iterator[threading.Event]:
+    """Holds each run of a server in this process at its start, where it serves requests and can be
+    paused, until the event is set.
+
+    Without it a run can end before a request that has to come while it runs.
+    """
+    goes_on, between = threading.Event(), Debugger.between
+
+    def hold(debugger: Debugger) -> None:
+        between(debugger)  # (which raises `Interrupted` once a pause was asked for)
+        while not goes_on.wait(0.01):
+            between(debugger)
+
+    with mock.patch.object(Debugger, "between", hold):
+        yield goes_on
 
 
 @contextlib.contextmanager

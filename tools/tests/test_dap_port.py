@@ -8,7 +8,7 @@ import unittest
 from typing import Iterator, List, Tuple
 
 from rdbg.client import Session
-from tests.dap_client import ALL, Client, Message, editor, started
+from tests.dap_client import ALL, Client, Message, editor, held_run, started
 from tests.dap_schema import Held
 from tests.paths import COMPANION, EXAMPLES
 from tests.rooms import free_port
@@ -194,9 +194,11 @@ class Pauses(Held):
     def test_breakpoints_that_are_set_meanwhile_count(self) -> None:
         with editor() as client:
             client.begin(EXAMPLES / "turns.json", limit=1_000_000, moves=1_000_000)
-            client.ask("continue", threadId=2)
-            client.ask("setFunctionBreakpoints", breakpoints=[{"name": "tick = 2000"}])
-            stop = client.event("stopped")
+            with held_run() as goes_on:
+                client.ask("continue", threadId=2)
+                client.ask("setFunctionBreakpoints", breakpoints=[{"name": "tick = 2000"}])
+                goes_on.set()
+                stop = client.event("stopped")
             self.assertEqual(stop["reason"], "function breakpoint")
 
     def test_the_end_comes_while_it_runs(self) -> None:

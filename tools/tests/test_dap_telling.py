@@ -5,35 +5,18 @@ import tempfile
 import threading
 import time
 import unittest
-from typing import Iterator, List
+from typing import List
 from unittest import mock
 
-from rdbg.adapter.debugger import Debugger, Progress
+from rdbg.adapter.debugger import Progress
 from rdbg.adapter.messages import Arguments
 from rdbg.adapter.server import Server
-from tests.dap_client import PATIENCE, Client, editor
+from tests.dap_client import PATIENCE, Client, editor, held_run
 from tests.dap_schema import Held
 from tests.paths import EXAMPLES
 from tests.test_dap_breakpoints import LOOP
 
 LOST = EXAMPLES / "lost_item.json"
-
-
-@contextlib.contextmanager
-def endless_run() -> Iterator[None]:
-    """Has each run of an editor go on until it is paused, and serve requests meanwhile.
-
-    Without it a run can end before a request that has to come while it runs.
-    """
-    between = Debugger.between
-
-    def go_on(debugger: Debugger) -> None:
-        while True:
-            between(debugger)  # (which raises `Interrupted` once a pause was asked for)
-            time.sleep(0.01)
-
-    with mock.patch.object(Debugger, "between", go_on):
-        yield
 
 
 class InFile(Held):
@@ -146,7 +129,7 @@ class Ends(InFile):
         with editor() as client:
             client.begin(EXAMPLES / "turns.json", limit=1_000_000)
             client.ask("setFunctionBreakpoints", breakpoints=[{"name": "tick = 4000000000"}])
-            with endless_run():
+            with held_run():
                 client.ask("continue", threadId=2)
                 waiting = client.send("evaluate", expression="where", context="repl")
                 client.ask("cancel", requestId=waiting)
