@@ -17,7 +17,7 @@ from rdbg.rooms.turns import Turns
 from rdbg.driving.target import Limits
 from rdbg.files.source import load
 from tests.paths import EXAMPLES
-from tests.rooms import LOST
+from tests.rooms import LOST, until
 
 MOVES = (
     "step 0", "step 1", "tick", "forward 3", "back 2", "back 1", "redo 1", "redo 2", "trim 4",
@@ -395,7 +395,6 @@ class InTurn(unittest.TestCase):
 
     def test_turns_come_in_order(self) -> None:
         import threading
-        import time
 
         turns, order = Turns(), []
 
@@ -405,9 +404,9 @@ class InTurn(unittest.TestCase):
 
         with turns:
             threads = [threading.Thread(target=take, args=(number,)) for number in range(8)]
-            for thread in threads:
+            for count, thread in enumerate(threads, 1):
                 thread.start()
-                time.sleep(0.02)
+                until(lambda: len(turns._waiting) == count)
         for thread in threads:
             thread.join()
         self.assertEqual(order, list(range(8)))
