@@ -1,5 +1,6 @@
-"""Who comes in at a port of this machine: the user whose process listens there, unless anyone may;
-and what comes in by mistake, as what a browser sends on whichever page's behalf."""
+"""Decides who may connect to a port of this machine: the user whose process listens there, or every
+user if that is asked for. Refuses what comes by mistake, such as the requests of a browser, which
+sends them on behalf of any page."""
 import contextlib
 import hmac
 import os
@@ -17,26 +18,26 @@ from rdbg.ending import ENDING
 from rdbg.failure import trying
 from rdbg.owners import client_owner, find_lookup
 
-# The first line of a request of HTTP, and how one begins that is encrypted.
+# The first line of an HTTP request, and the first bytes of an encrypted connection.
 REQUEST = re.compile(rb"[!#$%&'*+.^_`|~0-9A-Za-z-]+ \S+ HTTP/[0-9.]+\r?\n?$", re.IGNORECASE)
 ENCRYPTED = b"\x16\x03"
-# How a word is said that lets one in, where the system says of nobody who it is.
+# How a client sends its token, on a system that does not tell the owners of connections.
 TOKEN = "# token"
-OPENS = "--anyone opens it"
-# So many bytes are read of who is turned away, so that the answer isn't lost with them.
-UNREAD = 65_536
-# So many seconds it rests where a connection can't be had, for want of descriptors mostly.
-BREATH = 0.02
+REMEDY = "start it with --anyone to let every user in"
+# How much of what a refused client has sent is read, so that the system does not drop the answer.
+MAX_UNREAD_BYTES = 65_536
+# How long to wait if a connection cannot be accepted, which mostly is for lack of descriptors.
+PAUSE_SECONDS = 0.02
 
 
 def is_of_a_browser(line: bytes) -> bool:
-    """Whether what a browser sends begins with this line."""
+    """Returns whether what a browser sends begins with this line."""
     return line.startswith(ENCRYPTED) or REQUEST.match(line) is not None
 
 
 class Door:
-    """Lets in the user whose process this is, or anyone. Root is a user like others. Where the
-    system says of nobody who it is, there is a token instead."""
+    """Lets in the user of this process, or every user. Root is a user like any other. On a system
+    that does not tell the owners of connections, clients must send a token instead."""
 
     def __init__(self, is_open: bool = False) -> None:
         self.is_open, self._user = is_open, os.geteuid()
@@ -44,42 +45,42 @@ class Door:
         self.token = "" if is_open or self._lookup else secrets.token_urlsafe(18)
 
     @property
-    def said(self) -> str:
-        """What is said of it behind the port's number."""
+    def announcement(self) -> str:
+        """What is printed after the number of the port."""
         return ", for anyone of this machine" if self.is_open else ""
 
-    def why_not(self, connection: socket.socket, what: str) -> str:
-        """Why a connection isn't let in, before anything of it is read; nothing where it is, or
-        where there is a token that it may know."""
+    def refusal(self, connection: socket.socket, what: str) -> str:
+        """Returns why a connection to `what` is refused before a byte of it is read. Empty if it is
+        let in, or if its first line may be the token."""
         if self._lookup is None:
             return ""
         user = client_owner(self._lookup, connection)
         if user is None:
-            return f"whose connection this is can't be told; {OPENS}"
-        return "" if user == self._user else f"{what} is of another user; {OPENS}"
+            return f"cannot tell which user this connection belongs to ({REMEDY})"
+        return "" if user == self._user else f"{what} belongs to another user ({REMEDY})"
 
-    def why_not_behind(self, line: bytes) -> str:
-        """Why a connection isn't let in whose first line is this one; nothing where it is."""
+    def refusal_of_line(self, line: bytes) -> str:
+        """Returns why a connection with this first line is refused, or an empty text."""
         if is_of_a_browser(line):
-            return "this is for lines, and that is what a browser sends"
+            return "this port is for lines, and a browser sent this"
         wanted = f"{TOKEN} {self.token}".encode()
         if self.token and not hmac.compare_digest(line.strip(), wanted):
-            return f"the first line is to be `{TOKEN} ..`, as it was said at the start"
+            return f"the first line must be `{TOKEN} ..`, as it was printed at the start"
         return ""
 
 
-def turn_away(connection: socket.socket, content: bytes = b"") -> None:
-    """Says why to who isn't let in, and closes the connection. Waits for nobody."""
+def refuse(connection: socket.socket, content: bytes = b"") -> None:
+    """Sends a last answer, and closes the connection. Waits for nobody."""
     with connection, contextlib.suppress(OSError):
         connection.setblocking(False)
         connection.send(content)
         connection.shutdown(socket.SHUT_WR)
-        connection.recv(UNREAD)
+        connection.recv(MAX_UNREAD_BYTES)
 
 
-class Unheard:
-    """The connections that haven't said yet what they want. None of them keeps another one out: of
-    too many the oldest is dropped, and each that takes too many seconds."""
+class SilentConnections:
+    """The connections that have not said yet what they want. None of them keeps another one out: if
+    there are too many, the oldest is dropped, and so is each that takes too long."""
 
     def __init__(self, most: int, seconds: float) -> None:
         self._most, self._seconds = most, seconds
@@ -87,14 +88,14 @@ class Unheard:
         self._since: Dict[socket.socket, float] = {}
 
     def add(self, connection: socket.socket) -> None:
-        """A connection has come."""
+        """Adds a new connection."""
         with self._guard:
             if len(self._since) >= self._most:
                 self._drop(next(iter(self._since)))
             self._since[connection] = time.monotonic()
 
     def drop_oldest(self) -> bool:
-        """Drops the oldest, if there is one."""
+        """Drops the oldest, and returns whether there was one."""
         with self._guard:
             oldest = next(iter(self._since), None)
             if oldest is not None:
@@ -102,7 +103,7 @@ class Unheard:
         return oldest is not None
 
     def remove(self, connection: socket.socket) -> None:
-        """It has said what it wants, or has gone."""
+        """Removes a connection that has said what it wants, or has gone."""
         with self._guard:
             self._since.pop(connection, None)
 
@@ -119,14 +120,14 @@ class Unheard:
 
 
 def drop(connection: socket.socket) -> None:
-    """Ends a connection, for who waits for it too."""
+    """Ends a connection, also for a thread that waits for it."""
     with contextlib.suppress(OSError):  # (it may have gone)
         connection.shutdown(socket.SHUT_RDWR)
 
 
 class Entrance(ThreadingMixIn, TCPServer):
-    """A port of this machine: each connection that is let in has a thread of its own. `what` stands
-    there, as who isn't let in is told."""
+    """A port of this machine, at which each connection that is let in gets a thread. `what` names in
+    refusals what listens there."""
 
     what = "this room"
     daemon_threads, block_on_close = True, False
@@ -137,10 +138,10 @@ class Entrance(ThreadingMixIn, TCPServer):
         self,
         port: int,
         door: Door,
-        unread: Unheard,
+        unread: SilentConnections,
         handler: Type[BaseRequestHandler] = BaseRequestHandler,
     ) -> None:
-        """Listens there, or at a free port for 0. Raises `Failure` where it can't be had."""
+        """Listens at a port, or at a free one if it is 0. Raises `Failure` if it is taken."""
         self.door, self.unread = door, unread
         with trying(f"listen at port {port}"):
             super().__init__((LOCAL, port), handler)
@@ -150,27 +151,28 @@ class Entrance(ThreadingMixIn, TCPServer):
         try:
             return super().get_request()
         except OSError:
-            time.sleep(BREATH)
+            time.sleep(PAUSE_SECONDS)
             raise
 
     def verify_request(self, request: Any, client_address: Any) -> bool:
-        """Whether a connection is let in, before anything of it is read. Who isn't is told why."""
-        why = self.door.why_not(request, self.what)
+        """Returns whether a connection is let in, before anything of it is read, and tells a refused
+        client why."""
+        why = self.door.refusal(request, self.what)
         if why:
-            turn_away(request, self.refusal(why))
+            refuse(request, self.refusal(why))
         return not why
 
     def refusal(self, why: str) -> bytes:
-        """What is said to who isn't let in."""
+        """Returns what a refused client is sent."""
         raise NotImplementedError
 
     def process_request(self, request: Any, client_address: Any) -> None:
-        """Begins a thread for a connection."""
+        """Starts a thread for a connection."""
         self.unread.add(request)
         super().process_request(request, client_address)
 
     def shutdown_request(self, request: Any) -> None:
-        """A connection has been served."""
+        """Closes a connection that has been served."""
         self.unread.remove(request)
         super().shutdown_request(request)
 
@@ -180,5 +182,5 @@ class Entrance(ThreadingMixIn, TCPServer):
         print(f"{ENDING.name}: a connection was dropped: {why}", file=sys.stderr, flush=True)
 
     def service_actions(self) -> None:
-        """Is called now and then."""
+        """Drops silent connections; called about twice a second."""
         self.unread.drop_late()

@@ -40,7 +40,9 @@ class Users(unittest.TestCase):
                 self.assertEqual(told_nobody(port.number, content), b"")
             port.serves()
             self.assertEqual(os.listdir(folder), [])
-            why = "this adapter is of another user; --anyone opens it"
+            why = (
+                "this adapter belongs to another user (start it with --anyone to let every user in)"
+            )
             self.assertEqual(port.errors(), f"rdbg dap: a connection was closed: {why}\n")
 
     @IS_ROOT

@@ -10,7 +10,7 @@ from unittest import mock
 
 from rdbg import door, owners
 from rdbg.client import LOCAL
-from rdbg.door import Door, Unheard, is_of_a_browser
+from rdbg.door import Door, SilentConnections, is_of_a_browser
 from tests.strangers import IS_ROOT, NOBODY, become, words
 
 LOOKUPS = (owners.ask_kernel, owners.search_tables)
@@ -103,7 +103,7 @@ class Owners(unittest.TestCase):
             here.sendall(b"tick\n")
             here.close()
             self.assertEqual(self.both(there), (None, None))
-            self.assertIn("can't be told", Door().why_not(there, "this"))
+            self.assertIn("cannot tell which user", Door().refusal(there, "this"))
 
     def test_a_socket_that_listens_is_no_end(self) -> None:
         with listening() as (found, port):
@@ -136,20 +136,23 @@ class Doors(unittest.TestCase):
 
     def test_this_user(self) -> None:
         with pair() as (_, there):
-            self.assertEqual(Door().why_not(there, "this"), "")
+            self.assertEqual(Door().refusal(there, "this"), "")
 
     @IS_ROOT
     def test_another(self) -> None:
         with of_nobody() as there:
-            why = Door().why_not(there, "this room")
-            self.assertEqual(why, "this room is of another user; --anyone opens it")
-            self.assertEqual(Door(is_open=True).why_not(there, "this room"), "")
+            why = Door().refusal(there, "this room")
+            self.assertEqual(
+                why,
+                "this room belongs to another user (start it with --anyone to let every user in)",
+            )
+            self.assertEqual(Door(is_open=True).refusal(there, "this room"), "")
 
     def test_root_is_a_user_like_others(self) -> None:
         found = Door()
         with pair() as (_, there), mock.patch.object(found, "_user", 1_000):
             with mock.patch.object(door, "client_owner", lambda *_: 0):
-                self.assertIn("of another user", found.why_not(there, "this"))
+                self.assertIn("belongs to another user", found.refusal(there, "this"))
 
     def test_a_token_where_nobody_is_told(self) -> None:
         with mock.patch.object(door, "find_lookup", lambda: None):
@@ -158,11 +161,11 @@ class Doors(unittest.TestCase):
         self.assertGreaterEqual(len(one.token), 20)
         self.assertNotEqual(one.token, other.token)
         with pair() as (_, there):
-            self.assertEqual(one.why_not(there, "this"), "")
-        self.assertEqual(one.why_not_behind(f"# token {one.token}\r".encode()), "")
+            self.assertEqual(one.refusal(there, "this"), "")
+        self.assertEqual(one.refusal_of_line(f"# token {one.token}\r".encode()), "")
         lines = (b"", b"tick", b"# token", f"# token {other.token}".encode(), b"# token \xff")
         for line in (*lines, f"# token {one.token}x".encode(), one.token.encode()):
-            self.assertIn("# token", one.why_not_behind(line), line)
+            self.assertIn("# token", one.refusal_of_line(line), line)
 
 
 class Mistakes(unittest.TestCase):
@@ -204,7 +207,7 @@ class Silent(unittest.TestCase):
     """Connections that say nothing."""
 
     def test_the_oldest_goes_where_there_are_too_many(self) -> None:
-        found = Unheard(2, 60)
+        found = SilentConnections(2, 60)
         with contextlib.ExitStack() as stack:
             ends = [stack.enter_context(pair()) for _ in range(4)]
             for _, there in ends[:3]:
@@ -216,7 +219,7 @@ class Silent(unittest.TestCase):
                 self.kept(here)
 
     def test_each_goes_that_takes_too_long(self) -> None:
-        found = Unheard(2, 60)
+        found = SilentConnections(2, 60)
         with pair() as (here, there), pair() as (late, other):
             found.add(other)
             with mock.patch("rdbg.door.time.monotonic", at(time.monotonic() + 59)):

@@ -20,7 +20,7 @@ from tests.test_room_web import page, status
 from tests.test_room_web import served as with_page
 from tests.web_rooms import WebRoom
 
-NO = "# no: this room is of another user; --anyone opens it"
+NO = "# no: this room belongs to another user (start it with --anyone to let every user in)"
 # A page's request, with lines of rdbg as what it says.
 HEADS = "Host: 127.0.0.1\r\nOrigin: http://evil.example\r\nContent-Type: text/plain\r\n\r\n"
 BODY = "tick\nforward 3\nwheel take\n# say hello\n"
@@ -45,10 +45,10 @@ class Users(unittest.TestCase):
 
     def test_a_prompt_says_why_too(self) -> None:
         with mock.patch("rdbg.door.client_owner", lambda *_: 12_345), served() as (port, _):
-            said = f"the server at port {port}: this room is of another user; --anyone opens it"
-            with self.assertRaisesRegex(Failure, said):
+            said = f"the server at port {port}: this room belongs to another user (start it with --anyone to let every user in)"
+            with self.assertRaisesRegex(Failure, re.escape(said)):
                 Session.attach(port, "ada")
-            with Session.attach(port) as session, self.assertRaisesRegex(Failure, said):
+            with Session.attach(port) as session, self.assertRaisesRegex(Failure, re.escape(said)):
                 session.tell("tick")
 
     def test_a_token_that_isnt_asked_for_is_passed_over(self) -> None:
@@ -77,7 +77,7 @@ class Users(unittest.TestCase):
                 for name, value in HEADERS:
                     self.assertIn(f"{name}: {value}\r\n".encode(), answer)
                 if wanted == 403:
-                    end = b"\r\n\r\nrdbg: this room is of another user; --anyone opens it\n"
+                    end = b"\r\n\r\nrdbg: this room belongs to another user (start it with --anyone to let every user in)\n"
                     self.assertTrue(answer.endswith(end), answer)
                     # (before anything is read)
                     self.assertEqual(status(told_nobody(here.web, b"")), 403)
@@ -125,7 +125,7 @@ class Browsers(unittest.TestCase):
                             time.sleep(pause)
                     said = other.rest()
                 self.assertEqual([it for it in said if it[:1] != "#"], [])
-                self.assertIn("this is for lines, and that is what a browser sends", said[-1])
+                self.assertIn("this port is for lines, and a browser sent this", said[-1])
             self.assertEqual(left.ask("show moves"), "moves 0 undone 0 kept 0")
             self.assertEqual(left.ask("show wheel"), "wheel -")
             here.end()
@@ -209,7 +209,7 @@ class Untold(unittest.TestCase):
                 other.send(f"# token {token[1]}", "# name ada")
                 other.expect("# you are ada, session 1; here: nobody else")
                 self.assertEqual(other.ask("tick"), "ok at 1")
-            with self.assertRaisesRegex(Failure, "the first line is to be `# token ..`"):
+            with self.assertRaisesRegex(Failure, "the first line must be `# token ..`"):
                 Session.attach(here.port, "bo")
             with mock.patch.dict(os.environ, {"RDBG_TOKEN": token[1]}):
                 with Session.attach(here.port, "bo") as session:

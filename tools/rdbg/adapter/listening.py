@@ -6,7 +6,7 @@ import threading
 from typing import Any, Set
 
 from rdbg.adapter.server import Server
-from rdbg.door import Door, Entrance, Unheard, drop
+from rdbg.door import Door, Entrance, SilentConnections, drop
 from rdbg.temporary import temporary_file
 
 # So many editors at a time are served. So many connections may be silent, so many seconds each:
@@ -24,7 +24,7 @@ def listen(port: int, door: Door) -> None:
         if door.token:
             path = ends.enter_context(temporary_file("token", f"{door.token}\n", "the token"))
             print(f"{UNTOLD}: {ASKED} {path}", file=sys.stderr, flush=True)
-        print(f"listening {port}{door.said}", flush=True)
+        print(f"listening {port}{door.announcement}", flush=True)
         editors.serve_forever()
 
 
@@ -34,7 +34,7 @@ class Editors(Entrance):
     what = "this adapter"
 
     def __init__(self, port: int, door: Door) -> None:
-        super().__init__(port, door, Unheard(MOST_SILENT, SECONDS))
+        super().__init__(port, door, SilentConnections(MOST_SILENT, SECONDS))
         self._guard = threading.Lock()
         self._served: Set[socket.socket] = set()
         self._has_said = False

@@ -137,7 +137,7 @@ def serve(room: Room, port: Port, door: Door, given: argparse.Namespace) -> List
 
 def tell(given: argparse.Namespace, door: Door, where: str) -> None:
     """Says where the room is, and how one comes in."""
-    print(f"listening {given.port}{door.said}", flush=True)
+    print(f"listening {given.port}{door.announcement}", flush=True)
     if door.token:
         why = "whose a connection is can't be told here"
         print(f"rdbg room: {why}: who comes says first {TOKEN} {door.token}", file=sys.stderr)

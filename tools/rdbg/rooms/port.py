@@ -8,7 +8,7 @@ import time
 from typing import Any, Dict, Iterator, Optional
 
 from rdbg.commands import MOST_BYTES
-from rdbg.door import TOKEN, Door, Entrance, Unheard, drop, turn_away
+from rdbg.door import TOKEN, Door, Entrance, SilentConnections, drop, refuse
 from rdbg.rooms.client import NAMELESS, Client
 from rdbg.rooms.host import Ended
 from rdbg.rooms.room import Refusal, Room
@@ -28,7 +28,7 @@ class Port(Entrance):
     room: Room
 
     def __init__(self, port: int, door: Optional[Door] = None) -> None:
-        super().__init__(port, door or Door(), Unheard(MOST, NAMELESS))
+        super().__init__(port, door or Door(), SilentConnections(MOST, NAMELESS))
         self._guests: Dict[socket.socket, Client] = {}
         self._waking, self._woken = socket.socketpair()
         self._waking.setblocking(False)
@@ -69,7 +69,7 @@ class Port(Entrance):
             return False
         if len(self._guests) < MOST or (self.door.token and self.unread.drop_oldest()):
             return True
-        turn_away(request, self.refusal(f"{MOST} connections are here already"))
+        refuse(request, self.refusal(f"{MOST} connections are here already"))
         return False
 
     def process_request(self, request: Any, client_address: Any) -> None:
@@ -81,7 +81,7 @@ class Port(Entrance):
             self.unread.remove(request)
             guest = self._guests.pop(request, None)
             if guest is None:
-                turn_away(request, self.refusal(NO_THREAD))
+                refuse(request, self.refusal(NO_THREAD))
             else:  # (the thread that writes is there)
                 guest.hear(f"# no: {NO_THREAD}")
                 guest.finish()
@@ -159,7 +159,7 @@ class Port(Entrance):
         connection that a browser has made."""
         guest.has_spoken = True
         self.unread.remove(guest.connection)
-        why = self.door.why_not_behind(line)
+        why = self.door.refusal_of_line(line)
         if why:
             raise Refusal(why)
         if self.door.token:

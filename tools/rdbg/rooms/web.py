@@ -8,7 +8,7 @@ from typing import Any, Callable, Dict, Optional
 
 from rdbg.client import LOCAL
 from rdbg.commands import is_number
-from rdbg.door import Door, Entrance, Unheard
+from rdbg.door import Door, Entrance, SilentConnections
 from rdbg.failure import Failure
 from rdbg.rooms import web_document
 from rdbg.rooms import web_guard as guard
@@ -182,7 +182,9 @@ class Served(Entrance):
         self.of_room = as_json(web_document.of_room(room.app_source))
         room.when_reloaded = self._reload
         self.has_ended = False
-        super().__init__(port, door or Door(), Unheard(guard.MOST_UNREAD, guard.SECONDS), Handler)
+        super().__init__(
+            port, door or Door(), SilentConnections(guard.MOST_UNREAD, guard.SECONDS), Handler
+        )
         try:
             self.follower = Follower(room, self.pages.tell)
         except BaseException:
