@@ -1,4 +1,4 @@
-"""`rdbg serve` as a room has it: started with all its sessions taken, and ended with its audit."""
+"""The `rdbg serve` of a room: its start, until the room has all its sessions, and its audit."""
 import contextlib
 import re
 import signal
@@ -18,17 +18,17 @@ from rdbg.driving.opening import NotLetIn, as_read, greet
 from rdbg.driving.target import Limits
 from rdbg.files.source import Source
 
-# So many sessions serve lets in, one after the other, and no more.
+# The most sessions that serve admits.
 MOST_SESSIONS = 64
-# A port that was free can be taken before serve listens there, and others can come to serve first,
-# where it has no network of its own: other ones are tried for so many seconds.
+# Without a network of its own, a port that was free can be taken before serve listens there, and
+# others can connect to serve first: then other ports are tried, for so many seconds.
 SECONDS = 10.0
-# A session that has come is answered within so many seconds.
+# A new session must be answered within so many seconds.
 PATIENCE = 5.0
 TAKEN = "cannot listen"
 # How it refuses a session for which it has no memory, or no thread.
 NO_MEMORY = "NoMemory"
-# So many of the others who came first are named.
+# How many of the others who connected first are named.
 FEW = 3
 
 
@@ -40,30 +40,32 @@ def status_text(status: int) -> str:
 
 
 class Ended(Failure):
-    """The program has ended, so that no line is answered any more."""
+    """The program has ended, and answers no line any more."""
 
 
 class Hindered(Failure):
-    """Each program had to be given up for who came to its port first, or didn't answer."""
+    """Each program had to be given up, because others connected first, or it did not answer."""
 
 
 def free_port() -> int:
-    """A port of this machine that nobody has."""
+    """Returns a port of this machine at which nobody listens."""
     with socket.socket() as found:
         found.bind((LOCAL, 0))
         return int(found.getsockname()[1])
 
 
 class Host:
-    """A program that serves, and all its sessions, by their numbers from 1 on. Where the system has
-    a network for it alone, nobody else can connect to it. Elsewhere its port is open until all
-    sessions are taken, and as many as were asked for have answered: so none is another's."""
+    """A program that serves, and all its sessions, whose numbers begin with 1.
+
+    If the system gives the program a network of its own, nobody else can connect to it. Otherwise
+    its port is open until the room has all sessions; each has answered then, so none is another
+    user's."""
 
     def __init__(self, process: "subprocess.Popen[bytes]", errors: IO[bytes]) -> None:
         assert process.stdout is not None
         self._process, self._said, self._errors = process, process.stdout, errors
         self.sessions: List[Session] = []
-        # (the sockets of its own network, where it has one; and the room's own ports)
+        # (the sockets of the program's own network, if it has one, and the room's own ports)
         self._apart: List[socket.socket] = []
         self._is_apart = False
         self._ours: Set[int] = set()
@@ -74,8 +76,8 @@ class Host:
     def start(
         cls, source: Source, limits: Limits, count: int, seconds: Optional[float] = None
     ) -> "Host":
-        """Starts it on an application as it was read, and tries so long at the most. Ctrl-C at the
-        terminal doesn't reach it.
+        """Starts a program with `count` sessions on an application as it was read. Ctrl-C at the
+        terminal does not reach it. `seconds` is how long other ports are tried.
 
         Raises `Failure` if it cannot be started, also for lack of descriptors or memory, and
         `Hindered` if others connected first, or it did not answer, for all that time."""
@@ -109,7 +111,7 @@ class Host:
 
     @classmethod
     def _begin(cls, words: List[str], count: int) -> "Host":
-        """Starts it, with sockets of its own network where there is one. Raises `Failure`."""
+        """Starts the program, in a network of its own if the system has one. Raises `Failure`."""
         if not apart.IS_TRIED:
             return cls._started(words, words[0], subprocess.DEVNULL)
         with trying(f"start {words[0]}"):
@@ -138,12 +140,13 @@ class Host:
         return cls(process, errors)
 
     def _listens(self) -> bool:
-        """Waits until it listens; false where it ends before."""
+        """Waits until it listens, and returns false if it ends before."""
         return self._said.readline().startswith(b"listening")
 
     def _take(self, port: int, count: int) -> None:
-        """Takes all sessions, one after the other, so that their numbers are known. Raises
-        `Failure` where somebody else was let in, or nothing is answered."""
+        """Takes all sessions, one after the other, so that their numbers are known.
+
+        Raises `Failure` if somebody else got one, or there is no answer."""
         for _ in range(count):
             connection = connected(port, PATIENCE, self._apart.pop() if self._apart else None)
             self._ours.add(int(connection.getsockname()[1]))
@@ -154,14 +157,14 @@ class Host:
 
     @contextlib.contextmanager
     def asking(self, number: int) -> Iterator[Session]:
-        """A session, for as long as it is asked. Raises `Ended` where the program has ended."""
+        """Yields a session to be asked. Raises `Ended` if the program has ended."""
         try:
             yield self.sessions[number - 1]
         except Failure:
             raise Ended(self.why_ended()) from None
 
     def tell_all(self, number: int, lines: List[str]) -> List[str]:
-        """The replies to lines of one session. Raises `Ended`."""
+        """Returns the replies to lines of one session. Raises `Ended`."""
         with self.asking(number) as session:
             return list(session.tell_all(lines))
 
@@ -184,7 +187,7 @@ class Host:
         return "rdbg has ended"
 
     def _errors_said(self) -> str:
-        """The last line that it said on standard error; empty where it was closed before."""
+        """Returns the last line that it wrote to standard error, or an empty text."""
         if self._errors.closed:
             return ""
         self._errors.seek(0)
@@ -192,7 +195,7 @@ class Host:
         return said[-1] if said else ""
 
     def _given_up(self, port: int, failure: Failure) -> str:
-        """Ends it at once, since nobody knows whose its sessions are, and answers why."""
+        """Ends it at once, since its sessions may be another user's, and returns why."""
         others = {} if self._is_apart else owners.clients_of(port)
         self.kill()
         if self._is_apart:
@@ -207,7 +210,7 @@ class Host:
         return f"another came to port {port} first, from {', '.join(said[:FEW] + more)}: {failure}"
 
     def kill(self) -> str:
-        """Ends it at once, and answers what it said on standard error."""
+        """Ends it at once, and returns its last line on standard error."""
         self._is_closing = True
         self._process.kill()
         with self._closing():
@@ -215,7 +218,7 @@ class Host:
             return self._errors_said()
 
     def close(self) -> "Audit":
-        """Ends all sessions, and answers what the program found at its end."""
+        """Ends all sessions, and returns what the program found at its end."""
         self._is_closing = True
         with self._closing():
             for session in self.sessions:
@@ -240,8 +243,8 @@ class Host:
 
 
 class Audit(NamedTuple):
-    """What a program found at its end: how many entries its history has, none where it says
-    nothing of it, its status, and what it said on standard error."""
+    """What a program found at its end: the number of entries of its history, or `None` if it did not
+    say, its status, and its last line on standard error."""
 
     entries: Optional[int]
     status: int
@@ -249,11 +252,11 @@ class Audit(NamedTuple):
 
     @property
     def is_good(self) -> bool:
-        """Whether the history is what the sessions were answered."""
+        """Whether the history agrees with the answers that the sessions got."""
         return self.entries is not None and self.status == 0
 
     def text(self) -> str:
-        """It as a line."""
+        """Returns the audit as a line."""
         if self.is_good:
             return f"closed {self.entries}"
         return self.said or f"rdbg has ended without its audit: {status_text(self.status)}"

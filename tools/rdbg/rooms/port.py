@@ -1,4 +1,4 @@
-"""A room's port on this machine: each connection has a thread, and its turn in the room."""
+"""A room's port on this machine. Each connection has a thread, and takes turns in the room."""
 import contextlib
 import select
 import signal
@@ -13,10 +13,10 @@ from rdbg.rooms.client import NAMELESS, Client
 from rdbg.rooms.host import Ended
 from rdbg.rooms.room import Refusal, Room
 
-# So many connections there are at the most.
+# The most connections at a time.
 MOST = 128
 NO_THREAD = "the system has no thread left for one more connection"
-# So many seconds are waited at the end for those who read what they were told.
+# How long the room waits at its end for clients that still read.
 PATIENCE = 2.0
 
 
@@ -64,7 +64,7 @@ class Port(Entrance):
         return f"# no: {why}\n".encode()
 
     def verify_request(self, request: Any, client_address: Any) -> bool:
-        """Whether a connection is let in, of which there may be too many already."""
+        """Returns whether a connection is let in; there may be too many already."""
         if not super().verify_request(request, client_address):
             return False
         if len(self._guests) < MOST or (self.door.token and self.unread.drop_oldest()):
@@ -91,7 +91,7 @@ class Port(Entrance):
         self._guests.pop(request, None)
 
     def finish_request(self, request: Any, client_address: Any) -> None:
-        """Does what a connection says, up to its end: who was there is away then."""
+        """Executes what a connection sends, up to its end; its member is away then."""
         guest, word = self._guests[request], ""
         try:
             self._greet(guest)
@@ -111,7 +111,7 @@ class Port(Entrance):
             guest.end(word)
 
     def _greet(self, guest: Client) -> None:
-        """Somebody has come, who is a guest, or says the token first."""
+        """Makes a new connection a guest, or asks for the token first."""
         if self.door.token:
             guest.hear(f"# say `{TOKEN} ..` first, as it was said where the room was started")
         else:
@@ -119,15 +119,15 @@ class Port(Entrance):
             self._let_in(guest)
 
     def _let_in(self, guest: Client) -> None:
-        """Somebody is a guest, where there is a session for one."""
+        """Makes a connection a guest, if there is a session for one."""
         try:
             guest.member = self.room.join(None, guest.hear, is_told=False)
         except Refusal as refusal:
             guest.hear(f"# you are nobody yet: {refusal}; `# name NAME` comes by a name")
 
     def _line(self, guest: Client, line: Optional[bytes]) -> None:
-        """Does one line, the first of a connection once that is let in by it, or what is done where
-        none has come for too long. Raises `Refusal` where it ends the connection."""
+        """Executes one line of a connection, whose first line may refuse it, or does what is due if
+        none has come for too long. Raises `Refusal` to end the connection."""
         if line is None:
             return self._is_late(guest)
         if not guest.has_spoken and not self._goes_on_behind(guest, line):
@@ -148,14 +148,14 @@ class Port(Entrance):
         guest.wait()
 
     def _is_late(self, guest: Client) -> None:
-        """A connection that has said nothing is a guest; where it could be none, it is ended."""
+        """Announces a silent connection as a guest, or ends it if it is none."""
         if guest.member is None:
             lacks_token = self.door.token and not guest.has_spoken
             raise Refusal(f"it has said no {'token' if lacks_token else 'name'}")
         guest.member.announce()
 
     def _goes_on_behind(self, guest: Client, line: bytes) -> bool:
-        """Looks at a first line; whether it is one for the room, and no token. Nothing is done of a
+        """Returns whether a first line is for the room, and not a token. Raises `Refusal` for a
         connection that a browser has made."""
         guest.has_spoken = True
         self.unread.remove(guest.connection)
@@ -167,13 +167,13 @@ class Port(Entrance):
         return not line.startswith(TOKEN.encode())
 
     def _ask(self, guest: Client, line: str) -> None:
-        """Answers a line of rdbg's, or one that is too long to be any."""
+        """Answers a line for rdbg, or one that is too long."""
         if guest.member is not None:
             guest.member.announce()
             guest.member.ask(line, guest.answer)
 
     def close(self) -> None:
-        """Ends all connections, once they have read what they were told, or haven't for a while."""
+        """Ends all connections, once they have read everything, or have not read for a while."""
         self.server_close()
         self._is_over.set()
         for guest in list(self._guests.values()):

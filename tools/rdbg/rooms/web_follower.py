@@ -1,4 +1,4 @@
-"""Follows the moves of a room, so that pages show each of them as it comes."""
+"""Follows the moves of a room, so that pages show each of them as it is made."""
 import collections
 import queue
 import threading
@@ -14,28 +14,28 @@ from rdbg.rooms.web_mirror import Differs, Mirror
 from rdbg.driving.target import Unable, read
 from rdbg.driving.parts import Told
 
-# A line that made at most so many moves is looked at as a whole, where that takes so few seconds.
-# Of more, and where so many lines have come in a heap, the last moves are looked at, so many, and
-# those before behind them: in pieces that take as long, within bounds.
+# A line of at most SHORT moves is looked at as a whole, if that takes at most so many seconds. Of a
+# longer one, and if more than HEAP lines wait, the LAST moves are looked at first, and earlier ones
+# later: in pieces that take as long, of LEAST to MOST moves.
 SHORT, SECONDS, HEAP, LAST = 64, 0.1, 32, 24
 LEAST, MOST = 8, 1_024
-# So many lines are done before pages are told where the target is.
+# How many lines are executed before pages are told where the target is.
 MOST_HEAP = 1_000
-# Of moves that were taken back so many are looked at.
+# How many of the moves that were taken back are looked at.
 MOST_AHEAD = 1_000
 # A follower whose program ends is restarted, unless that happens so often within so many seconds.
 MAX_RESTARTS, RESTART_SECONDS = 5, 60.0
-# What doing the moves of a room anew can end with.
+# What can go wrong when the moves of a room are made again.
 WRONG = (Failure, Refused, Unable)
 Values = Dict[str, object]
-# Is told what pages have to show, by a word on what it is; `run` means all anew.
+# Tells pages what to show, by a word on what it is; `run` replaces everything.
 Tell = Callable[[str, Values], None]
 
 
 class Follower:
-    """A thread that does each move of a room in a program of its own, and says what it did; while
-    none comes it looks at earlier ones, and at those that were taken back. `guard` is held while
-    something is said, so that who holds it sees all that was said before."""
+    """A thread that makes each move of a room in a program of its own, and tells pages what it did.
+    While there is none, it looks at earlier moves, and at those that were taken back. If its program
+    ends, a new one takes over. It holds `guard` while it tells something."""
 
     def __init__(self, room: Room, tell: Tell) -> None:
         source = room.app_source
@@ -50,7 +50,7 @@ class Follower:
         # (whether its program has ended, and when that happened the last times)
         self._is_dead = False
         self._deaths: Deque[float] = collections.deque(maxlen=MAX_RESTARTS)
-        # How many lines were told, and were done.
+        # How many lines the room has told, and how many of them pages were shown.
         self.count_told = self.count_done = 0
         lines = room.follow(self.told)
         self._mirror = Mirror(source, lines)
@@ -59,29 +59,29 @@ class Follower:
         self._thread.start()
 
     def told(self, line: str, reply: str) -> None:
-        """A line that was accepted has changed the target. Blocks nobody."""
+        """Takes a line that has changed the target. Does not block."""
         value = read(reply)
         if isinstance(value, replies.Moved) and self.lost is None:
             self.count_told += 1
             self._heap.put(Told(line, value.at))
 
     def close(self) -> None:
-        """Ends it."""
+        """Ends the thread and its program."""
         self._heap.put(None)
         self._thread.join()
 
     @property
     def _end(self) -> int:
-        """Up to which place moves that were taken back are looked at."""
+        """The place up to which moves that were taken back are looked at."""
         return self._mirror.place + min(self._mirror.undone, MOST_AHEAD)
 
     def values(self) -> Values:
-        """What a page begins with, for who holds the guard: what is around the target."""
+        """Returns what a page begins with: the moves around the target. Needs the guard."""
         place = max(self.known.first, min(self._mirror.place, self.known.last))
         return {**self.known.around(place), **self._now()}
 
     def _now(self) -> Values:
-        """Where the target is, what is known by now, and how much more is to come."""
+        """Returns where the target is, which moves are known, and how many are to come."""
         return {
             "done": self._mirror.place,
             "undone": self._mirror.undone,
@@ -91,7 +91,7 @@ class Follower:
         }
 
     def lose(self, why: Exception) -> None:
-        """It can't go on, for who holds the guard."""
+        """Gives up, and tells pages why. Needs the guard."""
         self.lost = self.lost or f"the lanes don't follow any more: {why}"
         self._tell("now", self._now())
 
@@ -131,8 +131,8 @@ class Follower:
             self._show()
 
     def _look(self) -> bool:
-        """Looks at a piece of the moves that aren't known yet; false where a line has come, or there
-        is nothing to look at."""
+        """Looks at some of the moves that are not known yet. Returns false if a line has come, or all
+        are known."""
         if self.lost or self._due or not self._heap.empty():
             return False
         count = max(LEAST, min(self._mirror.count(SECONDS), MOST))
