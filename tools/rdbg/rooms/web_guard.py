@@ -1,5 +1,5 @@
-"""Whom a room's pages let in: who has the token, from no other origin, with little to say. A
-browser gets it for the key in the page's address, which lets one in, once."""
+"""Decides which requests a room's page port answers: small ones that come from the page itself, with
+the token. A browser gets the token for the key in the page's address, which works once."""
 import contextlib
 import hmac
 import io
@@ -17,12 +17,12 @@ from rdbg.client import LOCAL
 from rdbg.digits import is_digits
 from rdbg.temporary import temporary_file
 
-# A request's head has so many bytes at the most, its body so many, and both take so many seconds.
+# The most bytes of a request's head and of its body, and how many seconds both may take.
 MOST_HEAD, MOST_BODY, SECONDS = 16_384, 4_096, 10.0
-# So many connections may be open whose request hasn't come yet: then the oldest is dropped.
+# How many connections may be open without a request: if there are more, the oldest is dropped.
 MOST_UNREAD = 32
-# What each answer says besides: it is kept nowhere, is nothing but what it says it is, names nobody
-# from where one came, and can't be shown within, or read by, a page of another origin.
+# The headers of each answer: it is not stored, its type is not guessed, links from it do not name it,
+# and a page of another origin can neither embed nor read it.
 HEADERS = (
     ("Cache-Control", "no-store"),
     ("X-Content-Type-Options", "nosniff"),
@@ -33,15 +33,15 @@ HEADERS = (
     ("Connection", "close"),
 )
 JSON = "application/json"
-# So many bytes at random has what lets somebody in.
+# How many random bytes a key and a token have.
 BYTES = 24
-USED = "this isn't the key of the address that the room has said last"
-# What is printed at the start, and what says another address in its place.
+USED = "this is not the key of the address that the room has printed last"
+# What is printed at the start, and what announces another address in its place.
 Said = Tuple[str, Callable[[str], object]]
 
 
 class Denied(Exception):
-    """A request that isn't answered, with the status and what is said of it."""
+    """A request that is refused, with the status and the reason."""
 
     def __init__(self, status: int, text: str) -> None:
         super().__init__(text)
@@ -49,7 +49,7 @@ class Denied(Exception):
 
 
 class Bounded(io.RawIOBase):
-    """What a connection sends, up to so many bytes."""
+    """The bytes that a connection sends, up to a limit."""
 
     def __init__(self, connection: socket.socket, most: int) -> None:
         self._connection, self._left = connection, most
@@ -75,7 +75,7 @@ def refusal(why: str) -> bytes:
 
 
 def one(headers: Message, name: str) -> Optional[str]:
-    """The only value of a header. Raises `Denied` where it stands there twice."""
+    """Returns the value of a header, or `None`. Raises `Denied` if there are two."""
     found: List[str] = headers.get_all(name, [])
     if len(found) > 1:
         raise Denied(400, f"{name} stands twice")
@@ -109,7 +109,7 @@ def check_token(path: str, token: str) -> Tuple[str, str]:
 
 
 def name_in(query: str) -> Optional[str]:
-    """The name that a query says; none where it says none. Raises `Denied`."""
+    """Returns the name in a query, or `None`. Raises `Denied` for a query of more."""
     try:
         names = urllib.parse.parse_qs(query, keep_blank_values=True, max_num_fields=1)
     except ValueError:
@@ -118,7 +118,7 @@ def name_in(query: str) -> Optional[str]:
 
 
 def body_of(headers: Message, stream: BinaryIO) -> Dict[str, str]:
-    """The texts that a request says. Raises `Denied`."""
+    """Returns the texts in a request's body. Raises `Denied` if it is something else."""
     if (one(headers, "Content-Type") or "").split(";")[0].strip() != JSON:
         raise Denied(415, "it isn't JSON")
     length = one(headers, "Content-Length") or ""
@@ -139,12 +139,12 @@ def body_of(headers: Message, stream: BinaryIO) -> Dict[str, str]:
 
 
 def new() -> str:
-    """A text that nobody guesses."""
+    """Returns a text that nobody can guess."""
     return secrets.token_urlsafe(BYTES)
 
 
 class Key:
-    """What stands in the address of a room's page. Once it was used `say` says another one."""
+    """The key in the address of a room's page. After its use, `say` announces the next one."""
 
     def __init__(self) -> None:
         self.text = new()
@@ -152,8 +152,9 @@ class Key:
         self._guard = threading.Lock()
 
     def use(self, given: str) -> None:
-        """Uses it up. Raises `Denied` for another one; it stays where the next can't be said."""
-        self._check(given)  # (who has another one doesn't wait for who is let in)
+        """Uses the key up. Raises `Denied` if `given` is another one, or if the next address cannot
+        be announced; the key remains valid then."""
+        self._check(given)  # (a wrong key does not wait for the lock)
         with self._guard:
             self._check(given)
             self.text = new()

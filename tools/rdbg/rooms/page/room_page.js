@@ -1,11 +1,11 @@
-// The page of a room: what all do moves it, and its buttons do the same as lines do.
+// The page of a room: it shows what everybody does, and its buttons send lines.
 
-// At first a move is so wide, that one sees those that come, and some before.
+// The width of a move at first: new moves are seen, and some before them.
 const SCALE = 64;
 const NARROW_SCALE = 40;
-// In a small window the lanes have so much of its height.
+// The share of its height that the lanes have in a small window.
 const PART_SMALL = 0.3;
-// The goal of a line that asks for one or goes to one, or of its answer; one that tells of a move.
+// The goal in a line that asks for it or goes to it, and in an answer; an answer about a move.
 const GOALS = [/^\s*(?:reach|lost|doomed|back until) (.+)$/, /^\s*until (.+) \d+$/];
 const MET = /^at \d+ met: (.+)$/;
 const LOST_AT = /^lost at (\d+): (.*)$/;
@@ -28,7 +28,7 @@ class RoomPage extends Viewer {
     this.fill();
   }
 
-  // In a small window the lanes leave room for the state.
+  // In a small window the lanes leave space for the state.
   shareHeight() {
     const { timeline } = this;
     timeline.part = matchMedia(SMALL).matches ? PART_SMALL : PART;
@@ -80,7 +80,7 @@ class RoomPage extends Viewer {
     };
   }
 
-  // A step of a core, where there is one.
+  // Steps a core, if there is one of this number.
   step(core) {
     if (core < this.room.cores) this.room.tell(`step ${core}`);
   }
@@ -94,7 +94,7 @@ class RoomPage extends Viewer {
     });
   }
 
-  // Where a row of the script begins; none where it has no instruction.
+  // Returns the task and the instruction of a row of the script; empty if the row has none.
   placeOf(row) {
     const [number] = row.cells[1].textContent.split("-");
     return number && { task: this.run.tasks[this.script.chosen].name, number };
@@ -121,14 +121,14 @@ class RoomPage extends Viewer {
     this.go(this.run.done);
   }
 
-  // Goes to a place. One that isn't here yet is gone to once it comes.
+  // Goes to a place, now or once its move has come.
   go(place) {
     this.wanted = Math.min(place, Math.max(this.run.last, this.run.known[1]));
     super.go(place);
     this.follows = this.place === this.run.done;
   }
 
-  // Takes what has come of moves. (Where others are made in its place, a move isn't lost any more.)
+  // Takes moves that have come. (If others replace the move that lost a goal, its mark goes.)
   take(kind, values) {
     const { run, timeline } = this;
     const isOther = kind === "run" || (kind === "more" && values.cut < timeline.lost);
@@ -147,7 +147,7 @@ class RoomPage extends Viewer {
     this.fill();
   }
 
-  // Shows what there is by now, as it has changed or not.
+  // Shows everything that is known by now.
   showAll(hasChanged) {
     const { run, timeline, search, follows } = this;
     if (hasChanged) search.renew();
@@ -157,7 +157,7 @@ class RoomPage extends Viewer {
     this.go(follows ? run.done : this.wanted);
   }
 
-  // Asks for moves that aren't here yet, some at a time. What comes meanwhile goes first.
+  // Asks for moves that are not here yet, some at a time. New moves take precedence.
   async fill() {
     this.isWanted = true;
     if (this.isFilling) return;
@@ -169,7 +169,7 @@ class RoomPage extends Viewer {
     this.isFilling = false;
   }
 
-  // Moves that were taken back, or else earlier ones; whether some have come.
+  // Asks for moves that were taken back, then for earlier ones. Returns whether some have come.
   async fillSome() {
     const { run, timeline } = this;
     const [first, last] = run.known;
@@ -219,7 +219,7 @@ class RoomPage extends Viewer {
   }
 }
 
-// All of it: what is known before the first move has come, and what is done then.
+// The whole page, also before the first move has come.
 class RoomOnPage {
   constructor(way, values) {
     Object.assign(this, values);
@@ -263,8 +263,8 @@ class RoomOnPage {
     this.setHere(!text);
   }
 
-  // Whether lines are answered: else nothing that says some can be used, and the moves can be saved
-  // where the room has told them at its end.
+  // Sets whether the room answers. If not, elements that send lines are disabled, and the moves can
+  // be saved only if the room has sent them at its end.
   setHere(isHere) {
     this.isHere = isHere;
     for (const it of document.querySelectorAll(".says")) it.disabled = !isHere;
@@ -289,13 +289,13 @@ class RoomOnPage {
     this.people.show(name, people);
   }
 
-  // Takes what was told, just now or before this page came.
+  // Takes a notice, of now or of before this page came.
   takeNotice(text, when) {
     this.talk.say(kindOf(text, this.name), text, when);
   }
 
-  // Says a line, and what is answered; of one that all are told, the notice tells it. Answers
-  // whether rdbg did it.
+  // Sends a line, and shows the reply, unless a notice to everybody says the same. Returns whether
+  // rdbg executed it.
   async tell(line) {
     if (!this.isHere) return false;
     if (/^\s*save!?(\s|$)/.test(line)) {
@@ -314,7 +314,7 @@ class RoomOnPage {
       .filter(Boolean)
       .map((it) => it[1]);
     if (goal) byId("goal").value = goal.trim();
-    // (where moves have become others meanwhile, it was said of those before)
+    // (if the moves have changed meanwhile, the answer is about those before)
     if (/^\s*lost\b/.test(line) && changes === this.page?.run.changes) this.mark(reply);
     return true;
   }
@@ -327,27 +327,27 @@ class RoomOnPage {
     saveText(`${this.file.replace(/\.[^.]*$/, "")}.commands`, reply);
   }
 
-  // Marks the move that an answer tells of.
+  // Marks the move that an answer is about.
   mark(reply) {
     const [, place, words] = LOST_AT.exec(reply) ?? [];
     const isOfMove = Number(place) > 0;
     this.page?.setLost(isOfMove ? Number(place) : null, isOfMove ? words : "");
   }
 
-  // Asks a question of the goal that stands in the field, or of the one before.
+  // Asks a question about the goal in the field, or about the one before.
   ask(word) {
     this.tell(`${word} ${byId("goal").value.trim()}`.trim());
     if (!byId("goal").value.trim()) unfolded("goal").focus();
   }
 
-  // Says a line with the goal that stands in the field, where one does.
+  // Sends a line with the goal in the field, if there is one.
   withGoal(word, behind = "") {
     const goal = byId("goal").value.trim();
     if (goal) this.tell(`${word} ${goal} ${behind}`.trim());
     else unfolded("goal").focus();
   }
 
-  // Asks which watches hold now; once more where something has come meanwhile.
+  // Asks which watches hold now, and once more if something has come meanwhile.
   async lookAtWatches() {
     this.isWanted = true;
     if (this.isLooking) return;
@@ -398,7 +398,7 @@ class RoomOnPage {
     new TypedLine(byId("typed"), tell);
   }
 
-  // Says what stands in the field, to all or to one.
+  // Says the words in the field, to everybody or to one.
   sayWords() {
     const field = byId("words");
     const words = field.value.trim();
