@@ -1,22 +1,25 @@
-"""Where two packages, each a .tar.gz or a Debian package, differ first."""
+"""Finds the first difference between two files of a release: a .tar.gz, a Debian package, a .vsix or
+a text."""
 import gzip
 import io
 import itertools
 import tarfile
+import zipfile
 from typing import Dict, Iterator, List, Optional, Tuple
 
 AR, HEAD = b"!<arch>\n", 60
-# What is compared of a file besides its content, in this order.
+GZIP, ZIP = b"\x1f\x8b", b"PK\x03\x04"
+# What is compared of a file besides its contents, in this order.
 FIELDS = ("type", "mode", "uid", "gid", "uname", "gname", "mtime", "linkname", "size")
 RELEASE = "lib/rdbg/release"
 
 
 class Unread(Exception):
-    """It is no package, and why."""
+    """Why a file is not a package."""
 
 
 def parts_of(content: bytes) -> Iterator[Tuple[str, bytes]]:
-    """The files of a Debian package, by name."""
+    """Yields the files of a Debian package with their names."""
     if not content.startswith(AR):
         raise Unread("it is no Debian package")
     at = len(AR)
@@ -28,8 +31,10 @@ def parts_of(content: bytes) -> Iterator[Tuple[str, bytes]]:
 
 
 def members_of(content: bytes) -> List[Tuple[tarfile.TarInfo, bytes]]:
-    """What is in a packed archive, in its order."""
+    """Returns the files in a packed archive, in its order."""
     found = []
+    if content.startswith(ZIP):
+        return members_of_zip(content)
     try:
         with tarfile.open(fileobj=io.BytesIO(gzip.decompress(content))) as tar:
             for info in tar:
@@ -40,30 +45,44 @@ def members_of(content: bytes) -> List[Tuple[tarfile.TarInfo, bytes]]:
     return found
 
 
+def members_of_zip(content: bytes) -> List[Tuple[tarfile.TarInfo, bytes]]:
+    """Returns the files in a zip as those of a .tar.gz."""
+    found = []
+    try:
+        with zipfile.ZipFile(io.BytesIO(content)) as packed:
+            for each in packed.infolist():
+                info = tarfile.TarInfo(each.filename)
+                info.mode, info.size = each.external_attr >> 16 & 0o7777, each.file_size
+                found.append((info, packed.read(each)))
+    except zipfile.BadZipFile as error:
+        raise Unread(f"it can't be unpacked: {error}") from None
+    return found
+
+
 def archives_of(content: bytes) -> Dict[str, bytes]:
-    """The packed archives of a package, by name."""
+    """Returns the packed archives of a package by their names."""
     if not content.startswith(AR):
         return {"": content}
     return {name: part for name, part in parts_of(content) if ".tar" in name}
 
 
 def first_byte(one: bytes, other: bytes) -> int:
-    """Where two contents differ first."""
+    """Returns the index of the first byte that differs."""
     pairs = itertools.zip_longest(one, other)
     return next(at for at, (here, there) in enumerate(pairs) if here != there)
 
 
 def of_content(name: str, one: bytes, other: bytes) -> str:
-    """Where two contents of a file differ first, by its line where it is a text."""
+    """Returns where two versions of a file differ first: a line of a text, a byte otherwise."""
     at = first_byte(one, other)
     where = f"byte {at}"
     if b"\0" not in one[:at]:
         where = f"line {one.count(bytes([10]), 0, at) + 1}"
-    return f"{name}: {where} differs"
+    return f"{name}: {where} differs" if name else f"{where} differs"
 
 
 def of_members(one: bytes, other: bytes) -> Optional[str]:
-    """Where two packed archives differ first; none where they have the same in them."""
+    """Returns where two packed archives differ first; none if they hold the same files."""
     for here, there in itertools.zip_longest(members_of(one), members_of(other)):
         if here is None or there is None or here[0].name != there[0].name:
             names = ["nothing" if it is None else it[0].name for it in (here, there)]
@@ -79,7 +98,9 @@ def of_members(one: bytes, other: bytes) -> Optional[str]:
 
 
 def first(one: bytes, other: bytes) -> str:
-    """Where a package differs first from another of its kind, which has other bytes."""
+    """Returns where a file of a release differs first from another of its kind."""
+    if not other.startswith((AR, GZIP, ZIP)):
+        return of_content("", one, other)
     found = archives_of(other)
     for name, archive in archives_of(one).items():
         if name not in found:
@@ -91,7 +112,7 @@ def first(one: bytes, other: bytes) -> str:
 
 
 def commit_in(content: bytes) -> str:
-    """The commit that a package says it is of; empty where it says none."""
+    """Returns the commit that a package names, or an empty text."""
     for archive in archives_of(content).values():
         for info, text in members_of(archive):
             if info.name.endswith(RELEASE):

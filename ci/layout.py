@@ -1,23 +1,23 @@
-"""What is installed of rdbg, file by file, below a folder: by `./rdbg install`, and in what
-ci/release makes.
+"""The files of an installed rdbg, as a folder: for `./rdbg install` and for ci/release.
 
-bin/rdbg is a small script (tools/installed); lib/rdbg has the programs, the companions, and the
-file `release`, whose head says of which commit all of it is, and whose lines are the sums of the
-other files, as `sha256sum -c` reads them. share has the pages, examples, editors' files, the
-manual's page, completions and licences.
+bin/rdbg is a small script (tools/installed). lib/rdbg holds the programs, the tools, and the file
+`release`: its head names the commit, and its lines are the SHA-256 of every other file, as
+`sha256sum -c` reads them. share holds the pages, the examples, the editors' files, the manual
+pages, the completions and the licences.
 """
 import dataclasses
 import hashlib
-import os
 import pathlib
 import shutil
 import subprocess
 import sys
-from typing import Dict, Iterator, List
+from typing import Dict, Iterable, Iterator, List
+
+from libraries import copyright_text
 
 RELEASE = pathlib.Path("lib/rdbg/release")
 PROGRAMS = ("rdbg", "rdreach")
-# What stands where below the folder, of the repository.
+# The place of each file or folder of the repository.
 COPIED = {
     "bin/rdbg": "tools/installed",
     "lib/rdbg/tools/companion": "tools/companion",
@@ -29,27 +29,29 @@ COPIED = {
     "share/rdbg/README.md": "README.md",
     "share/rdbg/CHANGELOG.md": "CHANGELOG.md",
 }
-# What the companions print, by the words that ask for it.
+# The place of what the tools print, and the words that ask for it.
 PRINTED = {
-    "share/man/man1/rdbg.1": ("--manual",),
     "share/bash-completion/completions/rdbg": ("completion", "bash"),
     "share/zsh/site-functions/_rdbg": ("completion", "zsh"),
 }
-LICENCES = "share/doc/rdbg/copyright"
-LIBRARIES = "\nThe programs have code of these libraries, under licences of their own.\n"
+MANUAL_PAGES = "share/man/man1"
+COPYRIGHT = "share/doc/rdbg/copyright"
+EXECUTABLE, PLAIN = 0o755, 0o644
 
 
 @dataclasses.dataclass(frozen=True)
 class Program:
-    """A built program, and what is known of its proof, in words."""
+    """A built program, and a word on its proof. `built_sum` is its SHA-256 before it was stripped,
+    and empty if it was not."""
 
     file: pathlib.Path
     proof: str
+    built_sum: str = ""
 
 
 @dataclasses.dataclass(frozen=True)
 class Facts:
-    """Of what something is installed."""
+    """The version, the commit and the kit of an installation."""
 
     version: str
     commit: str
@@ -57,14 +59,17 @@ class Facts:
     logic: str
 
 
-def version_of(top: pathlib.Path) -> str:
-    """The version, which stands in the file VERSION alone."""
+def read_version(top: pathlib.Path) -> str:
+    """Returns the version, which only the file VERSION holds."""
     return (top / "VERSION").read_text().strip()
 
 
-def facts_of(top: pathlib.Path, commit: str) -> Facts:
-    """What is said of a commit, by the kit that there is. One that is there and doesn't say its
-    name ends the program: what is packed then would say that there was none."""
+def find_facts(top: pathlib.Path, commit: str) -> Facts:
+    """Returns the facts about the sources below `top`, with the kit of this machine.
+
+    Ends the program if there is a kit that cannot name itself: the release would claim to have been
+    built by none.
+    """
     try:
         asked = subprocess.run(["rt", "version"], stdout=subprocess.PIPE, stderr=subprocess.DEVNULL)
         words = asked.stdout.decode().split()
@@ -74,91 +79,76 @@ def facts_of(top: pathlib.Path, commit: str) -> Facts:
         sys.exit("`rt version` failed, so the kit can't be named")
     is_known = len(words) == 3 and words[1] == "logic"
     kit, logic = (words[0], words[2]) if is_known else ("no-kit", "unknown")
-    return Facts(version_of(top), commit, kit, logic)
+    return Facts(read_version(top), commit, kit, logic)
 
 
-def licences(top: pathlib.Path) -> str:
-    """rdbg's own licence, and those of the libraries that its programs are built with."""
-    texts = [(top / "LICENSE").read_text(), LIBRARIES]
-    for file in sorted((top / "licences").iterdir()):
-        texts.append(f"\n{file.name}\n{'-' * len(file.name)}\n\n{file.read_text().strip()}\n")
-    return "".join(texts)
-
-
-def printed(top: pathlib.Path, words: List[str]) -> str:
-    """What a companion prints."""
+def run_tool(top: pathlib.Path, *words: str) -> str:
+    """Runs a tool and returns what it prints."""
     asked = [sys.executable, "-B", str(top / "tools/companion"), *words]
     how = {"stdin": subprocess.DEVNULL, "stdout": subprocess.PIPE, "check": True}
     return subprocess.run(asked, **how).stdout.decode()
 
 
 def files_below(folder: pathlib.Path) -> Iterator[pathlib.Path]:
-    """The files below a folder by their names, none of which is byte code."""
+    """Yields the files below a folder in the order of their names, except byte code."""
     for file in sorted(folder.rglob("*")):
         if file.is_file() and "__pycache__" not in file.parts:
             yield file
 
 
 def sha256(file: pathlib.Path) -> str:
-    """The sum of a file."""
+    """Returns the SHA-256 of a file."""
     return hashlib.sha256(file.read_bytes()).hexdigest()
 
 
-def put(source: pathlib.Path, place: pathlib.Path) -> None:
-    """Puts a file or a folder in the place of what is there."""
-    if place.is_dir() and not place.is_symlink():
-        shutil.rmtree(place)
+def copy(source: pathlib.Path, place: pathlib.Path) -> None:
+    """Copies a file or a folder."""
     place.parent.mkdir(parents=True, exist_ok=True)
     if source.is_dir():
         shutil.copytree(source, place, ignore=shutil.ignore_patterns("__pycache__", "*.pyc"))
-        return
-    # (a program that runs can't be written into, but replaced)
-    made = place.with_name(f"{place.name}.new")
-    shutil.copyfile(source, made)
-    shutil.copymode(source, made)
-    os.replace(made, place)
+    else:
+        shutil.copy(source, place)
 
 
 def write(place: pathlib.Path, text: str) -> None:
-    """Writes a file, and the folders above it."""
+    """Writes a file, and creates the folders above it."""
     place.parent.mkdir(parents=True, exist_ok=True)
     place.write_text(text, encoding="utf-8")
 
 
-def lay(
-    top: pathlib.Path, prefix: pathlib.Path, programs: Dict[str, Program], facts: Facts
-) -> None:
-    """Puts all of it below a folder, of the sources below `top`."""
+def fill(top: pathlib.Path, tree: pathlib.Path, programs: Dict[str, Program], facts: Facts) -> None:
+    """Fills an empty folder, which nobody else can write to, from the sources below `top`."""
     for name, source in COPIED.items():
-        put(top / source, prefix / name)
+        copy(top / source, tree / name)
     for name, program in programs.items():
-        place = prefix / "lib/rdbg" / name
-        put(program.file, place)
-        place.chmod(0o755)
+        place = tree / "lib/rdbg" / name
+        copy(program.file, place)
+        place.chmod(EXECUTABLE)
     for name, words in PRINTED.items():
-        more = [facts.version] if words == ("--manual",) else []
-        write(prefix / name, printed(top, [*words, *more]))
-    write(prefix / LICENCES, licences(top))
-    seal(prefix, [prefix / name for name in laid(prefix)], programs, facts)
+        write(tree / name, run_tool(top, *words))
+    (tree / MANUAL_PAGES).mkdir(parents=True)
+    run_tool(top, "--manuals", str(tree / MANUAL_PAGES), facts.version)
+    write(tree / COPYRIGHT, copyright_text(top))
+    write_release(tree, files_below(tree), programs, facts)
 
 
-def laid(prefix: pathlib.Path) -> List[str]:
-    """The names of all that stands there of rdbg, but for the file `release`."""
-    roots = [*COPIED, *PRINTED, LICENCES, *(f"lib/rdbg/{name}" for name in PROGRAMS)]
-    found = set()
-    for root in (prefix / it for it in roots):
-        found |= {root} if root.is_file() else {*files_below(root)}
-    return sorted(str(it.relative_to(prefix)) for it in found)
-
-
-def seal(
-    prefix: pathlib.Path,
-    files: List[pathlib.Path],
+def write_release(
+    tree: pathlib.Path,
+    files: Iterable[pathlib.Path],
     programs: Dict[str, Program],
     facts: Facts,
+    package: str = "",
 ) -> None:
-    """Writes the file that says of what all of it is, with the sums of these files."""
-    said = {**dataclasses.asdict(facts), **{name: it.proof for name, it in programs.items()}}
-    lines = [f"# {name} {value}\n" for name, value in said.items()]
-    lines += [f"{sha256(it)}  {it.relative_to(prefix)}\n" for it in sorted(files)]
-    write(prefix / RELEASE, "".join(lines))
+    """Writes lib/rdbg/release: the facts, and the SHA-256 of each of these files.
+
+    `package` names the package that manages the files, if there is one.
+    """
+    head = {**dataclasses.asdict(facts), **{name: it.proof for name, it in programs.items()}}
+    for name, program in programs.items():
+        if program.built_sum:
+            head[f"{name}-unstripped"] = program.built_sum
+    if package:
+        head["package"] = package
+    lines: List[str] = [f"# {name} {value}\n" for name, value in head.items()]
+    lines += [f"{sha256(it)}  {it.relative_to(tree)}\n" for it in sorted(files)]
+    write(tree / RELEASE, "".join(lines))

@@ -57,7 +57,7 @@ def hint(words: Sequence[str]) -> int:
         found = command_line.why(words)
     else:
         found = command_line.unknown(
-            words[0], [*command_line.OF_COMMAND, *names(), "install", "prove"]
+            words[0], [*command_line.OF_COMMAND, *names(), "install", "uninstall", "prove"]
         )
     if found is not None:
         print(f"rdbg: {found}", file=sys.stderr)
@@ -84,6 +84,10 @@ def run(words: Sequence[str]) -> int:
         from rdbg.manual import page
 
         print(page(entries(), *words[1:2]))
+    elif word == "--manuals" and len(words) == 3:
+        from rdbg.manual_pages import write_all
+
+        write_all(words[1], words[2])
     elif word == "--why" and words[1:]:
         return hint(words[1:])
     elif word == "--port-of" and words[1:]:

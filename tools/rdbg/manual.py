@@ -46,7 +46,9 @@ OTHERS = entries(
 rdbg help WORD | says more of run, serve or a companion
 rdbg --version | says the version, the commit, the kit, and whether the program is proved
 rdbg install PREFIX
-  | in a checkout: installs the programs, the tools and rdbg(1) in PREFIX
+  | in a checkout: installs the programs, the tools, the pages and rdbg(1) in PREFIX
+rdbg uninstall PREFIX
+  | in a checkout: removes what install put in PREFIX
 rdbg prove
   | in a checkout: proves and builds the programs, in half an hour or more; the other words run the
   unproved build until then

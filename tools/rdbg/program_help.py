@@ -1,4 +1,4 @@
-"""The help texts of `run`, `serve`, `reach`, `install` and `prove`, which need no program."""
+"""The help texts of `run`, `serve`, `reach`, `install`, `uninstall` and `prove`, which need no program."""
 from typing import Dict
 
 RUN = """\
@@ -62,13 +62,46 @@ it is found, 0 where not, 2 where it can't be told; of --lost still (1), lost at
 (docs/NO_RETURN.md). Ctrl-C ends it as --within does. With --engine each line of standard input is
 answered, and an empty line ends each answer; the line help lists the others (docs/REACHING.md)."""
 INSTALL = """\
-Installs the programs, the tools, the pages of docs/ and rdbg(1) in a folder
+Install rdbg in a folder
 
 Usage: ./rdbg [--proved|--unproved] install PREFIX
 
-In a checkout only. It installs the proved programs if ./rdbg prove has built them from the current
-sources, and otherwise the unproved ones, which it builds if necessary; it says which. --proved
-refuses to install unproved programs, --unproved installs those."""
+PREFIX is a folder such as /usr/local or ~/.local; it is created if it is missing. These files are
+written, in place of files of the same names:
+
+  bin/rdbg                   the command
+  lib/rdbg/                  the programs, the tools, and the list of what is installed
+  share/rdbg/                README.md, CHANGELOG.md, docs, examples, editors
+  share/man/man1/            rdbg(1), rdbg-sh(1) and the page of each other tool
+  share/bash-completion/completions/rdbg, share/zsh/site-functions/_rdbg
+  share/doc/rdbg/copyright   licences
+
+No folder is replaced as a whole. A file that an older version installed and this one does not have
+is removed, unless you changed it. No symbolic link below PREFIX is followed, and a folder below it
+that belongs to neither you, nor root, nor the owner of PREFIX is refused.
+
+The programs are the proved ones if ./rdbg prove has built them from the current sources, and
+otherwise the unproved ones, which are built if necessary; the last line says which. --proved refuses
+to install unproved programs, --unproved installs those.
+
+Exit status: 0 installed; 1 a program could not be built; 2 the command line is wrong, or a file
+could not be written. Nothing is installed then.
+
+Example:
+  ./rdbg install ~/.local && ~/.local/bin/rdbg --version"""
+UNINSTALL = """\
+Remove what ./rdbg install put below a folder
+
+Usage: ./rdbg uninstall PREFIX
+
+PREFIX/lib/rdbg/release lists the files that were installed. Each is removed, except those that were
+changed since, which are listed. Folders are removed if they are empty and install created them. No
+symbolic link below PREFIX is followed. A package is not removed: use `dpkg -r rdbg`.
+
+Exit status: 0 removed; 2 rdbg is not installed there, or a file could not be removed.
+
+Example:
+  ./rdbg uninstall ~/.local"""
 PROVE = """\
 Proves the programs of this checkout and builds them
 
@@ -83,5 +116,6 @@ OF: Dict[str, str] = {
     "serve": SERVE,
     "reach": REACH,
     "install": INSTALL,
+    "uninstall": UNINSTALL,
     "prove": PROVE,
 }

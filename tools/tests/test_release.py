@@ -1,4 +1,4 @@
-"""What `ci/release` makes: the same each time, and an rdbg that wants nothing of a checkout."""
+"""What `ci/release` makes: the same bytes each time, and an rdbg that needs nothing of a checkout."""
 import gzip
 import hashlib
 import json
@@ -13,6 +13,7 @@ import unittest
 from typing import Dict, List
 
 from rdbg.client import program
+from rdbg.reaching.asking import program as reach
 from tests import releases
 from tests.rooms import free_port
 from tests.paths import TOP
@@ -23,8 +24,13 @@ VERSION = (TOP / "VERSION").read_text().strip()
 SAID = "rdbg: nothing is proved\n"
 
 
+def sha256(file: pathlib.Path) -> str:
+    """Returns the SHA-256 of a file."""
+    return hashlib.sha256(file.read_bytes()).hexdigest()
+
+
 class Made:
-    """Two releases of one commit, made in two folders, the second by who lets nobody else read."""
+    """Two releases of one commit, made in two folders, the second with a strict umask."""
 
     folder: pathlib.Path
     made: List[pathlib.Path]
@@ -62,7 +68,9 @@ class Same(Released):
         return releases.run(self.folder / "first", "--check", str(file), *releases.unproved())
 
     def test_names(self) -> None:
-        names = [f"rdbg-{VERSION}-unproved-x86_64.tar.gz", f"rdbg_{VERSION}~unproved_amd64.deb"]
+        base = f"rdbg-{VERSION}-unproved"
+        names = [f"{base}-x86_64.tar.gz", f"rdbg_{VERSION}~unproved_amd64.deb", f"{base}.vsix"]
+        names += [f"{base}.spdx.json", "Containerfile", "SHA256SUMS"]
         self.assertEqual([it.name for it in self.made], names)
 
     def test_the_same_bytes(self) -> None:
@@ -81,7 +89,7 @@ class Same(Released):
         self.assertEqual([it for it in names if "/tests" in it], [])
 
     def test_a_comparison(self) -> None:
-        for file in self.made:
+        for file in self.made[:2]:
             ran = self.check_it(file)
             self.assertEqual((ran.returncode, ran.stderr), (0, ""), ran.stdout)
 
@@ -117,46 +125,6 @@ class Same(Released):
         self.assertIn("it can't be unpacked", ran.stdout)
         for name in ("none.zip", "nowhere.deb"):
             self.assertEqual(self.check_it(self.folder / name).returncode, 2)
-
-
-class Refusals(unittest.TestCase):
-    """Where no release is made."""
-
-    def setUp(self) -> None:
-        folder = tempfile.TemporaryDirectory()
-        self.addCleanup(folder.cleanup)
-        self.top = pathlib.Path(folder.name)
-        releases.repository(self.top)
-
-    def refused(self, *words: str) -> str:
-        """Why there is none."""
-        ran = releases.run(self.top, "--out", str(self.top / "out"), *words)
-        self.assertEqual(ran.returncode, 2)
-        return ran.stderr
-
-    def test_changes(self) -> None:
-        (self.top / "README.md").write_text("changed\n")
-        self.assertIn("README.md changed since the commit", self.refused(*releases.unproved()))
-
-    def test_programs(self) -> None:
-        self.assertIn("crates/rdbg/out/rdbg isn't there", self.refused())
-        named = releases.unproved()[:3]
-        self.assertIn("--programs and --unproved go together", self.refused(*named))
-        other = ["--programs", program(), str(self.top / "rdbg"), "--unproved"]
-        self.assertIn("is no program for x86-64", self.refused(*other))
-
-    def test_programs_of_other_sources(self) -> None:
-        source = self.top / "crates/rdbg/src/main.rt"
-        source.parent.mkdir(parents=True)
-        source.write_text("fn main() {}\n")
-        releases.git(self.top, "add", "-A")
-        releases.git(self.top, "commit", "-q", "-m", "a source")
-        for name in ("rdbg", "rdreach"):
-            built = self.top / "crates" / name / "out" / name
-            built.parent.mkdir(parents=True)
-            shutil.copy(program(), built)
-            os.utime(built, (1, 1))
-        self.assertIn("is newer than crates/rdbg/out/rdbg", self.refused())
 
 
 class Installed(Released):
@@ -239,9 +207,14 @@ class Installed(Released):
 
     def test_the_version(self) -> None:
         commit = releases.git(self.folder / "first", "rev-parse", "HEAD")
-        summed = hashlib.sha256(pathlib.Path(program()).read_bytes()).hexdigest()
+        built = [sha256(pathlib.Path(it)) for it in (program(), reach())]
         for kind, place in self.places().items():
             with self.subTest(kind):
+                summed = sha256(place / "lib/rdbg/rdbg")
+                head = (place / "lib/rdbg/release").read_text().splitlines()
+                for name, of in zip(("rdbg", "rdreach"), built):
+                    self.assertIn(f"# {name}-unstripped {of}", head)
+                    self.assertNotEqual(of, sha256(place / "lib/rdbg" / name))
                 said = self.run_it(place, "--version").stdout.splitlines()
                 self.assertRegex(said[0], rf"^rdbg {VERSION} at commit {commit}; \S+ logic \S+$")
                 self.assertEqual(said[1], f"rdbg is not proved; its SHA-256 is {summed}")
@@ -285,6 +258,9 @@ class Installed(Released):
                 zsh = "vendor-completions" if kind == "deb" else "site-functions"
                 for name in (
                     f"share/man/man1/rdbg.1{packed}",
+                    f"share/man/man1/rdbg-sh.1{packed}",
+                    f"share/man/man1/rdbg-reach.1{packed}",
+                    f"share/man/man1/rdbg-serve.1{packed}",
                     "share/bash-completion/completions/rdbg",
                     f"share/zsh/{zsh}/_rdbg",
                     "share/rdbg/docs/application.schema.json",

@@ -1,4 +1,6 @@
-"""What `ci/release` makes is installed on a new machine, and the first hour gone through there."""
+"""Installs what `ci/release` makes on a machine that has nothing else, and uses it there for an
+hour's work."""
+import json
 import os
 import pathlib
 import shutil
@@ -23,10 +25,16 @@ echo 'step 1' | "$1" sh --port "$3" --name ada "$2"
 kill -TERM $room
 wait $room
 """
+# What stands in for apt-get, which has nothing to fetch here: Python is there already.
+APT_GET = """#!/bin/sh
+for word in "$@"; do
+    case $word in *.deb) exec dpkg -i "$word" ;; esac
+done
+"""
 
 
 class Made:
-    """A release, its .tar.gz and its Debian package."""
+    """The files of a release: the .tar.gz, the Debian package and the others."""
 
     files: List[pathlib.Path]
 
@@ -72,6 +80,26 @@ class Clean(unittest.TestCase):
         self.root.run("tar", "-C", "/opt", "-xzf", f"/opt/{name}")
         place = f"/opt/{name.replace('.tar.gz', '')}"
         self.hour(f"{place}/bin/rdbg", f"{place}/share/rdbg/examples")
+
+    def test_the_containerfile(self) -> None:
+        out = Made.files[0].parent
+        rows = releases.instructions(out / "Containerfile")
+        package = dict(rows)["ARG"].partition("=")[2]
+        apt_get = self.root.top / "usr/bin/apt-get"
+        apt_get.write_text(APT_GET)
+        apt_get.chmod(0o755)
+        for word, operands in rows:
+            operands = operands.replace("${PACKAGE}", package)
+            if word == "COPY":
+                *names, place = operands.split()
+                (self.root.top / place[1:]).mkdir(parents=True)
+                for name in names:
+                    shutil.copy(out / name, self.root.top / place[1:])
+            elif word == "RUN":
+                self.root.run("sh", "-c", operands)
+        ran = self.root.run("rdbg", *json.loads(dict(rows)["CMD"]))
+        self.assertIn("rdbg serve", ran.stdout)
+        self.assertFalse((self.root.top / "tmp/rdbg").exists())
 
     def hour(self, rdbg: str, examples: str) -> None:
         """Goes through it, by what starts rdbg there and where its examples are."""
