@@ -1,5 +1,5 @@
-"""Finds the first difference between two files of a release: a .tar.gz, a Debian package, a .vsix or
-a text."""
+"""Finds the first difference between two files of a release: a .tar.gz, a Debian package, a .vsix
+or a text."""
 import gzip
 import io
 import itertools

@@ -1,4 +1,4 @@
-"""Programs for Linux on x86-64: what they are, which C library they need, and how they are stripped."""
+"""Programs for Linux on x86-64: how to recognize and strip them, and which C library they need."""
 import pathlib
 import re
 import shutil

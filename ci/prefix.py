@@ -21,6 +21,7 @@ from rdbg import links
 FOLDER = links.PLACE or os.O_RDONLY | os.O_DIRECTORY | os.O_NOFOLLOW | os.O_CLOEXEC
 NEW_FILE = os.O_WRONLY | os.O_CREAT | os.O_EXCL | os.O_NOFOLLOW | os.O_CLOEXEC
 OLD_FILE = os.O_RDONLY | os.O_NOFOLLOW | os.O_NONBLOCK | os.O_CLOEXEC
+FOLDER_MODE = 0o755
 BYTES_LIMIT = 256 << 20
 CACHE = "__pycache__"
 
@@ -81,7 +82,7 @@ class Prefix:
             except FileNotFoundError:
                 if not can_create:
                     raise
-                os.mkdir(name, dir_fd=above)
+                os.mkdir(name, FOLDER_MODE, dir_fd=above)
                 is_new = True
                 below = os.open(name, FOLDER, dir_fd=above)
         except OSError as error:

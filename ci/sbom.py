@@ -83,7 +83,10 @@ def relationships(files: List[Entry], artefacts: List[Entry]) -> List[Entry]:
     """Returns what describes, contains and links what."""
     made = [relationship(DOCUMENT, "DESCRIBES", RDBG)]
     made += [relationship(RDBG, "CONTAINS", it["SPDXID"]) for it in files]
-    made += [relationship(it["SPDXID"], "PACKAGE_OF", RDBG) for it in artefacts]
+    for each in artefacts:
+        made.append(relationship(DOCUMENT, "DESCRIBES", each["SPDXID"]))
+        if not each["name"].endswith(".vsix"):
+            made.append(relationship(each["SPDXID"], "CONTAINS", RDBG))
     for name in PROGRAMS:
         program = identifier(f"file-lib/rdbg/{name}")
         made += [relationship(program, "STATIC_LINK", identifier(it.name)) for it in LIBRARIES]
@@ -107,7 +110,9 @@ def write_sbom(
     kit = f"{facts.kit} logic {facts.logic}"
     packages = [rdbg, *handed_out, *(library_entry(it, kit) for it in LIBRARIES)]
     about = "the C library of the system, which is not part of the release"
-    packages.append(package_entry("libc6", UNKNOWN, UNKNOWN, about))
+    libc = package_entry("libc6", "", UNKNOWN, about)
+    del libc["versionInfo"]
+    packages.append(libc)
     made = {
         "spdxVersion": "SPDX-2.3",
         "dataLicense": "CC0-1.0",

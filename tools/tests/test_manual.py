@@ -1,12 +1,15 @@
-"""The help, the page rdbg(1) and what the program says of itself are one."""
+"""The help, the manual pages and what the program says of itself agree."""
+import pathlib
 import re
 import shutil
 import subprocess
+import tempfile
 import unittest
 from typing import Set
 
-from rdbg import main, manual
+from rdbg import main, manual, manual_pages
 from rdbg.client import program
+from rdbg.completing import table
 from tests.paths import DOCS
 
 OPTION = re.compile(r"--[a-z]+")
@@ -60,6 +63,43 @@ class Manual(unittest.TestCase):
         words = ["man", "--warnings", "-E", "UTF-8", "-l", "-Tutf8", "-Z", "-"]
         shown = subprocess.run(words, input=self.page.encode(), capture_output=True)
         self.assertEqual(shown.stderr.decode(), "")
+
+
+class ToolPages(unittest.TestCase):
+    """The page of each tool, as rdbg-sh(1)."""
+
+    def setUp(self) -> None:
+        folder = tempfile.TemporaryDirectory()
+        self.addCleanup(folder.cleanup)
+        manual_pages.write_all(folder.name, "1.2.3")
+        self.pages = {it.name: it.read_text("utf-8") for it in pathlib.Path(folder.name).iterdir()}
+
+    def test_each_word_of_an_installed_rdbg_has_one(self) -> None:
+        words = {*main.names(), "run", "serve"}
+        self.assertEqual({"rdbg.1", *(f"rdbg-{it}.1" for it in words)}, {*self.pages})
+        self.assertEqual(manual.page(main.entries(), "1.2.3"), self.pages["rdbg.1"])
+
+    def test_it_has_all_options(self) -> None:
+        for word in table.words():
+            if f"rdbg-{word.name}.1" in self.pages:
+                page = self.pages[f"rdbg-{word.name}.1"].replace("\\-", "-")
+                for option in word.options:
+                    self.assertIn(option.names[-1], page, word.name)
+
+    def test_its_synopsis(self) -> None:
+        for name, synopsis in (
+            ("trace", "rdbg trace [OPTIONS] [FILE] [COMMANDS]"),
+            ("serve", "rdbg serve [OPTIONS] --app <FILE> --port <PORT> --sessions <COUNT>"),
+        ):
+            lines = self.pages[f"rdbg-{name}.1"].replace("\\-", "-").split("\n")
+            self.assertEqual(f"\\fB{synopsis}\\fR", lines[lines.index(".SH SYNOPSIS") + 1])
+
+    @unittest.skipIf(shutil.which("man") is None, "man isn't there")
+    def test_they_are_without_warnings(self) -> None:
+        for name, page in self.pages.items():
+            words = ["man", "--warnings", "-E", "UTF-8", "-l", "-Tutf8", "-Z", "-"]
+            shown = subprocess.run(words, input=page.encode(), capture_output=True)
+            self.assertEqual(shown.stderr.decode(), "", name)
 
 
 if __name__ == "__main__":
