@@ -132,7 +132,7 @@ def tell_refused(found: Plan, name: str) -> None:
     """Says which lines were refused."""
     name = printable(name)
     for line, reply in found.refused[:MOST_REFUSED]:
-        print(f"{name}:{line.number}: {line.text}: {reply}", file=sys.stderr)
+        print(f"{name}:{line.number}: {printable(line.text)}: {reply}", file=sys.stderr)
     left = len(found.refused) - MOST_REFUSED
     if left > 0:
         print(f"{name}: {left} more lines were refused", file=sys.stderr)
