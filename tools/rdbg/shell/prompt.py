@@ -1,4 +1,4 @@
-"""Lines from a terminal, with a history and Tab, and lines from anywhere else."""
+"""Reads lines from a terminal, with a history and completion, or from a file or pipe."""
 import contextlib
 import functools
 import importlib
@@ -15,9 +15,9 @@ from rdbg.shell.completion import Completer
 from rdbg.shell.history import MOST_LINES, History, history_path
 from rdbg.shell.shell import Shell
 
-# Wipes the line of a terminal.
+# Clears the current line of a terminal.
 WIPE = "\r\x1b[K"
-# Lines with these words aren't repeated by Enter.
+# Enter repeats the last line, unless that begins with one of these words.
 ONCE = (
     "watch unwatch break b tbreak tb display undisplay source delete d save save! reload reach lost"
     " doomed play again set help h ? wheel poke isr goto g #"
@@ -57,8 +57,8 @@ class Lines:
         self.history.add(line)
 
     def next(self) -> Optional[str]:
-        """The line that is typed next, none at Ctrl-D; what is told meanwhile stands above it.
-        Raises `KeyboardInterrupt` at Ctrl-C, `Failure` where a port has ended."""
+        """Returns the next line, or `None` at Ctrl-D. Prints notices that come meanwhile above it.
+        Raises `KeyboardInterrupt` at Ctrl-C, and `Failure` if the connection has ended."""
         begun = ""
         while True:
             sys.stdout.flush()
@@ -75,20 +75,20 @@ class Lines:
                 return "# no text"
 
     def _line(self, prompt: str, begun: str) -> str:
-        """The line that is typed, of which so much is there already. Raises `Woken` where something
-        comes before it is whole."""
+        """Returns the line that is typed, which begins with `begun`. Raises `Woken` if a notice
+        arrives before it is complete."""
         if self.readline is not None:
-            # (a function of Python's own would lose a signal that comes in it, and what was typed)
+            # (in a function written in Python a signal would lose what was typed)
             self.readline.set_startup_hook(functools.partial(self.readline.insert_text, begun))
         interrupt = self.shell.interrupt
         with self.shell.notices.listening(interrupt.wake), interrupt.at_prompt() as typed:
-            # (by one call, so that no signal comes in between: a line that is there isn't lost)
+            # (a single call, so that no signal can come between reading a line and storing it)
             typed.extend(map(input, [prompt]))
             return typed[0]
 
 
 def greet(shell: Shell) -> None:
-    """Says what there is, and how to go on."""
+    """Prints what is debugged, and how to get help."""
     what = shell.source.name if shell.source else "the built-in application"
     if not shell.target.is_own:
         what = f"attached, {what}" if shell.source else "attached"
@@ -101,7 +101,8 @@ def greet(shell: Shell) -> None:
 
 
 def talk(shell: Shell, begins: bool) -> None:
-    """Does what is typed, until it ends; first, if it `begins` so, the lines of files for that."""
+    """Executes lines from a terminal until the input or the prompt ends; the start files first, if
+    `begins` says so."""
     shell.is_terminal = shell.shows_moves = True
     shell.interrupt.install()
     lines = Lines(shell)
@@ -126,7 +127,8 @@ def talk(shell: Shell, begins: bool) -> None:
 
 
 def filter_lines(shell: Shell, begins: bool) -> None:
-    """Does each line of standard input; a room is heard between them. It begins as `talk` does."""
+    """Executes each line of standard input, and prints a room's notices between them. It begins as
+    `talk` does."""
     if begins:
         sourcing.begin(shell)
     read = sys.stdin.buffer.readline
@@ -142,7 +144,8 @@ def filter_lines(shell: Shell, begins: bool) -> None:
 
 
 def next_line(shell: Shell, lines: Incoming) -> bytes:
-    """The next line; while none is there the room is heard. Raises `Failure` where it has ended."""
+    """Returns the next line, and prints a room's notices until it arrives. Raises `Failure` if the
+    room has ended."""
     room = shell.target.session.waited_for()
     while not lines.has_line():
         ready, _, _ = select.select([lines.fileno(), room], [], [])
