@@ -55,7 +55,7 @@ def read(path: str, given: Arguments) -> Source:
     with turned(Wrong, Failure, ValueError, argparse.ArgumentTypeError):
         source = sources.load(path, dict(map(definition, given.texts("consts"))))
     if source.application is None:
-        faults = [f"{path}:{fault}" for fault in source.faults[:MOST_FAULTS]]
+        faults = [f"{source.name}:{fault}" for fault in source.faults[:MOST_FAULTS]]
         raise Wrong("\n".join([f"the application {source.refused()}", *faults]))
     return source
 
