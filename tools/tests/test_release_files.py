@@ -19,6 +19,7 @@ from rdbg.client import program
 from rdbg.reaching.asking import program as reach
 from tests import releases
 from tests.paths import TOP
+from tests.strangers import IS_ROOT, become
 
 VERSION = (TOP / "VERSION").read_text().strip()
 VSCODE = TOP / "tools/editors/vscode"
@@ -280,6 +281,25 @@ class Differences(unittest.TestCase):
         words = ["--check", str(Made.files["json"]), *releases.unproved()]
         ran = releases.run(Made.folder / "sources", *words)
         self.assertEqual((0, ""), (ran.returncode, ran.stderr), ran.stdout)
+
+
+@IS_ROOT
+class Attacks(unittest.TestCase):
+    """Another user can write to the folder in which a release is put."""
+
+    def test_a_link_under_the_name_of_a_file(self) -> None:
+        with tempfile.TemporaryDirectory() as folder:
+            out, victim = pathlib.Path(folder) / "out", pathlib.Path(folder) / "victim"
+            os.chmod(folder, 0o755)
+            out.mkdir()
+            out.chmod(0o777)
+            victim.write_text("ten years of work")
+            words = ["ln", "-s", str(victim), str(out / Made.files["gz"].name)]
+            subprocess.run(words, preexec_fn=become, check=True)
+            made = releases.release(Made.folder / "sources", out)
+            self.assertEqual("ten years of work", victim.read_text())
+            self.assertEqual(Made.files["gz"].read_bytes(), made[0].read_bytes())
+            self.assertFalse(made[0].is_symlink())
 
 
 class Sums(unittest.TestCase):
