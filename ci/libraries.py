@@ -1,7 +1,7 @@
 """The libraries that are linked into the programs, and the licences of all that is installed.
 
-They come from the kit, whose sources of each library lie in a folder of its name. The folder
-`licences` of the repository holds a licence text for each library that has one in the kit.
+They come from the kit, which has the sources of each library in a folder of its name. The folder
+`licences` of the repository holds a text for each library whose licence is known.
 """
 import dataclasses
 import pathlib
@@ -10,6 +10,8 @@ from typing import Dict, Iterator, List, Set
 
 EXPAT, DUAL = "MIT", "MIT OR Apache-2.0"
 UNICODE = "Unicode-3.0"
+GCC = "GPL-3.0-or-later WITH GCC-exception-3.1"
+GLIBC = "LGPL-2.1-or-later"
 # SPDX's word for a licence that nobody states.
 UNKNOWN = "NOASSERTION"
 
@@ -44,7 +46,19 @@ LIBRARIES = (
     ),
     Library("strsim", EXPAT, "a port of the Rust crate strsim"),
     Library("thiserror", DUAL, "after the Rust crate thiserror"),
-    Library("unicode", UNICODE, "tables in core", "core/src/char/*"),
+    Library(
+        "crtbegin",
+        GCC,
+        "the start-up code of GCC",
+        "toolchain/lib/crtbeginS.o toolchain/lib/crtendS.o",
+    ),
+    Library(
+        "crt1",
+        GLIBC,
+        "the start-up code of the C library",
+        "toolchain/lib/Scrt1.o toolchain/lib/crti.o toolchain/lib/crtn.o",
+    ),
+    Library("unicode", UNICODE, "tables in core", "rattle/core/src/char/*"),
 )
 # The parts of the standard library, as names in a program have them.
 STANDARD = ("std", "std_alloc", "std_collections", "std_heap", "std_io", "core", "io", "os", "libc")
@@ -53,11 +67,17 @@ HEAD = f"""\
 Format: {DEP5}
 Upstream-Name: rdbg
 Upstream-Contact: Birdcobalt <rdbg@birdcobalt.example>
-Comment: Paths that begin with rattle/ are those of the kit's libraries, whose code is linked into
- the programs lib/rdbg/rdbg and lib/rdbg/rdreach. Of the licences of a library, the first applies.
+Comment: Paths that begin with rattle/ or toolchain/ are those of the kit, whose code is linked into
+ the programs lib/rdbg/rdbg and lib/rdbg/rdreach. Of several licences of a library, the first applies.
 """
 # What Debian calls a licence.
-SHORT_NAMES = {EXPAT: "Expat", UNICODE: "Unicode-3.0", UNKNOWN: "none-stated"}
+SHORT_NAMES = {
+    EXPAT: "Expat",
+    UNICODE: "Unicode-3.0",
+    GCC: "GPL-3+ with GCC-Runtime exception",
+    GLIBC: "LGPL-2.1+ with linking exception",
+    UNKNOWN: "none-stated",
+}
 NONE_STATED = """\
 The kit with which the programs are built includes no licence text for this library.
 """
@@ -109,7 +129,7 @@ def paragraphs(top: pathlib.Path) -> Iterator[str]:
             texts.setdefault(licence, text)
         else:
             texts.setdefault(licence, NONE_STATED)
-        yield paragraph(f"rattle/{each.files or each.name + '/*'}", owners, licence, each.about)
+        yield paragraph(each.files or f"rattle/{each.name}/*", owners, licence, each.about)
     for name, text in sorted(texts.items()):
         yield f"\nLicense: {name}\n{indented(text)}"
 

@@ -54,17 +54,17 @@ def setUpModule() -> None:
 
 
 class Released(unittest.TestCase):
-    """A test of what was made."""
+    """A test of the two releases."""
 
     def setUp(self) -> None:
         self.folder, self.made, self.again = Made.folder, Made.made, Made.again
 
 
 class Same(Released):
-    """The same bytes twice, and what is said where they aren't."""
+    """Two releases are the same bytes, and `--check` names a difference."""
 
     def check_it(self, file: pathlib.Path) -> "subprocess.CompletedProcess[str]":
-        """What comes of a comparison."""
+        """Runs `ci/release --check` on a file."""
         return releases.run(self.folder / "first", "--check", str(file), *releases.unproved())
 
     def test_names(self) -> None:
@@ -128,10 +128,10 @@ class Same(Released):
 
 
 class Installed(Released):
-    """The first hour of who has unpacked one, with nothing but the system around."""
+    """The first hour with an unpacked release, which needs nothing but the system."""
 
     def places(self) -> Dict[str, pathlib.Path]:
-        """Each package unpacked, and the folder in which `bin` is."""
+        """Unpacks both packages, and returns the folders that contain `bin`."""
         unpacked = self.folder / "unpacked here"
         if not unpacked.exists():
             with tarfile.open(self.made[0]) as tar:
@@ -146,7 +146,7 @@ class Installed(Released):
     def run_it(
         self, place: pathlib.Path, *words: str, given: str = "", status: int = 0
     ) -> "subprocess.CompletedProcess[str]":
-        """What an installed rdbg does on these words, in a folder that isn't its own."""
+        """Runs an installed rdbg in a folder of the user."""
         home = self.folder / "home"
         home.mkdir(exist_ok=True)
         ran = subprocess.run(
@@ -280,7 +280,7 @@ class Installed(Released):
 
 
 class Versions(unittest.TestCase):
-    """The version stands at one place, and others say the same."""
+    """VERSION, and the other places that name the version."""
 
     def test_the_changes(self) -> None:
         titles = re.findall("^## (.*)$", (TOP / "CHANGELOG.md").read_text(), re.MULTILINE)

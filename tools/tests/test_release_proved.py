@@ -1,4 +1,4 @@
-"""Where `ci/release` makes none: something was changed, or the gate has not proved the programs."""
+"""When `ci/release` refuses: a file was changed, or the gate has not proved the programs."""
 import os
 import pathlib
 import shutil
@@ -21,7 +21,7 @@ def setUpModule() -> None:
 
 
 class Refusals(unittest.TestCase):
-    """Where no release is made."""
+    """Refusals that do not depend on the proof."""
 
     def setUp(self) -> None:
         folder = tempfile.TemporaryDirectory()
@@ -30,7 +30,7 @@ class Refusals(unittest.TestCase):
         releases.repository(self.top)
 
     def refused(self, *words: str) -> str:
-        """Why there is none."""
+        """Returns why no release is made."""
         ran = releases.run(self.top, "--out", str(self.top / "out"), *words)
         self.assertEqual(ran.returncode, 2)
         return ran.stderr
@@ -48,7 +48,7 @@ class Refusals(unittest.TestCase):
 
 
 class Proved(unittest.TestCase):
-    """A release of proved programs is made of what the gate has recorded, and of nothing else."""
+    """Only sources and programs that the gate has recorded become a release of proved programs."""
 
     def setUp(self) -> None:
         folder = tempfile.TemporaryDirectory()
