@@ -221,18 +221,21 @@ class Once(OnPage):
             self.said("joe: tick -> ok at 1")
             self.assertIsNone(traded(address))
 
-    def test_a_later_page_at_the_same_port_does_not_find_the_token(self) -> None:
+    def test_an_earlier_page_of_the_same_port_does_not_find_the_token(self) -> None:
         self.spares_errors = True
-        with web_room() as room:
-            self.visit(room, "ada")
-            token = self.value("sessionStorage.getItem('way')").strip("/")
-            address = room.said
-            room.end_well()
-            with foreign_page(room.web), self.browser.another_page():
-                self.browser.visit(address)
-                found = self.value("JSON.stringify([{...localStorage}, document.cookie])")
+        port = free_port()
+        with foreign_page(port):
+            self.browser.visit(f"http://{LOCAL}:{port}/")
+            self.browser.until("document.title === 'other'")
+        with web_room(LOST, "--web", str(port)) as room:
+            with self.browser.another_page():
+                self.visit(room, "ada")
+                token = self.value("sessionStorage.getItem('way')").strip("/")
+            stores = "[{...localStorage}, {...sessionStorage}, document.cookie]"
+            self.assertEqual("other", self.value("document.title"))
+            found = self.value(f"JSON.stringify({stores})")
+            self.assertEqual('[{"name":"ada"},{},""]', found)
             self.assertNotIn(token, found)
-            self.assertEqual('"]', found[-2:])
 
     def test_an_address_that_is_typed_where_the_page_is(self) -> None:
         with web_room() as room:

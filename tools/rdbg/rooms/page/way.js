@@ -1,6 +1,7 @@
 // How a page gets into the room. Its address contains a key behind the `#`, which works once. For it
-// the room returns a token, which is part of every path that the page asks for. This page alone
-// keeps it: a page that another program serves later at this port, in another tab, cannot read it.
+// the room returns a token, which is part of every path that the page asks for. This tab alone keeps
+// it: a page that another program served at this port before, and that is still open, has the same
+// origin, but cannot read it.
 
 const KEPT = "way";
 const NOT_LET_IN =
