@@ -1,5 +1,6 @@
 """A room for which the system has too few descriptors or too little memory."""
 import contextlib
+import io
 import os
 import re
 import resource
@@ -9,16 +10,19 @@ import unittest
 from typing import List
 from unittest import mock
 
-from rdbg.rooms import resources
+from rdbg.door import Entrance
+from rdbg.ending import ENDING
+from rdbg.rooms import port as ports, resources
 from tests.paths import COMPANION
 from tests.rooms import LOST, PATIENCE, Caller, free_port, room
+from tests.test_room_hostile import served
 
 NO_THREAD = "# no: the system has no thread left for one more connection"
 
 
 def limited(limit: str) -> List[str]:
     """What starts a room with a limit of `ulimit`."""
-    return ["bash", "-c", f'ulimit {limit} && exec "$@"', "room"]
+    return ["bash", "-c", f'ulimit -S -s 8192; ulimit {limit} && exec "$@"', "room"]
 
 
 class Scarce(unittest.TestCase):
@@ -81,18 +85,35 @@ class Scarce(unittest.TestCase):
 
 
 class Threads(unittest.TestCase):
-    """A room that runs, and gets no more threads for connections."""
+    """A room that gets no more threads for connections."""
 
-    def test_who_comes_then_is_told_and_the_others_go_on(self) -> None:
-        with room(sessions=3, head=limited("-v 300000")) as here, contextlib.ExitStack() as ends:
-            ada = ends.enter_context(Caller(here.port, "ada"))
-            others = [ends.enter_context(Caller(here.port)) for _ in range(60)]
-            refused = 0
-            for other in others:
-                refused += other.expect("# ") == NO_THREAD
-            self.assertGreater(refused, 10)
+    def refused(self, port: int) -> None:
+        """A new connection is told why it is closed."""
+        with Caller(port) as other:
+            self.assertEqual(other.rest(), [NO_THREAD])
+
+    def test_a_client_is_told_and_the_others_go_on(self) -> None:
+        none = RuntimeError("can't start new thread")
+        errors = io.StringIO()
+        with served() as (port, its_room), Caller(port, "ada") as ada:
+            with contextlib.redirect_stderr(errors):
+                with mock.patch.object(ports, "Client", side_effect=none):
+                    self.refused(port)
+                with mock.patch("socketserver.ThreadingMixIn.process_request", side_effect=none):
+                    self.refused(port)
             self.assertEqual(ada.ask("tick"), "ok at 1")
-            self.assertEqual((here.end(), here.errors), (0, ""))
+            self.assertEqual(its_room.who(), "here: ada (session 1)")
+        self.assertEqual(errors.getvalue(), "")
+
+    def test_another_port_says_it_in_a_line(self) -> None:
+        errors = io.StringIO()
+        with contextlib.redirect_stderr(errors):
+            try:
+                raise RuntimeError("can't start new thread")
+            except RuntimeError:
+                Entrance.handle_error(mock.Mock(), None, None)
+        said = f"{ENDING.name}: a connection was dropped: can't start new thread\n"
+        self.assertEqual(errors.getvalue(), said)
 
 
 if __name__ == "__main__":

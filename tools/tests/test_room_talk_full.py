@@ -5,7 +5,7 @@ import os
 import pathlib
 import resource
 import unittest
-from typing import Iterator, List, Tuple
+from typing import Iterator, List, Optional, Tuple
 from unittest import mock
 
 from rdbg.rooms import talk as talks
@@ -36,10 +36,11 @@ class Disk:
         return getattr(self._file, name)
 
 
-def limit(here: Process, count: int) -> None:
-    """Limits how large the files of a room can grow, its talk among them."""
+def limit(here: Process, count: Optional[int] = None) -> None:
+    """Limits how large the files of a room can grow, its talk among them, or lifts that limit."""
     _, hard = resource.prlimit(here.process.pid, resource.RLIMIT_FSIZE)
-    resource.prlimit(here.process.pid, resource.RLIMIT_FSIZE, (count, hard))
+    soft = hard if count is None else count
+    resource.prlimit(here.process.pid, resource.RLIMIT_FSIZE, (soft, hard))
 
 
 @contextlib.contextmanager
@@ -121,7 +122,7 @@ class Told(unittest.TestCase):
                     caller.expect(f"# {full}")
                 left.send("tick")
                 right.expect("# left: tick -> ok at 1")
-                limit(here, resource.RLIM_INFINITY)
+                limit(here)
                 # (nobody says a line)
                 again = "the talk is written again; missing: nothing"
                 for caller in (left, right):
