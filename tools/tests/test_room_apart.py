@@ -111,7 +111,9 @@ class Apart(unittest.TestCase):
             return is_there
 
         with mock.patch.object(Host, "_listens", stopped), mock.patch(f"{PLACE}.PATIENCE", 0.2):
-            with self.assertRaisesRegex(Hindered, "^a new rdbg didn't answer: the server at port "):
+            with self.assertRaisesRegex(
+                Hindered, "^a new rdbg did not answer: the server at port "
+            ):
                 Host.start(load(LOST), Limits(), 3, 0.0)
 
     def test_where_descriptors_are_short(self) -> None:

@@ -65,10 +65,8 @@ class Opening(unittest.TestCase):
         self.assertEqual(5, len(said))
         for line in said:
             # (who has closed it is nobody any more)
-            came = (
-                r"another came to port \d+ first, from port \d+ of a user who isn't known any more"
-            )
-            self.assertRegex(line, rf"^rdbg room: {came}: .*; it is tried again$")
+            came = r"somebody else connected to port \d+ first, from port \d+ of a user who is not known any more"
+            self.assertRegex(line, rf"^rdbg room: {came}: .* \(trying again\)$")
 
     @strangers.IS_ROOT
     def test_another_user_is_named(self) -> None:
@@ -82,7 +80,9 @@ class Opening(unittest.TestCase):
             with mock.patch.object(apart, "IS_TRIED", False):
                 Host.start(load(LOST), Limits(), 8, 0.0)
         who = rf"(port \d+ of user {strangers.NOBODY}, ){{{host.FEW}}}2 more: "
-        self.assertRegex(str(raised.exception), rf"^another came to port \d+ first, from {who}")
+        self.assertRegex(
+            str(raised.exception), rf"^somebody else connected to port \d+ first, from {who}"
+        )
 
 
 class Renewal(unittest.TestCase):
@@ -111,7 +111,9 @@ class Renewal(unittest.TestCase):
                 self.assertEqual(alone.tell(line), left.ask(line))
             told = [it for it in heard if "no new rdbg goes on yet, which is tried again" in it]
             self.assertEqual(1, len(told), heard)
-            self.assertRegex(told[0], r"another came to port \d+ first, from port \d+ of ")
+            self.assertRegex(
+                told[0], r"somebody else connected to port \d+ first, from port \d+ of "
+            )
             self.assertTrue([it for it in heard if "a new rdbg goes on from here" in it], heard)
             self.assertNotIn("no HistoryFull", heard)
 

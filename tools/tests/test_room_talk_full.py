@@ -117,7 +117,7 @@ class Told(unittest.TestCase):
             with Caller(here.port, "left") as left, Caller(here.port, "right") as right:
                 self.fill(here, left)
                 why = f"cannot write the talk to {file}: {NO_SPACE}"
-                full = f"{why}; its rows wait in memory, and it is tried again"
+                full = f"{why}; its rows wait in memory (trying again)"
                 for caller in (left, right):
                     caller.expect(f"# {full}")
                 left.send("tick")

@@ -107,7 +107,7 @@ def open_room(source: Source, limits: Limits, sessions: int, talk: Optional[Talk
         try:
             return Room(source, limits, sessions, talk)
         except Hindered as hindered:
-            print(f"rdbg room: {hindered}; it is tried again", file=sys.stderr, flush=True)
+            print(f"rdbg room: {hindered} (trying again)", file=sys.stderr, flush=True)
 
 
 def serve(room: Room, port: Port, door: Door, given: argparse.Namespace) -> List[Audit]:

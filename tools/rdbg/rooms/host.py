@@ -199,15 +199,15 @@ class Host:
         others = {} if self._is_apart else owners.clients_of(port)
         self.kill()
         if self._is_apart:
-            return f"a new rdbg didn't answer: {failure}"
+            return f"a new rdbg did not answer: {failure}"
         users = {it: f"user {number}" for it, number in others.items() if number is not None}
-        unknown = "a user who isn't known any more"
+        unknown = "a user who is not known any more"
         theirs = sorted(set(others) - self._ours)
         said = [f"port {it} of {users.get(it, unknown)}" for it in theirs]
         if not said:
-            return f"a new rdbg didn't answer: {failure}"
+            return f"a new rdbg did not answer: {failure}"
         more = [f"{len(said) - FEW} more"] if len(said) > FEW else []
-        return f"another came to port {port} first, from {', '.join(said[:FEW] + more)}: {failure}"
+        return f"somebody else connected to port {port} first, from {', '.join(said[:FEW] + more)}: {failure}"
 
     def kill(self) -> str:
         """Ends it at once, and returns its last line on standard error."""

@@ -301,7 +301,7 @@ class Room:
         yield
         if talk.fault and not before:
             why = f"cannot write the talk to {talk.path}: {talk.fault}"
-            self.warn(f"{why}; its rows wait in memory, and it is tried again")
+            self.warn(f"{why}; its rows wait in memory (trying again)")
             threading.Thread(target=self._write_again, args=(talk,), daemon=True).start()
         if talk.lost_count and not lost_before:
             self.warn("rows of the talk are lost from here on: too many wait in memory")
