@@ -45,7 +45,7 @@ class Users(unittest.TestCase):
 
     def test_a_prompt_says_why_too(self) -> None:
         with mock.patch("rdbg.door.client_owner", lambda *_: 12_345), served() as (port, _):
-            said = f"the server at port {port}: this room belongs to another user (start it with --anyone to let every user in)"
+            said = f"the server at port {port}: {NO[len('# no: ') :]}"
             with self.assertRaisesRegex(Failure, re.escape(said)):
                 Session.attach(port, "ada")
             with Session.attach(port) as session, self.assertRaisesRegex(Failure, re.escape(said)):
@@ -77,7 +77,7 @@ class Users(unittest.TestCase):
                 for name, value in HEADERS:
                     self.assertIn(f"{name}: {value}\r\n".encode(), answer)
                 if wanted == 403:
-                    end = b"\r\n\r\nrdbg: this room belongs to another user (start it with --anyone to let every user in)\n"
+                    end = f"\r\n\r\nrdbg: {NO[len('# no: ') :]}\n".encode()
                     self.assertTrue(answer.endswith(end), answer)
                     # (before anything is read)
                     self.assertEqual(status(told_nobody(here.web, b"")), 403)

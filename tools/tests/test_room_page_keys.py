@@ -47,7 +47,8 @@ class Keys(OnPage):
             left.tell("forward 3")
             self.visit(room)
             self.at(3)
-            state = "document.querySelector('#keyboard').innerText + document.querySelector('#keyboard').getAttribute('aria-pressed')"
+            shown = "(({innerText, ariaPressed}) => innerText + ariaPressed)"
+            state = f"{shown}(document.querySelector('#keyboard'))"
             self.assertEqual("Keyboard control offfalse", self.value(state))
             # (c and l lead to a field)
             for key in "thanks bob 0123456789 tru fish U":

@@ -65,7 +65,8 @@ class Opening(unittest.TestCase):
         self.assertEqual(5, len(said))
         for line in said:
             # (who has closed it is nobody any more)
-            came = r"somebody else connected to port \d+ first, from port \d+ of a user who is not known any more"
+            came = r"somebody else connected to port \d+ first, from port \d+ of a user who is not known"
+            came += " any more"
             self.assertRegex(line, rf"^rdbg room: {came}: .* \(trying again\)$")
 
     @strangers.IS_ROOT

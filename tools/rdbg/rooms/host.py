@@ -196,18 +196,17 @@ class Host:
 
     def _given_up(self, port: int, failure: Failure) -> str:
         """Ends it at once, since its sessions may be another user's, and returns why."""
-        others = {} if self._is_apart else owners.clients_of(port)
+        clients = {} if self._is_apart else owners.clients_of(port)
         self.kill()
-        if self._is_apart:
-            return f"a new rdbg did not answer: {failure}"
-        users = {it: f"user {number}" for it, number in others.items() if number is not None}
+        users = {it: f"user {number}" for it, number in clients.items() if number is not None}
         unknown = "a user who is not known any more"
-        theirs = sorted(set(others) - self._ours)
-        said = [f"port {it} of {users.get(it, unknown)}" for it in theirs]
-        if not said:
+        theirs = sorted(set(clients) - self._ours)
+        named = [f"port {it} of {users.get(it, unknown)}" for it in theirs]
+        if not named:
             return f"a new rdbg did not answer: {failure}"
-        more = [f"{len(said) - FEW} more"] if len(said) > FEW else []
-        return f"somebody else connected to port {port} first, from {', '.join(said[:FEW] + more)}: {failure}"
+        more = [f"{len(named) - FEW} more"] if len(named) > FEW else []
+        others = ", ".join(named[:FEW] + more)
+        return f"somebody else connected to port {port} first, from {others}: {failure}"
 
     def kill(self) -> str:
         """Ends it at once, and returns its last line on standard error."""
