@@ -214,7 +214,7 @@ class Arguments(Held):
             ("/nowhere\0x", "embedded null"),
             ("\ud800", "cannot read"),
             (str(EXAMPLES), "cannot read"),
-            (str(EXAMPLES / "lost_item.commands"), "is refused as L1 NotJson"),
+            (str(EXAMPLES / "lost_item.commands"), "unknown file type '.commands'"),
             (3, "program must be a text"),
         ):
             with self.subTest(program), editor() as client:

@@ -85,7 +85,7 @@ class Terminal(unittest.TestCase):
 
     def test_its_end_by_time(self) -> None:
         with searches.program("", FURTHER, SLEEPS):
-            seen = at_terminal("reach", LOST, "asleep", "--within", "0.5")
+            seen = at_terminal("reach", LOST, "failed", "--within", "0.5")
         self.assertEqual(searches.SAID_FURTHER, seen)
 
     def test_a_program_that_is_killed(self) -> None:
