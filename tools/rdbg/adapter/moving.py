@@ -2,7 +2,7 @@
 say where they are met, and `evaluate`, by which lines are typed."""
 import contextlib
 import re
-from typing import Callable, Dict, List, Optional, Sequence
+from typing import Callable, Dict, Iterator, List, Optional, Sequence
 
 from rdbg import record, replies
 from rdbg.adapter import names
@@ -15,7 +15,7 @@ from rdbg.adapter.running import Outcome, Runner
 from rdbg.adapter.stops import Amount, Stop
 from rdbg.adapter.threads import TIME
 from rdbg.driving import trail
-from rdbg.driving.target import Unable
+from rdbg.driving.target import Target, Unable
 from rdbg.replies import Refused
 from rdbg.shell.steps import why_on_none
 
@@ -260,13 +260,30 @@ def evaluate(it: Debugger, given: Arguments) -> Optional[Values]:
     return {"result": "" if word in BUTTONS else typed(it, lines), "variablesReference": 0}
 
 
+@contextlib.contextmanager
+def new_moves(target: Target) -> Iterator[List[str]]:
+    """Yields a list that gets the lines which make new moves, as long as the block lasts. A word
+    that looks back makes none: it goes back and forth by the record of those that there are."""
+    made: List[str] = []
+
+    def hear(line: str, reply: str, before: int) -> None:
+        if reply.startswith("ok at ") and line.split()[0] not in record.WORDS:
+            made.append(line)
+
+    target.hearing.append(hear)
+    try:
+        yield made
+    finally:
+        target.hearing.remove(hear)
+
+
 def typed(it: Debugger, lines: List[str]) -> str:
     """What the lines say. Where they have moved the target, the editor is told."""
     shell = it.shell
-    target, changes, place = shell.target, shell.target.changes, shell.target.place
+    target, place = shell.target, shell.target.place
     it.pause.forget()
     shell.shows_moves, shell.lost = True, None
-    with gathered() as pieces:
+    with gathered() as pieces, new_moves(target) as made:
         for line in lines:
             shell.line(line)
             if shell.is_stopped:
@@ -277,7 +294,7 @@ def typed(it: Debugger, lines: List[str]) -> str:
     if shell.target is not target:  # (`reload` has read the file anew)
         it.take(shell)
         it.later.append(lambda: it.restarted(f"at {shell.target.place}"))
-    elif target.changes != changes or target.place != place:
+    elif made or target.place != place:
         it.later.append(lambda: moved(it))
     return text_of(pieces)
 
