@@ -54,7 +54,13 @@ class Views(unittest.TestCase):
             answers = said(shell, "forward 40", "info tasks", "info objects", "where")
             self.assertLessEqual(max(map(len, answers)), 60)
             self.assertNotIn("notes", answers[1])
-            self.assertTrue(any(".." in row for row in answers))
+            # (a row goes on in the next line, and nothing is cut)
+            self.assertFalse([row for row in answers if ".." in row])
+            wide = said(shell, "info tasks", "info objects", "where")
+            shell.is_terminal = False
+            whole = said(shell, "info tasks", "info objects", "where")
+            cells = {cell for row in whole for cell in row.split()} - {"-", "notes"}
+            self.assertEqual(set(), cells - {cell for row in wide for cell in row.split()})
 
     def test_objects(self) -> None:
         with example("pipeline") as shell:
@@ -122,6 +128,7 @@ class Moves(unittest.TestCase):
             self.assertEqual(answers[:4], ["ok at 1", "ok at 4", "ok at 3", "ok at 1"])
             self.assertEqual(answers[4], "ok at 0 met")
             self.assertEqual(said(shell, "tick 3"), ["ok at 3"])
+            said(shell, "goto 0")  # (`run` says where the target stands)
             for word in ("run", "bt", "finish", "thread", "x"):
                 output, hints = both(shell, word)
                 self.assertEqual(output, ["no Syntax"])

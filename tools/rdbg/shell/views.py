@@ -15,8 +15,8 @@ from rdbg.replies import Refused
 from rdbg.shell.shell import Shell
 from rdbg.wording import nearest
 
-# So many characters of a column are shown at the least.
-LEAST = 8
+# What stands between columns, and before a line that goes on with a row.
+GAP, INDENT = "  ", "    "
 REGISTERS = tuple(f"r{number}" for number in range(8))
 FIELDS = ("data", "pc", "phase", "notes")
 # What sets a register in C, and in gdb's `print`.
@@ -26,28 +26,43 @@ SETTING = re.compile(r"\$?(?:(\w+)\.)?r([0-7])\s*(?:\w+\s*)?=\s*(\w+)")
 def table(cells: Sequence[Sequence[str]]) -> List[str]:
     """A table's rows as lines, each column as wide as it must be."""
     widths = [max(len(row[at]) for row in cells) for at in range(len(cells[0]))]
-    return ["  ".join(it.ljust(width) for it, width in zip(row, widths)).rstrip() for row in cells]
+    return [GAP.join(it.ljust(width) for it, width in zip(row, widths)).rstrip() for row in cells]
 
 
-def fitted(cells: Sequence[Sequence[str]], width: Optional[int], long: Sequence[int]) -> List[str]:
-    """A table's rows as lines that aren't wider than a terminal, where one is given: without
-    columns that say nothing, and the columns `long` cut, the widest first, down to LEAST."""
+def fitted(cells: Sequence[Sequence[str]], width: Optional[int]) -> List[str]:
+    """A table's rows as lines that fit a terminal of so many characters, if one is given: without
+    columns that say nothing, and if it is still too wide, each row in several lines. No cell is
+    cut; one that is longer than a line goes on in the next one."""
     if width is None:
         return table(cells)
-    kept = [at for at in range(len(cells[0])) if at == 0 or any(r[at] != "-" for r in cells[1:])]
+    # (a table of one row has no head)
+    below = cells[1:] or cells
+    kept = [at for at in range(len(cells[0])) if at == 0 or any(r[at] != "-" for r in below)]
     rows = [[row[at] for at in kept] for row in cells]
-    cut = [kept.index(at) for at in long if at in kept]
-    widths = [max(len(row[at]) for row in rows) for at in range(len(kept))]
-    while cut and sum(widths) + 2 * len(widths) > width:
-        widest = max(cut, key=lambda at: widths[at])
-        if widths[widest] <= LEAST:
-            break
-        widths[widest] -= 1
+    parts: List[List[int]] = [[]]
+    used = 0
+    for at in range(len(kept)):
+        widest = max(len(row[at]) for row in rows)
+        if parts[-1] and used + len(GAP) + widest > width:
+            parts.append([])
+            used = len(INDENT)
+        used += widest + (len(GAP) if parts[-1] else 0)
+        parts[-1].append(at)
+    tables = [table([[row[at] for at in part] for row in rows]) for part in parts]
+    # (a line that goes on with a row says something)
+    lines = (
+        (row[0], *(f"{INDENT}{it}" for it in row[1:] if it.strip(" -"))) for row in zip(*tables)
+    )
+    return [piece for row in lines for line in row for piece in broken(line.rstrip(), width)]
 
-    def fits(it: str, most: int) -> str:
-        return it if len(it) <= most else f"{it[: most - 2]}.."
 
-    return table([list(map(fits, row, widths)) for row in rows])
+def broken(line: str, width: int) -> Iterator[str]:
+    """Yields the pieces of a line that fit a terminal of so many characters."""
+    while len(line) > max(width, len(INDENT) + 1):
+        yield line[:width]
+        line = f"{INDENT}{line[width:]}"
+    if line.strip():
+        yield line
 
 
 def script_of(application: Optional[Application], name: str) -> Sequence[Instruction]:
@@ -124,12 +139,7 @@ def tasks(shell: Shell) -> None:
         rows.append([*here, ",".join(there) or "-", hexadecimal(it.data), notes(it)])
     if application is None:
         rows = [[*row[:4], *row[5:]] for row in rows]
-    long = [rows[0].index(name) for name in LONG if name in rows[0]]
-    shell.say("\n".join(fitted(rows, shell.width(), long)))
-
-
-# The columns of `info tasks` that are cut where the terminal is too narrow.
-LONG = ("instruction", "registers", "data", "notes", "phase")
+    shell.say("\n".join(fitted(rows, shell.width())))
 
 
 def object_text(key: Key, it: Object) -> List[str]:
@@ -180,7 +190,7 @@ def objects(shell: Shell) -> None:
         return
     rows = [["object", "has", "contents", "who waits"]]
     rows += [object_text(key, it) for key, it in found.items()]
-    shell.say("\n".join(fitted(rows, shell.width(), (2, 3))))
+    shell.say("\n".join(fitted(rows, shell.width())))
 
 
 def task(shell: Shell, name: str) -> List[str]:
@@ -211,7 +221,7 @@ def where(shell: Shell, words: Sequence[str]) -> None:
             more = [next_of(shell.target.application, it), phase, place_in_file(shell, it)]
         rows.append([f"core {core}", name or "idle", *more])
     ready = ",".join(look.cores.ready) or "-"
-    shell.say("\n".join(fitted(rows, shell.width(), (2, 4, 3))))
+    shell.say("\n".join(fitted(rows, shell.width())))
     shell.say(f"ready {ready}  tick {look.cores.tick}  turn {look.cores.turn}  at {look.place}")
 
 
