@@ -260,7 +260,7 @@ class Statuses(unittest.TestCase):
             ([LOST, "stuck", "--smallest", "--all", "2"], "it takes no --all"),
             ([LOST, "differs", "--smallest"], "none of differs"),
             ([LOST, "stuck", "-o", "/none/found.commands"], "cannot write /none/found.commands"),
-            ([LOST, "stuck", "--moves", "0"], "1 to 1000000, not '0'"),
+            ([LOST, "stuck", "--moves", "-1"], "0 to 1000000, not '-1'"),
             ([LOST], "the following arguments are required"),
         ):
             with self.subTest(why):

@@ -88,7 +88,7 @@ def parser() -> Parser:
     report = "writes what came of it as SARIF, or where FILE ends in .xml as JUnit's XML"
     word("--report", "FILE", report)
     word("--surprises", "N", "orders of so many surprises at the most", type=bounded(0))
-    word("--moves", "N", "orders of at most so many moves", type=count)
+    word("--moves", "N", "orders of at most so many moves; 0: the start alone", type=bounded(0))
     word("--isr", "CALLS", ISR, action="append", default=[])
     made.flag("--exhaustive", "surprises aren't counted: the fewest moves")
     made.flag("--smallest", "shows that none has fewer surprises, or moves")
