@@ -40,6 +40,12 @@ def is_count(word: str) -> bool:
     return number(word, MOST_COUNT, 1) is not None
 
 
+def out_of_range(words: Sequence[str]) -> str:
+    """Returns that a number among these words can't be a COUNT, and the range; `""` for none."""
+    found = (it for it in words if it.isdecimal() and not is_count(it))
+    return "".join(f"COUNT is 1 to {MOST_COUNT}, found '{it}'; " for it in list(found)[:1])
+
+
 def is_watch(word: str) -> bool:
     """Whether a word stands for a watch."""
     return word[:1] == "w" and is_number(word[1:], MOST_WATCHES - 1)

@@ -14,6 +14,7 @@ Path = Tuple[str, ...]
 Setter = Callable[[str], str]
 BITS = 16_777_215
 MOST_VALUE = commands.MOST_NUMBER
+DIGITS = 40
 # What a value may have behind it where it is shown: `5 (received)`.
 BEHIND = re.compile(r"\s+\(.*\)$")
 
@@ -22,9 +23,10 @@ def typed_number(text: str, most: int = MOST_VALUE) -> int:
     """A number that was typed: decimal, hexadecimal behind 0x, or below 0, which counts from the
     other end as in C. Raises `Wrong` where it is none."""
     plain = BEHIND.sub("", text.strip()).replace("_", "")
-    if not re.fullmatch(r"-?(0[xX][0-9a-fA-F]{1,8}|[0-9]{1,10})", plain):
+    if not re.fullmatch(r"-?(0[xX][0-9a-fA-F]+|[0-9]+)", plain):
         raise Wrong(f"'{text}' is no number: 41, 0x29 or -1")
-    value = int(plain, 16 if "x" in plain.lower() else 10)
+    # (a number of more digits is too large, whatever they are)
+    value = int(plain[:DIGITS], 16 if "x" in plain.lower() else 10)
     if value < 0 and most == MOST_VALUE:
         value += MOST_VALUE + 1
     if not 0 <= value <= most:

@@ -7,6 +7,7 @@ from rdbg.goals import reading
 from rdbg.goals.reading import NoGoal
 from rdbg.goals.scope import Scope
 from rdbg.looks import Names
+from rdbg.operands import to_text
 from rdbg.wording import nearest
 
 # So many words are mended at the most, and so many names are said.
@@ -26,14 +27,26 @@ def with_meant(wrong: NoGoal, scope: Scope) -> NoGoal:
 def there_are(wrong: NoGoal, scope: Scope) -> str:
     """Which names there are where one is wanted, or which labels."""
     labels = labels_at(wrong.words, wrong.at, wrong.wanted, scope)
+    instructions = instructions_at(wrong, scope)
     kind = reading.KIND_OF.get(wrong.wanted)
     names = labels if kind is None else scope.names.of_kind(kind)
     shown = ", ".join(names[:MOST_SAID]) + (", .." if len(names) > MOST_SAID else "")
     if labels:
-        return f", or a label: {shown}"
+        return f"{instructions}, or a label: {shown}"
+    if instructions:
+        return instructions
     if kind is None or scope.application is None:
         return ""
     return f"; these are there: {shown}" if shown else "; there are none"
+
+
+def instructions_at(wrong: NoGoal, scope: Scope) -> str:
+    """Which numbers the instructions of a task have, if one is wanted where another number is."""
+    at = wrong.at or 0
+    if wrong.wanted != reading.INSTRUCTION or at < 1 or not wrong.words[at].isdecimal():
+        return ""
+    task = scope.application.task(wrong.words[at - 1]) if scope.application else None
+    return f" ({task.name} has {to_text(0, len(task.code) - 1)})" if task else ""
 
 
 def labels_at(words: Sequence[str], at: Optional[int], wanted: str, scope: Scope) -> List[str]:

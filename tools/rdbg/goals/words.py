@@ -34,6 +34,15 @@ def for_search(words: Sequence[str], scope: Scope) -> Tuple[Goal, str]:
     return goal, asked
 
 
+def is_goal(words: Sequence[str], scope: Scope) -> bool:
+    """Whether these words are a goal."""
+    try:
+        plain(words, scope)
+    except NoGoal:
+        return False
+    return True
+
+
 def counted(words: Sequence[str], scope: Scope) -> Tuple[Goal, Optional[int]]:
     """A goal, and the COUNT that stands behind it, if one does. Raises `NoGoal`."""
     try:
@@ -42,6 +51,10 @@ def counted(words: Sequence[str], scope: Scope) -> Tuple[Goal, Optional[int]]:
         if wrong.at == len(wrong.words) - 1 and words[1:] and commands.is_count(words[-1]):
             with contextlib.suppress(NoGoal):
                 return plain(words[:-1], scope), int(words[-1])
+        is_count = wrong.at == len(wrong.words) - 1 and commands.out_of_range(words[-1:])
+        if is_count and is_goal(words[:-1], scope):
+            wanted = f"a COUNT is 1 to {commands.MOST_COUNT}"
+            raise NoGoal(wrong.words, wrong.at, wanted) from None
     return read(words, scope), None
 
 

@@ -214,10 +214,28 @@ def syntax(shell: Shell, line: str) -> str:
         return "an empty line is no command"
     if words[0] == "show" and len(words) == 2 and words[1] in SHOWN:
         return SHOWN[words[1]]
-    told = HINTS.get(words[0]) or of_goal(shell, words) or joined(words[1:])
+    told = (
+        begun(shell, words[0]) or HINTS.get(words[0]) or of_goal(shell, words) or joined(words[1:])
+    )
     return told or mended(shell, line) or at_fault(shell, words)
 
 
+def begun(shell: Shell, word: str) -> str:
+    """Where the target is, for a word that starts a program elsewhere; empty for others, and at
+    boot."""
+    place = shell.target.place
+    if word not in BEGINS or not place:
+        return ""
+    limits = shell.target.limits
+    if limits is not None and place >= limits.moves:
+        return (
+            f"the target is at {place}, the last place (--moves {limits.moves}): `goto 0` is boot"
+        )
+    return f"the target is at {place}: `until COND 1000` runs on, `goto 0` goes back to boot"
+
+
+# What starts a program in gdb.
+BEGINS = ("run", "r", "start")
 JOINING = ("and", "or", "not", "&&", "||", "&", "|", "!")
 
 

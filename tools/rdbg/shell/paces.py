@@ -76,7 +76,9 @@ def go(shell: Shell, words: Sequence[str]) -> None:
     """`go COUNT`: so many moves at the pace; `go COUNT ticks`: up to so many ticks."""
     is_ticks = len(words) == 2 and words[1] in TICKS
     if not words or not commands.is_count(words[0]) or len(words) > 1 + is_ticks:
-        raise Unable("`go 10` makes ten moves at the pace, `go 10 ticks` goes on up to ten ticks")
+        wrong = commands.out_of_range(words)
+        forms = "`go 10` makes ten moves at the pace, `go 10 ticks` goes on up to ten ticks"
+        raise Unable(f"{wrong}{forms}")
     count, walk = int(words[0]), shell.walk
     if not isinstance(walk, PacedWalk):
         if is_ticks:

@@ -68,7 +68,8 @@ def moves(shell: Shell, words: Sequence[str]) -> None:
     """`moves [COUNT]`: the last moves, each with what it did."""
     is_all = words == ["all"]
     if not is_all and (words[1:] or not all(map(commands.is_count, words))):
-        raise Unable("`moves` shows the last 20, `moves 100` the last 100, `moves all` all")
+        forms = "`moves` shows the last 20, `moves 100` the last 100, `moves all` all"
+        raise Unable(f"{commands.out_of_range(words)}{forms}")
     count = int(words[0]) if words and not is_all else DEFAULT_MOVES
     if shell.notices.is_room and not is_all and count <= MOST_MOVES:
         shell.notices.forget()

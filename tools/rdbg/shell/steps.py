@@ -24,7 +24,7 @@ def step(shell: Shell, words: Sequence[str]) -> None:
     """`step TASK [COUNT]`: instructions of a task, on whichever core it is; or of a core."""
     name = words[0]
     if words[2:] or not all(map(commands.is_count, words[1:])):
-        raise Unable("`step TASK [COUNT]`, or `step CORE`")
+        raise Unable(f"{commands.out_of_range(words[1:])}`step TASK [COUNT]`, or `step CORE`")
     count = int(words[1]) if words[1:] else 1
     is_core = commands.is_number(name)
     if name not in shell.target.names.tasks and re.fullmatch(r"core_?[0-9]", name):
@@ -45,7 +45,7 @@ def step(shell: Shell, words: Sequence[str]) -> None:
 def tick(shell: Shell, words: Sequence[str]) -> None:
     """`tick COUNT`: so many ticks."""
     if len(words) != 1 or not commands.is_count(words[0]):
-        raise Unable("`tick`, or `tick COUNT` for so many")
+        raise Unable(f"{commands.out_of_range(words)}`tick`, or `tick COUNT` for so many")
     with shell.wheel():
         start = shell.target.places().done
         reply, left = "", int(words[0])
@@ -101,7 +101,8 @@ def forward(shell: Shell, words: Sequence[str]) -> None:
     if words and words[0] in shell.target.names.tasks:
         step(shell, words)
     elif words[1:] or not all(map(commands.is_count, words)):
-        raise Unable("`s` is a move as a run chooses it, `s 5` five; `step worker` is a task's own")
+        forms = "`s` is a move as a run chooses it, `s 5` five; `step worker` is a task's own"
+        raise Unable(f"{commands.out_of_range(words)}{forms}")
     else:
         shell.command(" ".join(["forward", *(words or ["1"])]))
 
@@ -109,7 +110,8 @@ def forward(shell: Shell, words: Sequence[str]) -> None:
 def back(shell: Shell, words: Sequence[str]) -> None:
     """`rs [COUNT]`: takes moves back."""
     if len(words) > 1 or not all(commands.is_count(word) for word in words):
-        raise Unable("`rs` takes the last move back, `rs 5` the last five, whosever they are")
+        forms = "`rs` takes the last move back, `rs 5` the last five, whosever they are"
+        raise Unable(f"{commands.out_of_range(words)}{forms}")
     shell.command(" ".join([record.BACK, *(words or ["1"])]))
 
 
