@@ -29,9 +29,16 @@ class Starts(unittest.TestCase):
 
     def test_by_itself(self) -> None:
         with searches.program(FOUND, end="exit 1") as it:
-            ran = run(WRAPPER, "reach", LOST, "asleep", "--moves", "5")
+            ran = run(WRAPPER, "reach", LOST, "failed", "--moves", "5")
             self.assertEqual((1, FOUND, ""), (ran.returncode, ran.stdout, ran.stderr))
-            self.assertEqual(f"{LOST} asleep --moves 5", it.words())
+            self.assertEqual(f"{LOST} failed --moves 5", it.words())
+
+    def test_a_vacuous_goal_is_reported(self) -> None:
+        with searches.program(searches.NEVER) as it:
+            ran = run(WRAPPER, "reach", LOST, "asleep")
+            note = "note: vacuous: task poller never waits without a deadline\n"
+            self.assertEqual((0, searches.NEVER, note), (ran.returncode, ran.stdout, ran.stderr))
+            self.assertEqual(f"--progress {LOST} asleep", it.words())
 
     def test_listened_to(self) -> None:
         with tempfile.TemporaryDirectory() as folder, searches.program(FOUND, FAR, "exit 1") as it:
@@ -122,12 +129,12 @@ class Real(unittest.TestCase):
         ]
         for words, status, answer in rows:
             with self.subTest(words):
-                ran = run(WRAPPER, "reach", LOST, "asleep", *words)
+                ran = run(WRAPPER, "reach", LOST, "failed", *words)
                 self.assertEqual((status, ""), (ran.returncode, ran.stderr))
                 self.assertTrue(ran.stdout.startswith(answer), ran.stdout)
 
     def test_a_small_search_is_answered_at_once(self) -> None:
-        command = [str(WRAPPER), "reach", str(EXAMPLES / "meeting.json"), "asleep"]
+        command = [str(WRAPPER), "reach", str(EXAMPLES / "meeting.json"), "waits left"]
         self.assertLess(seconds_of(command, 1), QUICK)
 
     def test_the_help_has_its_options(self) -> None:
