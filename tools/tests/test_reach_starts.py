@@ -2,8 +2,10 @@
 import os
 import pathlib
 import re
+import signal
 import subprocess
 import tempfile
+import time
 import unittest
 from typing import List, Tuple
 
@@ -39,6 +41,48 @@ class Starts(unittest.TestCase):
             note = "note: vacuous: task poller never waits without a deadline\n"
             self.assertEqual((0, searches.NEVER, note), (ran.returncode, ran.stdout, ran.stderr))
             self.assertEqual(f"--progress {LOST} asleep", it.words())
+
+    def test_the_message_of_the_tool(self) -> None:
+        wrong = (
+            (["nosuch.json", "asleep"], "rdbg reach: nosuch.json: cannot read the file\n"),
+            ([LOST, "at", "pollr", "1"], "`at poller 1` would be right\n"),
+            ([LOST, "asleep", "--lots"], "rdbg reach: error: unexpected argument '--lots' found\n"),
+        )
+        for words, why in wrong:
+            with self.subTest(words):
+                ran = run(WRAPPER, "reach", *words)
+                self.assertEqual((2, ""), (ran.returncode, ran.stdout))
+                self.assertIn(why, ran.stderr)
+                self.assertNotIn("rdreach", ran.stderr)
+                alone = run(WRAPPER, "reach", *words, "--within", "60")
+                self.assertEqual(alone.stderr, ran.stderr)
+
+    def test_an_answer_that_cannot_be_written(self) -> None:
+        with searches.program("", "rdreach: cannot write the answer\n", "exit 2"):
+            ran = run(WRAPPER, "reach", LOST, "asleep")
+        self.assertEqual((2, "rdbg reach: cannot write the answer\n"), (ran.returncode, ran.stderr))
+
+    def test_its_end_by_a_signal(self) -> None:
+        for number, status, told in (
+            (signal.SIGINT, 2, "rdbg reach: interrupted; with --within SECONDS"),
+            (signal.SIGTERM, 143, ""),
+            (signal.SIGKILL, -9, ""),
+        ):
+            with self.subTest(number), searches.program("", end=SLEEPS) as it:
+                process = subprocess.Popen(
+                    [str(WRAPPER), "reach", LOST, "asleep"],
+                    stdin=subprocess.DEVNULL,
+                    stdout=subprocess.PIPE,
+                    stderr=subprocess.PIPE,
+                    universal_newlines=True,
+                    preexec_fn=lambda: signal.signal(signal.SIGINT, signal.SIG_DFL) and None,
+                )
+                while not it.words():
+                    time.sleep(0.02)
+                process.send_signal(number)
+                out, err = process.communicate()
+                self.assertEqual((status, ""), (process.returncode, out))
+                self.assertIn(told, err)
 
     def test_listened_to(self) -> None:
         with tempfile.TemporaryDirectory() as folder, searches.program(FOUND, FAR, "exit 1") as it:

@@ -11,10 +11,12 @@ from rdbg.ending import ENDING, STARTED
 from rdbg.failure import trying
 from rdbg.reaching import progress
 from rdbg.reaching.progress import Gauge, Progress
+from rdbg.reaching.words import PROGRESS
 
 READ = 65_536
 # How the program's errors begin.
 OWN_NAMES = ("rdbg reach: ", "rdreach: ")
+USAGE = f"Usage: rdreach {PROGRESS} "
 
 
 def named(line: str) -> str:
@@ -22,6 +24,8 @@ def named(line: str) -> str:
     for own in OWN_NAMES:
         if line.startswith(own):
             return f"{ENDING.name}: {line[len(own):]}"
+    if line.startswith(USAGE):
+        return f"Usage: {ENDING.name} {line[len(USAGE):]}"
     return line
 
 
