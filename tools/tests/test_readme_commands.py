@@ -94,6 +94,7 @@ class Readme(Checkout):
                 process = self.type_it(command)
                 if shlex.split(command)[1] == "room":
                     rooms.append(process)
+                    self.addCleanup(process.kill)
                     assert process.stdout is not None
                     self.assertIn("listening", process.stdout.readline())
                     continue
