@@ -95,7 +95,14 @@ class Answers(InFolder):
                 self.assertEqual(wanted, said(LOST, "--engine", *words))
                 self.assertEqual("", it.words())
 
+    def refuse_engine(self) -> None:
+        """Makes the start of an engine, which would replace this process, an error."""
+        started = mock.patch("os.execv", side_effect=AssertionError("an engine was started"))
+        started.start()
+        self.addCleanup(started.stop)
+
     def test_no_goal(self) -> None:
+        self.refuse_engine()
         pathlib.Path("logger.fw").write_text(LINES)
         why = "rdbg reach: no goal given (for the line protocol: reach FILE --engine)"
         rows: List[List[str]] = [[], [""], [" "], ["", ""], ["--moves", "5"], ["-o", "out"]]
@@ -106,6 +113,7 @@ class Answers(InFolder):
                     self.assertEqual("", it.words())
 
     def test_a_goal_for_an_engine(self) -> None:
+        self.refuse_engine()
         why = "--engine takes no goal on the command line: it reads goals from standard input"
         for words in ([LOST, "asleep", "--engine"], ["--engine", LOST, ""]):
             with self.subTest(words), program("ok\n\n") as it:

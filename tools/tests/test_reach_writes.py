@@ -19,15 +19,15 @@ BUFFER = 8192
 TICKS = 20_000
 
 
-class Written(NamedTuple):
+class Run(NamedTuple):
     """The writes of a program to standard output, and its exit status."""
 
     writes: List[bytes]
     status: int
 
 
-def written(words: Sequence[str]) -> Written:
-    """Runs a program and returns each of its writes to standard output.
+def run_program(words: Sequence[str]) -> Run:
+    """Runs a program and collects its writes to standard output.
 
     Standard output is a socket that keeps the boundaries between messages, so that each write is
     received by itself.
@@ -45,44 +45,44 @@ def written(words: Sequence[str]) -> Written:
     with ours, theirs:
         process = subprocess.Popen(words, stdin=subprocess.DEVNULL, stdout=theirs.fileno())
         theirs.close()
-        receiver = threading.Thread(target=receive)
+        receiver = threading.Thread(target=receive, daemon=True)
         receiver.start()
         status = process.wait(PATIENCE)
         receiver.join(PATIENCE)
-    return Written(writes, status)
+    return Run(writes, status)
 
 
 class Writes(unittest.TestCase):
     """The writes of the program that searches."""
 
     def setUp(self) -> None:
-        found = searches.real()
-        if found is None or not os.access(found, os.X_OK):
+        program = searches.real()
+        if program is None or not os.access(program, os.X_OK):
             self.skipTest("RDBG_REACH names no program")
-        self.program = os.path.abspath(found)
+        self.program = os.path.abspath(program)
         folder = tempfile.TemporaryDirectory()
         self.addCleanup(folder.cleanup)
         self.ticks = pathlib.Path(folder.name) / "ticks.commands"
         self.ticks.write_text("tick\n" * TICKS)
 
     def test_a_short_answer_is_one_write(self) -> None:
-        found = written([self.program, MEETING, "asleep"])
-        self.assertEqual((1, 1), (found.status, len(found.writes)))
-        self.assertTrue(found.writes[0].startswith(b"found\nstep 0\n"), found.writes[0])
-        self.assertTrue(found.writes[0].endswith(b" deepest 21\n"), found.writes[0])
+        ran = run_program([self.program, MEETING, "asleep"])
+        self.assertEqual((1, 1), (ran.status, len(ran.writes)))
+        self.assertTrue(ran.writes[0].startswith(b"found\nstep 0\n"), ran.writes[0])
+        self.assertTrue(ran.writes[0].endswith(b" deepest 21\n"), ran.writes[0])
 
     def test_a_long_answer_takes_few_writes(self) -> None:
-        found = written([self.program, MEETING, f"tick = {TICKS}", "--from", str(self.ticks)])
-        answer = b"".join(found.writes)
-        self.assertEqual((1, TICKS), (found.status, answer.count(b"\ntick")))
+        ran = run_program([self.program, MEETING, f"tick = {TICKS}", "--from", str(self.ticks)])
+        answer = b"".join(ran.writes)
+        self.assertEqual((1, TICKS), (ran.status, answer.count(b"\ntick")))
         self.assertEqual(b"states 0 moves 0 deepest 0", answer.splitlines()[-1])
-        self.assertLessEqual(len(found.writes), len(answer) // (BUFFER // 2) + 1)
+        self.assertLessEqual(len(ran.writes), len(answer) // (BUFFER // 2) + 1)
 
     def test_every_kind_of_question(self) -> None:
         for question in ("--lost", "--doomed"):
             with self.subTest(question):
                 words = [self.program, MEETING, "asleep", question, "--from", str(self.ticks)]
-                self.assertLessEqual(len(written(words).writes), TICKS // 100)
+                self.assertLessEqual(len(run_program(words).writes), TICKS // 100)
 
     def test_an_answer_that_cannot_be_written(self) -> None:
         long = ["--from", str(self.ticks)]

@@ -155,7 +155,7 @@ def become_engine(asked: Words, words: Sequence[str]) -> NoReturn:
 
 
 def unlinked(asked: Words) -> List[str]:
-    """Returns the program's words for an engine of a file in lines or with consts.
+    """Returns the program's words for an engine whose file is a .fw file or has -D constants.
 
     The program reads the JSON from a descriptor that it inherits, so no file has to be removed.
     """
