@@ -18,7 +18,7 @@ from typing import Dict, Iterator, List, NamedTuple, Optional, Sequence, Tuple
 sys.path.insert(0, str(pathlib.Path(__file__).resolve().parent.parent / "tools"))
 from rdbg import links
 
-FOLDER = links.PLACE or os.O_RDONLY | os.O_DIRECTORY | os.O_NOFOLLOW | os.O_CLOEXEC
+FOLDER = links.FOLDER or os.O_RDONLY | os.O_DIRECTORY | os.O_NOFOLLOW | os.O_CLOEXEC
 NEW_FILE = os.O_WRONLY | os.O_CREAT | os.O_EXCL | os.O_NOFOLLOW | os.O_CLOEXEC
 OLD_FILE = os.O_RDONLY | os.O_NOFOLLOW | os.O_NONBLOCK | os.O_CLOEXEC
 FOLDER_MODE = 0o755
@@ -44,10 +44,13 @@ class Prefix:
     def __init__(self, path: str, can_create: bool = False) -> None:
         """Opens the folder, and creates it first if it is missing and `can_create` is true.
 
-        Raises `Failure` if the path leads through a link of another user, and `OSError`.
+        Raises `Refused` if the path leads through a link of another user, and `OSError`.
         """
         self.path = path
-        self.real = links.behind(path.rstrip(os.sep) or os.sep)
+        try:
+            self.real = links.resolve(path.rstrip(os.sep) or os.sep)
+        except links.RefusedFile as error:
+            raise Refused(f"refusing {path}: {error.strerror}") from None
         # The folders that were created, `.` for the prefix itself.
         self.created: List[str] = []
         self._top = os.open(os.sep, FOLDER)
