@@ -79,6 +79,13 @@ def marked(mark: str) -> List[int]:
     return found
 
 
+def trace_processes() -> int:
+    """Returns how many processes a long trace has: itself and its program, and one and a program
+    more for each processor where there are several."""
+    count = len(os.sched_getaffinity(0))
+    return 2 * count + 1 if count > 1 else 2
+
+
 def processor_seconds() -> float:
     """Returns how many seconds of a processor this process and its children have used, those that
     have ended not counted. Unlike the clock it doesn't go on while others are at work."""

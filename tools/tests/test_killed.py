@@ -11,7 +11,7 @@ from unittest import mock
 from rdbg.client import Session
 from tests.paths import EXAMPLES
 from tests.rooms import free_port
-from tests.started import Started, sleeper
+from tests.started import Started, sleeper, trace_processes
 
 LOST = str(EXAMPLES / "lost_item.json")
 TURNS = str(EXAMPLES / "turns.json")
@@ -64,7 +64,7 @@ class Killed(unittest.TestCase):
     def test_processes_of_a_trace(self) -> None:
         started = Started("trace", TURNS, "--page", str(self.scratch / "page.html"))
         started.give("forward 100000\n")
-        self.check(started, 2 * len(os.sched_getaffinity(0)) + 1)
+        self.check(started, trace_processes())
 
     def test_a_room_before_it_listens(self) -> None:
         started = Started("room", LOST, "--port", str(free_port()), program=self.sleeper)

@@ -15,7 +15,7 @@ from rdbg import main
 from rdbg.client import Session
 from tests.paths import COMPANION, EXAMPLES, TOP
 from tests.rooms import free_port
-from tests.started import Started, at_import, seconds_of, sleeper
+from tests.started import Started, at_import, seconds_of, sleeper, trace_processes
 from tests.strangers import IS_ROOT
 from tests.test_shell_port import server
 
@@ -94,7 +94,7 @@ class Running(unittest.TestCase):
             with self.subTest(number):
                 started = Started("trace", TURNS, "--page", str(self.scratch / "page.html"))
                 started.give("forward 100000\n")
-                started.wait_for(2 * len(os.sched_getaffinity(0)) + 1)
+                started.wait_for(trace_processes())
                 self.check(started, "trace", number)
 
     def test_a_filter(self) -> None:
