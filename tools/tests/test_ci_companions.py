@@ -132,7 +132,7 @@ class Companions(unittest.TestCase):
         first = next(at for at, it in enumerate(lines) if it.endswith(" passed only on retry"))
         return [it.replace("ci/companions: ", "") for it in lines[first:]]
 
-    def test_what_passes_only_on_retry_has_not_passed(self) -> None:
+    def test_what_passes_only_on_retry_has_failed(self) -> None:
         self.write_module("second", SECOND)
         self.assertEqual(
             self.summary(),
@@ -140,7 +140,7 @@ class Companions(unittest.TestCase):
                 "1 passed only on retry",
                 "passed only on retry: test_second.Second.test_it",
                 "0 skipped",
-                f"1 passed, {CHECKS} failed",
+                f"1 passed, {CHECKS + 1} failed",
             ],
         )
 
