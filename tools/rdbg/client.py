@@ -3,17 +3,20 @@
 At a room's port lines that begin with `#` come between them: notices, which are no replies."""
 import collections
 import contextlib
+import errno
 import functools
 import os
 import pathlib
 import re
+import select
 import signal
 import socket
 import subprocess
 import sys
 import tempfile
 import threading
-from typing import IO, Callable, Deque, Iterable, Iterator, List, Optional, Sequence, Tuple, Union
+from typing import IO, Callable, ContextManager, Deque, Iterable, Iterator, List, Optional
+from typing import Sequence, Tuple
 
 from rdbg import children, owners, replies
 from rdbg.commands import MOST_BYTES
@@ -76,31 +79,60 @@ def built_by_wrapper(name: str) -> str:
     return os.fsdecode(path)
 
 
+def signals_held() -> ContextManager[None]:
+    """Defers the exceptions of signals to the end of a block. Only the main thread gets any."""
+    is_main = threading.current_thread() is threading.main_thread()
+    return ENDING.held() if is_main else contextlib.nullcontext()
+
+
 class Incoming:
-    """The lines that come by a connection or a pipe, whose next bytes `receive` has."""
+    """The lines that arrive by a connection or a pipe. `receive` reads the next bytes.
+
+    A signal can end the wait for a line by an exception. What has arrived is not lost by that."""
 
     def __init__(self, number: int, receive: Callable[[int], bytes]) -> None:
         self._number, self._receive = number, receive
         self._whole: Deque[bytes] = collections.deque()
         self._tail = b""
+        self._seconds: Optional[float] = None
+        # How many lines have arrived that are not notices.
+        self.replies = 0
 
     def fileno(self) -> int:
-        """What can be waited for."""
+        """Returns the descriptor to wait for, or -1 once it is closed."""
         return self._number
 
     def has_line(self) -> bool:
-        """Whether a whole line has come."""
+        """Returns whether a whole line has arrived."""
         return bool(self._whole)
 
     def fill(self) -> bool:
-        """Waits until something comes; false at the end."""
-        content = self._receive(READ)
-        *whole, self._tail = (self._tail + content).split(b"\n")
-        self._whole.extend(line + b"\n" for line in whole)
+        """Waits until something arrives. Returns false at the end of the input.
+
+        Raises `OSError`, also if nothing arrives in time."""
+        self._wait()
+        with signals_held():
+            content = self._receive(READ)
+            *whole, self._tail = (self._tail + content).split(b"\n")
+            self._whole.extend(line + b"\n" for line in whole)
+            self.replies += sum(not line.startswith(NOTICE) for line in whole)
         return bool(content)
 
+    def _wait(self) -> None:
+        """Waits until `receive` would not block."""
+        number = self.fileno()
+        if number < 0:
+            raise OSError(errno.EBADF, os.strerror(errno.EBADF))
+        poll = select.poll()
+        poll.register(number, select.POLLIN)
+        if not poll.poll(None if self._seconds is None else self._seconds * 1_000):
+            raise OSError(errno.ETIMEDOUT, os.strerror(errno.ETIMEDOUT))
+
+    def close(self) -> None:
+        """Closes what the lines arrive by."""
+
     def readline(self) -> bytes:
-        """The next line with its end; without one at the end of all."""
+        """Returns the next line with its end, or what is left without one at the end of the input."""
         while not self._whole:
             if not self.fill():
                 last, self._tail = self._tail, b""
@@ -108,20 +140,32 @@ class Incoming:
         return self._whole.popleft()
 
 
+class PipeLines(Incoming):
+    """The lines that arrive by a pipe."""
+
+    def __init__(self, pipe: IO[bytes]) -> None:
+        super().__init__(pipe.fileno(), functools.partial(os.read, pipe.fileno()))
+        self._pipe = pipe
+
+    def close(self) -> None:
+        """Closes the pipe."""
+        self._pipe.close()
+
+
 class PortLines(Incoming):
-    """The lines that come by a connection."""
+    """The lines that arrive by a connection."""
 
     def __init__(self, connection: socket.socket) -> None:
         super().__init__(connection.fileno(), connection.recv)
         self._connection = connection
 
     def fileno(self) -> int:
-        """What can be waited for; -1 once it is closed."""
+        """Returns the descriptor to wait for, or -1 once it is closed."""
         return self._connection.fileno()
 
     def wait_at_most(self, seconds: Optional[float]) -> None:
-        """Says how long something that comes is waited for."""
-        self._connection.settimeout(seconds)
+        """Sets how long to wait for something to arrive; `None` waits for ever."""
+        self._seconds = seconds
 
     def close(self) -> None:
         """Closes the connection."""
@@ -177,12 +221,13 @@ class Session:
     before it was set. At a room `name` and `number` are those by which the room knows the session.
     """
 
-    def __init__(self, lines: IO[bytes], answers: Union[IO[bytes], PortLines], name: str) -> None:
+    def __init__(self, lines: IO[bytes], answers: Incoming, name: str) -> None:
         self._lines, self._answers, self._name = lines, answers, name
         self._process: Optional["subprocess.Popen[bytes]"] = None
         self._errors: Optional[IO[bytes]] = None
-        # (replies that nobody has read yet, as after an interrupt from the keyboard)
-        self._owed = 0
+        # How many lines were sent, and whether the replies to the last ones may be unread.
+        self._asked = 0
+        self._has_unread = False
         self.on_line: Optional[Callable[[str, str], None]] = None
         self.on_ask: Optional[Callable[[Sequence[str]], None]] = None
         self.name: Optional[str] = None
@@ -212,7 +257,7 @@ class Session:
             process = children.start(words, pipe, pipe, errors)
             ends.pop_all()
         assert process.stdin is not None and process.stdout is not None
-        session = cls(process.stdin, process.stdout, "rdbg")
+        session = cls(process.stdin, PipeLines(process.stdout), "rdbg")
         session._process, session._errors = process, errors
         return session
 
@@ -303,16 +348,16 @@ class Session:
         if self.on_ask is not None:
             self.on_ask(batch)
         content = "".join(f"{line}\n" for line in batch).encode()
-        # (what was sent is owed, whenever a signal comes: to the main thread, and to no other one)
-        is_main = threading.current_thread() is threading.main_thread()
-        with ENDING.held() if is_main else contextlib.nullcontext():
-            self._owed += len(batch)
+        with signals_held():
+            self._asked += len(batch)
+            self._has_unread = True
             self._send(content)
         for line in batch:
             reply = self._reply()
             if self.on_line is not None:
                 self.on_line(line, reply)
             yield reply
+        self._has_unread = False
 
     def _send(self, content: bytes) -> None:
         """Sends lines. Where the other end has gone, what it said last may say why."""
@@ -321,16 +366,24 @@ class Session:
             self._lines.flush()
 
     def _catch_up(self) -> None:
-        """Reads the replies that an interrupt left unread."""
-        while self._owed:
-            self._reply()
+        """Discards the replies that were left unread, for example because of a signal."""
+        while self._has_unread:
+            have_all_arrived = self._answers.replies >= self._asked
+            while self._answers.has_line():
+                line = self._answers.readline()
+                if line[:1] == NOTICE:
+                    self._hear(line)
+            if have_all_arrived:
+                self._has_unread = False
+            elif not self._answers.fill():
+                self._asked = self._answers.replies
+                raise Failure(self.why_ended())
 
     def _reply(self) -> str:
         reply = self._line()
         while reply[:1] == NOTICE:
             self._hear(reply)
             reply = self._line()
-        self._owed -= 1
         self._last = ""
         return text_of(reply)
 
@@ -341,7 +394,7 @@ class Session:
         except OSError:
             line = b""
         if line[-1:] != b"\n":
-            self._owed = 0
+            self._asked, self._has_unread = self._answers.replies, False
             raise Failure(self.why_ended())
         return line
 
@@ -439,9 +492,9 @@ class Session:
 
     def close(self) -> int:
         """Ends the session, and answers the status of its program; 0 where it was a port."""
-        for stream in (self._lines, self._answers):
+        for close in (self._lines.close, self._answers.close):
             with contextlib.suppress(OSError):
-                stream.close()
+                close()
         status = 0
         if self._process is not None:
             status = self._process.wait()

@@ -44,7 +44,7 @@ class Files(unittest.TestCase):
         ran = self.run_on("A rule of a Makefile", "Makefile", "make", "-n", "model")
         self.assertEqual((ran.returncode, ran.stderr), (0, ""))
         self.assertIn("rdbg check model/a.fw\n", ran.stdout)
-        self.assertIn("rdbg test model --report out/model.xml\n", ran.stdout)
+        self.assertIn("rdbg test model --strict --report out/model.xml\n", ran.stdout)
 
     def test_the_script(self) -> None:
         ran = self.run_on("A script", "script", "sh", "-n", "script")

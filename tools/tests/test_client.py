@@ -1,9 +1,13 @@
 """A session's lines and replies, and how it ends."""
+import os
+import signal
 import socket
 import threading
 import unittest
+from unittest import mock
 
-from rdbg.client import Session
+from rdbg.client import Incoming, Session
+from rdbg.ending import ENDING
 from rdbg.failure import Failure
 from rdbg.replies import Moved, Refused, Unreadable
 from tests import fake
@@ -82,6 +86,38 @@ class Faults(unittest.TestCase):
             with Session.attach(server.getsockname()[1]) as session:
                 with self.assertRaisesRegex(Failure, "has closed the connection"):
                     session.tell("step 0")
+
+
+class Interrupted(unittest.TestCase):
+    """Lines that arrive at the moment of a signal."""
+
+    def setUp(self) -> None:
+        before = signal.signal(signal.SIGINT, ENDING._came)
+        self.addCleanup(signal.signal, signal.SIGINT, before)
+        running = mock.patch.object(ENDING, "is_running", True)
+        running.start()
+        self.addCleanup(running.stop)
+
+    def test_what_has_arrived_is_not_lost(self) -> None:
+        def receive(size: int) -> bytes:
+            os.kill(os.getpid(), signal.SIGINT)
+            return os.read(reader, size)
+
+        reader, writer = os.pipe()
+        self.addCleanup(os.close, reader)
+        os.write(writer, b"ok at 1\nok at ")
+        os.close(writer)
+        lines = Incoming(reader, receive)
+        with self.assertRaises(KeyboardInterrupt):
+            lines.fill()
+        self.assertTrue(lines.has_line())
+        self.assertEqual([b"ok at 1\n", 1], [lines.readline(), lines.replies])
+
+    def test_a_session_goes_on_after_it(self) -> None:
+        with Session.run() as session:
+            replies = session.tell_all(["step 0", "step 0", "back 1"])
+            self.assertEqual("ok at 1", next(replies))
+            self.assertEqual("ok at 2", session.tell("step 0"))
 
 
 if __name__ == "__main__":

@@ -2,7 +2,7 @@
 import io
 from typing import Dict, Iterable, Iterator, Sequence
 
-from rdbg.client import Session
+from rdbg.client import Incoming, Session
 from rdbg.commands import MOST_BYTES
 from rdbg.driving.target import Target
 from rdbg.reaching.asking import QUESTIONS, Question
@@ -25,7 +25,7 @@ class Seated(Session):
     """The session of a member of a room, in this process."""
 
     def __init__(self, member: Member) -> None:
-        super().__init__(io.BytesIO(), io.BytesIO(), "the room")
+        super().__init__(io.BytesIO(), Incoming(-1, io.BytesIO().read), "the room")
         self._member, self.name = member, member.name
 
     def tell_all(self, lines: Iterable[str]) -> Iterator[str]:
