@@ -101,7 +101,7 @@ class Companions(unittest.TestCase):
         (self.top / "tools/tests/__init__.py").touch()
         (self.top / "tools/rdbg").mkdir()
         (self.top / "tools/rdbg/__init__.py").touch()
-        for name in ("companions", "module_tests.py", "repository.py"):
+        for name in ("companions", "module_tests.py", "packages.py", "repository.py"):
             (self.top / "ci" / name).write_bytes((TOP / "ci" / name).read_bytes())
 
     def write_module(self, name: str, text: str) -> None:
