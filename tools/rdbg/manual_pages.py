@@ -9,7 +9,7 @@ from rdbg.main import Entry
 from rdbg.manual import Section, page, page_of, roff
 
 # Words that only a checkout has.
-OF_CHECKOUT = ("install", "uninstall")
+OF_CHECKOUT = ("install", "uninstall", "prove")
 # A line of a table in a help text: what may be written, and two spaces or more before its text.
 ROW = re.compile(r" {2,6}(\S.*?)(?: {2,}(\S.*))?$")
 # What a positional argument that may be missing, or repeated, looks like in a synopsis.

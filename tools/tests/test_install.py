@@ -121,7 +121,7 @@ class Attacks(Case):
         as_nobody("ln", "-s", str(self.victim), str(self.prefix))
         ran = rdbg("install", str(self.prefix))
         self.assertEqual(2, ran.returncode)
-        self.assertIn(f"{self.prefix}: it is a link that another user has laid", ran.stderr)
+        self.assertIn(f"{self.prefix}: it is a link of another user", ran.stderr)
 
     def test_a_folder_that_becomes_a_link_meanwhile(self) -> None:
         module = releases.module("prefix")
@@ -235,7 +235,7 @@ class Uninstall(Case):
             self.assertIn(f"{word} PREFIX\n", rdbg(word).stderr)
             ran = rdbg(word, "--help")
             self.assertIn(
-                f"Usage: ./rdbg {'[--unproved] ' * (word == 'install')}{word}", ran.stdout
+                f"Usage: ./rdbg {'[--proved|--unproved] ' * (word == 'install')}{word}", ran.stdout
             )
             self.assertEqual(2, rdbg(word, "").returncode)
 

@@ -304,7 +304,7 @@ class Goals(Real):
                 self.assertEqual(([], errors, status), talk([self.program, MEETING, *words], given))
 
     def test_neither(self) -> None:
-        why = "rdreach: no goal given (for the line protocol: reach FILE --engine)\n"
+        why = "rdbg reach: no goal given (for the line protocol: reach FILE --engine)\n"
         for words in ("", "--moves 5", "--", "--lost"):
             self.check(words.split(), 2, why)
         for goal in ([""], [" "], ["", ""], ["--", "", "  "]):
@@ -313,7 +313,7 @@ class Goals(Real):
     def test_both(self) -> None:
         why = "--engine takes no goal on the command line: it reads goals from standard input"
         for words in (["asleep", "--engine"], ["--engine", "--", "asleep"], ["", "--engine"]):
-            self.check(words, 2, f"rdreach: {why}\n")
+            self.check(words, 2, f"rdbg reach: {why}\n")
 
     def test_an_engine_without_a_line(self) -> None:
         self.assertEqual(([], "", 0), self.talk(MEETING))

@@ -70,7 +70,7 @@ class Starts(unittest.TestCase):
         ):
             with self.subTest(number), searches.program("", end=SLEEPS) as it:
                 process = subprocess.Popen(
-                    [str(WRAPPER), "reach", LOST, "asleep"],
+                    [str(WRAPPER), "reach", LOST, "failed"],
                     stdin=subprocess.DEVNULL,
                     stdout=subprocess.PIPE,
                     stderr=subprocess.PIPE,

@@ -92,7 +92,7 @@ class Writes(unittest.TestCase):
                     [self.program, MEETING, *words], stdout=full, stderr=subprocess.PIPE
                 )
                 self.assertEqual(2, ran.returncode)
-                self.assertEqual(b"rdreach: cannot write the answer\n", ran.stderr)
+                self.assertEqual(b"rdbg reach: cannot write the answer\n", ran.stderr)
 
 
 if __name__ == "__main__":
