@@ -304,7 +304,7 @@ class Expected(unittest.TestCase):
     """What an answer is held against, and the keys of a case."""
 
     def test_keys_are_those_of_the_page(self) -> None:
-        page = section("COMPANIONS.md", "`test`: a folder of applications with their goals")
+        page = section("COMPANIONS.md", "`test`: check a folder of models")
         table = rows(page, "| Key of a case | What it says |")
         self.assertEqual(set(NAMES), codes([first for first, _ in table]))
 
