@@ -41,13 +41,13 @@ class Files(unittest.TestCase):
 
     @unittest.skipIf(shutil.which("make") is None, "make isn't there")
     def test_the_rule(self) -> None:
-        ran = self.run_on("A rule of a Makefile", "Makefile", "make", "-n", "model")
+        ran = self.run_on("Makefile", "Makefile", "make", "-n", "model")
         self.assertEqual((ran.returncode, ran.stderr), (0, ""))
         self.assertIn("rdbg check model/a.fw\n", ran.stdout)
         self.assertIn("rdbg test model --strict --report out/model.xml\n", ran.stdout)
 
     def test_the_script(self) -> None:
-        ran = self.run_on("A script", "script", "sh", "-n", "script")
+        ran = self.run_on("Shell script", "script", "sh", "-n", "script")
         self.assertEqual((ran.returncode, ran.stderr), (0, ""))
 
     def test_the_files_of_servers(self) -> None:
