@@ -260,7 +260,7 @@ class Names(Held):
             self.assertEqual((stop["reason"], stop["threadId"]), ("exception", uart))
             info = client.ask("exceptionInfo", threadId=uart)
             self.assertEqual((info["exceptionId"], info["breakMode"]), ("SetFull", "always"))
-            self.assertIn("uart failed: SetFull: an item was to be put", info["description"])
+            self.assertIn("uart failed: SetFull: an item was sent", info["description"])
             client.stopped("stepBack", threadId=uart)
             client.refused("exceptionInfo", threadId=uart)
             self.assertEqual(client.stopped("next", threadId=uart)["reason"], "exception")

@@ -11,15 +11,14 @@ from rdbg.adapter.sources import REFERENCE
 from rdbg.adapter.threads import TIME, frame
 from rdbg.adapter.variables import Shown, Variable, named, within
 
-# Why a task has failed, as docs/FORMATS.md has it.
-PLACE = "the task was to wait at the reader's or the writer's place of a buffer that names another"
+# Why a task has failed, in the words of docs/FORMATS.md.
+PLACE = "the task had to wait as the reader or writer of a buffer that already has another one"
 CAUSES: Dict[str, str] = {
-    "SetFull": "an item was to be put into a member of a set that has no space for its handle",
+    "SetFull": "an item was sent to a member of a set that has no space for its handle",
     "TwoReaders": PLACE,
     "TwoWriters": PLACE,
-    "EmptyData": "data of no bytes was to be written to a buffer",
-    "BadBits": "bits above 16,777,215 were to be set, cleared or waited for at an event group, or"
-    " no bits to be waited for",
+    "EmptyData": "the task wrote no bytes to a buffer",
+    "BadBits": "a call on an event group had bits above 16,777,215, or no bits to wait for",
 }
 
 
