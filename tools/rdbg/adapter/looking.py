@@ -17,7 +17,7 @@ CAUSES: Dict[str, str] = {
     "SetFull": "an item was sent to a member of a set that has no space for its handle",
     "TwoReaders": PLACE,
     "TwoWriters": PLACE,
-    "EmptyData": "the task wrote no bytes to a buffer",
+    "EmptyData": "the task wrote empty data to a buffer",
     "BadBits": "a call on an event group had bits above 16,777,215, or no bits to wait for",
 }
 
