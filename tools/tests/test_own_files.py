@@ -347,7 +347,7 @@ class There(Case):
         file = self.folder / "lost.talk"
         for text in ("notes\n", "when", HEAD[:-1], f"#{HEAD}"):
             file.write_text(text)
-            why = f"{file} is there, and is no talk: it stays as it is"
+            why = f"refusing to append to {file}: it exists and is not a talk"
             self.assertEqual(why, keep_talk(str(file)))
             self.assertEqual(text, file.read_text())
 

@@ -53,7 +53,7 @@ class Names(unittest.TestCase):
             left, heard = come(here, "left")
             guest, said = come(here)
             self.assertEqual(heard[0], "# you are left, session 1; here: nobody else")
-            self.assertEqual(heard[1], "# guest1 comes, session 2")
+            self.assertEqual(heard[1], "# guest1 joined, session 2")
             self.assertEqual(said, ["# you are guest1, session 2; here: left"])
             self.assertEqual((left.session, guest.name), (1, "guest1"))
 
@@ -61,14 +61,14 @@ class Names(unittest.TestCase):
         with room() as here:
             left, _ = come(here, "left")
             come(here, "right")
-            with self.assertRaisesRegex(Refusal, "left is here already"):
+            with self.assertRaisesRegex(Refusal, "left is already here"):
                 come(here, "left")
             for name in ("Left", "no", "x" * 17, "a b", "", "a\x1b"):
-                with self.assertRaisesRegex(Refusal, "can't be a name"):
+                with self.assertRaisesRegex(Refusal, "is not a valid name"):
                     come(here, name)
-                with self.assertRaisesRegex(Refusal, "can't be a name"):
+                with self.assertRaisesRegex(Refusal, "is not a valid name"):
                     left.rename(name)
-            with self.assertRaisesRegex(Refusal, "right is here already"):
+            with self.assertRaisesRegex(Refusal, "right is already here"):
                 left.rename("right")
             self.assertEqual(left.name, "left")
 
@@ -114,7 +114,7 @@ class Names(unittest.TestCase):
             self.assertEqual(three.ask("tick"), "ok at 1")
             two, heard = come(here, "two")
             self.assertEqual((two.session, two.ask("show watches")), (2, "watches 0:holds"))
-            with self.assertRaisesRegex(Refusal, "all 2 sessions are taken by who is here"):
+            with self.assertRaisesRegex(Refusal, "all 2 sessions are in use"):
                 come(here, "one")
             two.leave()
             come(here, "one")
@@ -125,7 +125,7 @@ class Names(unittest.TestCase):
             left.leave()
             guests = [come(here)[0] for _ in range(2)]
             self.assertEqual([it.name for it in guests], ["guest1", "guest2"])
-            with self.assertRaisesRegex(Refusal, "all 2 sessions for guests are taken"):
+            with self.assertRaisesRegex(Refusal, "all 2 sessions for guests are in use"):
                 come(here)
             guests[0].ask("watch tick = 1")
             guests[0].leave()
@@ -145,10 +145,10 @@ class Names(unittest.TestCase):
         with room(2) as here:
             left, _ = come(here, "left")
             right, _ = come(here, "right")
-            with self.assertRaisesRegex(Refusal, "^all 2 sessions are taken by who is here$"):
+            with self.assertRaisesRegex(Refusal, "^all 2 sessions are in use$"):
                 come(here)
             right.leave()
-            kept = "^all 2 sessions are taken, or kept for a name that is away$"
+            kept = "^all 2 sessions are in use, or kept for a name that is away$"
             with self.assertRaisesRegex(Refusal, kept):
                 come(here)
             self.assertEqual(come(here, "third")[0].session, right.session)
@@ -157,12 +157,12 @@ class Names(unittest.TestCase):
                 come(here)
         with room(1) as here:
             come(here, "left")
-            with self.assertRaisesRegex(Refusal, "^the one session is taken by who is here$"):
+            with self.assertRaisesRegex(Refusal, "^the one session is in use$"):
                 come(here)
         with room(4) as here:
             for name in ("one", "two", "three", "guest1"):
                 come(here, name)
-            with self.assertRaisesRegex(Refusal, "^all 4 sessions are taken by who is here$"):
+            with self.assertRaisesRegex(Refusal, "^all 4 sessions are in use$"):
                 come(here)
 
     def test_one_that_says_nothing_is_forgotten(self) -> None:
@@ -267,7 +267,7 @@ class Told(unittest.TestCase):
             right.remark("# moves")
             self.assertEqual([row[:3] for row in heard[-3:-1]], ["# 6", "# 7"])
             right.remark("# moves 21")
-            self.assertEqual(heard[-1], "# no: `# moves COUNT`: 1 to 20")
+            self.assertEqual(heard[-1], "# no: `# moves COUNT`: COUNT must be 1 to 20")
 
     def test_what_a_terminal_would_take_for_its_own(self) -> None:
         with room() as here:
@@ -275,7 +275,7 @@ class Told(unittest.TestCase):
             left.remark("# say \x1b[2J\u202eh\xe4 \x07\x9b\x7f")
             self.assertEqual(heard[-1], "# left says: \\x1b[2J\\u202eh\xe4 \\x07\\x9b\\x7f")
             left.remark("# name a\x1b[2J")
-            self.assertTrue(heard[-1].startswith("# no: 'a\\x1b[2J' can't be a name: "))
+            self.assertTrue(heard[-1].startswith("# no: 'a\\x1b[2J' is not a valid name: "))
             self.assertEqual(field("a\tb\\\x1b\n"), "a\\tb\\\\\\x1b\\n")
 
     def test_lines_that_are_none(self) -> None:
@@ -291,7 +291,7 @@ class Told(unittest.TestCase):
         with room(2) as here:
             left, heard = come(here, "left")
             self.assertEqual(left.ask("say hello"), "no Syntax")
-            self.assertEqual(heard[-1], "# a line for the room begins with #: `# say`")
+            self.assertEqual(heard[-1], "# `say` is a line for the room: send `# say`")
 
 
 class Memory(unittest.TestCase):
@@ -376,7 +376,7 @@ class History(unittest.TestCase):
                 for line in ("show moves", "show watches", "show task worker", "redo 1", "back 9"):
                     self.assertEqual(left.ask(line), alone.tell(line), line)
             self.assertEqual(right.ask("step 0"), "no Held 1")
-            told = [it for it in heard if "a new rdbg goes on" in it]
+            told = [it for it in heard if "a new rdbg has taken over" in it]
             self.assertGreater(len(told), 0)
 
     def test_a_history_that_is_full(self) -> None:

@@ -381,7 +381,7 @@ class Follows(unittest.TestCase):
         with mock.patch.object(web_mirror, "begin", begin_and_die), followed(str(LOST)) as here:
             here.room.tell("tick")
             until(lambda: here.follower.lost is not None)
-            why = "the lanes don't follow any more: rdbg has ended, with status -9"
+            why = "the lanes no longer follow the target: rdbg has ended, with status -9"
             self.assertEqual(why, here.follower.lost)
 
     def test_lines_of_all_sorts(self) -> None:

@@ -12,8 +12,8 @@ from tests.rooms import LOST, Caller, Process, free_port, room, rows, talk
 from tests.shell_terminal import Terminal
 from tests.strangers import Clock, before
 
-IDLE = "who started the room has ada, who is idle for {}, give back the wheel: it is free"
-AWAY = "who started the room has ada, who is away, give back the wheel: it is free"
+IDLE = "the room's owner gave back the wheel for ada, who is idle for {}: it is free"
+AWAY = "the room's owner gave back the wheel for ada, who is away: it is free"
 
 
 # The module of a room that tells who is idle.
@@ -47,20 +47,20 @@ class Free(unittest.TestCase):
                 self.assertEqual(says(here, "free"), "# no: nobody has the wheel")
                 ada.ask("wheel take")
                 bo.ask("watch count jobs > 0")
-                refused = "ada has the wheel and isn't idle: 0 seconds without a line"
-                self.assertEqual(says(here, "free"), f"# no: {refused}, 1 second would do")
+                refused = "ada has the wheel and is not idle: its last line came 0 seconds ago"
+                self.assertEqual(says(here, "free"), f"# no: {refused}, and the limit is 1 second")
                 self.assertEqual(bo.ask("step 0"), "no Held 1")
                 self._wait_with_looks(ada, clock)
                 told = IDLE.format("1 second")
                 self.assertEqual(says(here, "free"), f"# {told}")
                 for each in (ada, bo):
-                    self.assertEqual(each.expect("# who"), f"# {told}")
+                    self.assertEqual(each.expect("# the room's"), f"# {told}")
                 self.assertEqual(bo.ask("step 0"), "ok at 1")
                 self.assertEqual(ada.ask("step 1"), "ok at 2")
             self.assertEqual(here.end(), 0)
             kept = [(line, reply) for who, line, reply in rows(file) if who == "room"]
             self.assertIn(("# free", told), kept)
-            self.assertIn(("# free", f"no: {refused}, 1 second would do"), kept)
+            self.assertIn(("# free", f"no: {refused}, and the limit is 1 second"), kept)
 
     def _wait_with_looks(self, ada: Caller, clock: Clock) -> None:
         """Lets more than a second pass, while a prompt looks by itself: who is at it is idle."""
@@ -86,20 +86,20 @@ class Free(unittest.TestCase):
                 clock.move(0.8)
                 ada.send(line)
                 hears.expect(answer)
-                self.assertRegex(says(here, "free"), "^# no: ada has the wheel and isn't idle: ")
+                self.assertRegex(says(here, "free"), "^# no: ada has the wheel and is not idle: ")
 
     def test_a_minute_where_nothing_else_is_said(self) -> None:
         with room(keys=subprocess.PIPE) as here, Caller(here.port, "ada") as ada:
             ada.ask("wheel take")
-            self.assertRegex(says(here, "free"), "0 seconds without a line, 60 seconds would do$")
+            self.assertRegex(says(here, "free"), "came 0 seconds ago, and the limit is 60 seconds$")
 
     def test_one_who_is_away(self) -> None:
         with room(keys=subprocess.PIPE) as here, Caller(here.port, "bo") as bo:
             with Caller(here.port, "ada") as ada:
                 ada.ask("wheel take")
-            bo.expect("# ada is away, with the wheel")
+            bo.expect("# ada is away and still has the wheel")
             self.assertEqual(says(here, "# free"), f"# {AWAY}")
-            self.assertEqual(bo.expect("# who"), f"# {AWAY}")
+            self.assertEqual(bo.expect("# the room's"), f"# {AWAY}")
             self.assertEqual(bo.ask("tick"), "ok at 1")
 
     def test_a_pipe_that_says_something_else_and_ends(self) -> None:
@@ -133,7 +133,7 @@ class Free(unittest.TestCase):
     def test_nobody_is_called_as_the_room(self) -> None:
         with room() as here, Caller(here.port, "ada") as ada:
             ada.send("# name room")
-            ada.expect("# no: 'room' can't be a name: the room says it itself")
+            ada.expect("# no: 'room' is not a valid name: the room uses this word itself")
 
 
 class AtATerminal(unittest.TestCase):
@@ -155,7 +155,7 @@ class AtATerminal(unittest.TestCase):
         clock = Clock(IDLE_CLOCK)
         self.addCleanup(clock.__exit__)
         terminal = self.terminal("--idle", "1", head=before(clock.action))
-        usage = "# `free` gives back the wheel of who is away, or idle for 1 second\n"
+        usage = "# type `free` to free the wheel if its holder is away, or idle for 1 second\n"
         terminal.expect(usage)
         with Caller(self.port, "ada") as ada:
             ada.ask("wheel take")
@@ -164,7 +164,7 @@ class AtATerminal(unittest.TestCase):
             clock.move(1.1)
             terminal.type("free\n")
             terminal.expect(f"# {IDLE.format('1 second')}\n")
-            ada.expect("# who started the room has ada")
+            ada.expect("# the room's owner gave back the wheel for ada")
             terminal.type("\x04")
             self.assertEqual(ada.ask("tick"), "ok at 1")
             terminal.type("\x03")

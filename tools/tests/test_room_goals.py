@@ -92,8 +92,8 @@ class Goals(unittest.TestCase):
         expected = [
             "at 5 met: count jobs = 1 and not waits worker",
             "at 1 met: waits worker recv jobs",
-            "no: 'waits worker' wasn't met before; at 1 still",
-            "no: 'asleep' wasn't met in 9 moves; at 1 still",
+            "no: 'waits worker' was not met before; still at 1",
+            "no: 'asleep' was not met in 9 moves; still at 1",
             "at 5 met: wakes worker",
             "at 0 met: not waits worker",
             "moves 0 undone 5 kept 0",

@@ -72,8 +72,8 @@ class Hostile(unittest.TestCase):
                 other.sendall(b"# name deaf\nwheel take\n" + b"show cores\n" * 20_000)
                 left.expect("# deaf comes")
                 self.assertEqual(left.ask("tick"), "no Held 2")
-                word = "it doesn't read its answers"
-                left.expect(f"# deaf is away, with the wheel (dropped: {word})")
+                word = "it does not read its replies"
+                left.expect(f"# deaf is away and still has the wheel (dropped: {word})")
 
     def test_one_that_reads_late(self) -> None:
         with mock.patch.object(client, "MOST_UNREAD", FEW), mock.patch.object(
@@ -95,7 +95,7 @@ class Hostile(unittest.TestCase):
                 left.send("# say now")
                 while b"# left says: now\n" not in heard:
                     heard += other.recv(65_536)
-                missed = re.search(rb"\n# (\d+) notices are left out here", heard)
+                missed = re.search(rb"\n# (\d+) notices were dropped here", heard)
                 assert missed is not None
                 self.assertEqual(heard.count(b"# loud says") + int(missed[1]), 4_001)
 
@@ -119,7 +119,7 @@ class Hostile(unittest.TestCase):
     def test_remarks_by_the_hundred(self) -> None:
         with served() as (port, _), Caller(port, "left") as left, Caller(port, "loud") as loud:
             loud.send(*[f"# say {number}" for number in range(300)])
-            loud.expect("# no: 20 remarks of one are answered in a second, and no more")
+            loud.expect("# no: more than 20 requests to the room in a second")
             loud.send("tick")
             told: List[str] = []
             while not told or not told[-1].startswith("# loud: tick"):

@@ -25,12 +25,12 @@ class Moving(OnPage):
             self.assertEqual(6, len(self.rows("#moves")))
             right.tell("back 4")
             self.at(2)
-            self.assertIn("4 moves taken back", self.browser.text("#about"))
+            self.assertIn("4 moves undone", self.browser.text("#about"))
             self.assertEqual("6", self.value("document.querySelector('#slider').max"))
             left.tell("tick")
             self.at(3)
             self.assertEqual("3", self.value("document.querySelector('#slider').max"))
-            self.assertNotIn("taken back", self.browser.text("#about"))
+            self.assertNotIn("undone", self.browser.text("#about"))
             self.assertIn("closed", room.end_well())
 
     def test_the_page_moves(self) -> None:

@@ -35,8 +35,8 @@ from tests.web_rooms import (
 
 ADDRESS = r"http://127\.0\.0\.1:\d+/#[\w-]{32}"
 NOBODY = (
-    "This is a room of rdbg, and this address does not let anybody in: each works once."
-    " Open the address that the room printed last, at its terminal or in its file."
+    "This address does not let you into the room: each address works only once."
+    " Open the address that the room printed last, on its terminal or in its file."
 )
 
 
@@ -273,12 +273,12 @@ class Once(OnPage):
 
     def test_a_room_that_cannot_say_its_next_address(self) -> None:
         self.spares_errors = True
-        why = "the room can't say its next address: No space left on device"
+        why = "the room cannot print its next address: No space left on device"
         with in_process(LOST) as (_, address):
             with mock.patch.object(Key, "use", side_effect=Denied(503, why)):
                 self.browser.visit(address)
                 self.browser.until("document.body.innerText.startsWith('rdbg')")
-                self.assertEqual(f"rdbg: {why}: load this page again", self.browser.text("body"))
+                self.assertEqual(f"rdbg: {why}: reload this page", self.browser.text("body"))
             self.browser.call("Page.reload")
             self.browser.until(f"document.querySelector({COMING!r}) !== null")
 

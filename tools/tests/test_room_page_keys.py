@@ -36,7 +36,7 @@ class Keys(OnPage):
             left.tell("back 3")
             self.at(3)
             self.browser.key("End")
-            self.assertIn(", taken back (the target is at 3)", self.browser.text("#readout"))
+            self.assertIn(", undone (the target is at 3)", self.browser.text("#readout"))
             left.tell("tick")
             self.browser.until(
                 "document.querySelector('#readout').textContent.startsWith('4: tick')"
@@ -97,7 +97,9 @@ class Keys(OnPage):
             self.value("document.activeElement.blur()")
             self.browser.key("?")
             self.assertTrue(self.value("document.querySelector('#help').open"))
-            self.assertIn("step the core in turn; let a tick pass", self.browser.text("#help"))
+            self.assertIn(
+                "step the core whose turn it is; let a tick pass", self.browser.text("#help")
+            )
             self.browser.key("k")
             self.browser.key("Escape")
             self.assertFalse(self.value("document.querySelector('#help').open"))
@@ -117,7 +119,7 @@ class Keys(OnPage):
                 ("stepp 1", "stepp 1 -> no Syntax: "),
                 ("back 7", "back 7 -> no TooFar 1: only 1 moves can be taken back: `goto 0`"),
                 ("# say <b>hello</b>", "web says: <b>hello</b>"),
-                ("# none", "no: a line that begins with #"),
+                ("# none", "no: unknown request; a line that begins with #"),
             ):
                 self.browser.call("Input.insertText", text=line)
                 self.browser.key("Enter")
@@ -153,7 +155,7 @@ class Keys(OnPage):
             self.visit(room)
             self.fill("#name", "left")
             self.browser.key("Enter")
-            self.said("rename left -> left is here already")
+            self.said("rename left -> left is already here")
             self.fill("#name", "ada")
             self.browser.key("Enter")
             self.browser.until("document.querySelector('#people').textContent.includes('ada')")

@@ -71,7 +71,7 @@ class Long(OnPage):
             room.end(signal.SIGKILL)
             self.browser.until("document.querySelector('#connection').textContent !== ''")
             self.assertEqual(["save-talk"], self.named("button:not(nav *)"))
-            text = "The room doesn't answer: trying again .."
+            text = "The room does not answer. Trying again .."
             self.assertEqual(text, self.browser.text("#connection"))
             self.value("new Promise((done) => setTimeout(done, 2500))")
             (told,) = self.browser.texts("#talk .refused")

@@ -33,7 +33,7 @@ class Runs(OnPage):
             self.at(76)
             self.browser.until("document.querySelector('#slider').min === '0'")
             self.assertEqual("96", self.value("document.querySelector('#slider').max"))
-            self.assertIn("20 moves taken back", self.browser.text("#about"))
+            self.assertIn("20 moves undone", self.browser.text("#about"))
             self.browser.key("Home")
             self.browser.key("e")
             self.assertEqual("6: poke reg poller 3 7", self.browser.text("#readout").split(" (")[0])
@@ -50,10 +50,10 @@ class Runs(OnPage):
             self.wheel("You")
             self.browser.visit("about:blank")
             end = time.monotonic() + 20
-            while "# web is away, with the wheel" not in heard and time.monotonic() < end:
+            while "# web is away and still has the wheel" not in heard and time.monotonic() < end:
                 left.tell("show moves")
                 time.sleep(0.05)
-            self.assertIn("# web is away, with the wheel", heard)
+            self.assertIn("# web is away and still has the wheel", heard)
             self.assertEqual("no Held 2", left.tell("step 0"))
             self.visit(room)
             self.wheel("You")
@@ -81,7 +81,7 @@ class People(OnPage):
             )
             self.assertEqual("", other.text("#watches"))
             self.assertEqual(
-                "ada has the wheel, and is away: your moves are refused.", other.text("#wheel")
+                "ada has the wheel and is away: your moves are refused.", other.text("#wheel")
             )
             # (who was there has it all again, and isn't asked)
             self.assertFalse(come_in(self.browser, room.address, "eve"))
@@ -93,9 +93,9 @@ class People(OnPage):
         with web_room() as room, session(room, "left"):
             self.browser.visit(room.address)
             for name, why in (
-                ("left", "left is here already"),
-                ("Ada!", "'Ada!' can't be a name"),
-                ("", "'' can't be a name"),
+                ("left", "left is already here"),
+                ("Ada!", "'Ada!' is not a valid name"),
+                ("", "'' is not a valid name"),
             ):
                 self.browser.until(f"document.querySelector({COMING!r}) !== null")
                 say_name(self.browser, name)
@@ -116,7 +116,7 @@ class People(OnPage):
                 # (as where one browser has the page twice)
                 self.browser.visit(room.address)
                 self.browser.until(f"document.querySelector({COMING!r}) !== null")
-                self.assertEqual("ada is here already", self.browser.text("#come .why"))
+                self.assertEqual("ada is already here", self.browser.text("#come .why"))
                 say_name(self.browser, "bo")
                 self.browser.until("document.querySelector('#people').textContent.includes('bo')")
                 self.at(0)

@@ -58,14 +58,14 @@ class Said(OnPage):
             self.browser.key("1")
             self.at(1)
             self.click("#reload")
-            self.said("no: who has the wheel reads the file anew: `wheel take`")
+            self.said("no: reloading the file needs the wheel: `wheel take`")
             self.browser.key("h")
             self.wheel("You have")
             path.write_text(path.read_text().replace('"poller"', '"polls"'))
             self.click("#reload")
             self.browser.until("document.querySelector('#tasks')?.textContent.includes('polls')")
             self.at(1)
-            self.said("web has the file read anew: all 1 moves are the same on")
+            self.said("web reloaded the file: all 1 moves are the same on")
             self.wheel("You have")
 
 

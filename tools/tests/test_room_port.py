@@ -9,7 +9,7 @@ class Callers(unittest.TestCase):
 
     def test_replies_and_notices(self) -> None:
         with room() as here, Caller(here.port, "left") as left, Caller(here.port, "right") as right:
-            self.assertEqual(left.expect("# right"), "# right comes, session 2")
+            self.assertEqual(left.expect("# right"), "# right joined, session 2")
             self.assertEqual(right.ask("step 1"), "ok at 1")
             self.assertEqual(left.expect("#"), "# right: step 1 -> ok at 1, producer 0 data 41")
             left.send("forward 2")
@@ -25,12 +25,12 @@ class Callers(unittest.TestCase):
         with room() as here, Caller(here.port, "left") as left, Caller(here.port) as guest:
             self.assertEqual(guest.expect("#"), "# you are guest1, session 2; here: left")
             self.assertEqual(guest.ask("tick"), "ok at 1")
-            self.assertEqual(left.expect("#"), "# guest1 comes, session 2")
+            self.assertEqual(left.expect("#"), "# guest1 joined, session 2")
             self.assertEqual(left.expect("#")[:38], "# guest1: tick -> ok at 1, tick 1, pol")
 
     def test_one_that_says_nothing_is_told_after_a_moment(self) -> None:
         with room() as here, Caller(here.port, "left") as left, Caller(here.port):
-            self.assertEqual(left.expect("#"), "# guest1 comes, session 2")
+            self.assertEqual(left.expect("#"), "# guest1 joined, session 2")
 
     def test_remarks(self) -> None:
         with room() as here, Caller(here.port, "left") as left, Caller(here.port, "right") as right:
@@ -38,8 +38,8 @@ class Callers(unittest.TestCase):
             left.expect("# here: left (session 1), right (session 2)")
             left.expect("# left says: see you")
             left.expect("# no: the wheel is free")
-            left.expect("# no: right is here already")
-            left.expect("# no: a line that begins with # is `# name NAME`, ")
+            left.expect("# no: right is already here")
+            left.expect("# no: unknown request; a line that begins with # is `# name NAME`, ")
             right.expect("# left says: see you")
             right.expect("# left: wheel take -> ok wheel")
             right.send("# who")
@@ -73,14 +73,14 @@ class Wheel(unittest.TestCase):
         with room() as here, Caller(here.port, "right") as right:
             with Caller(here.port, "left") as left:
                 left.ask("wheel take")
-            right.expect("# left is away, with the wheel")
+            right.expect("# left is away and still has the wheel")
             right.send("step 0")
             right.expect("# left has the wheel and is away: ")
             right.expect("no Held 2")
             right.send("# wheel")
-            right.expect("# left is away with it: `# wheel` once more gives it back")
+            right.expect("# left is away: send `# wheel` again to free the wheel")
             right.send("# wheel")
-            right.expect("# right has left, who is away, give back the wheel: it is free")
+            right.expect("# right gave back the wheel for left, who is away: it is free")
             self.assertEqual(right.ask("step 0"), "ok at 1")
 
     def test_a_lost_terminal_has_its_wheel_again(self) -> None:
@@ -89,9 +89,9 @@ class Wheel(unittest.TestCase):
                 left.ask("wheel take")
                 left.ask("watch count jobs > 0")
                 left.connection.sendall(b"step 1\nstep")
-            right.expect("# left is away, with the wheel")
+            right.expect("# left is away and still has the wheel")
             with Caller(here.port, "left") as left:
-                right.expect("# left comes, session 2")
+                right.expect("# left joined, session 2")
                 self.assertEqual(left.ask("show watches"), "watches 0:fails")
                 self.assertEqual(left.ask("step 1"), "ok at 2")
 

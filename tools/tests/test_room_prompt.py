@@ -23,7 +23,7 @@ class Prompts(unittest.TestCase):
             left.expect(PROMPT)
             right = Terminal(*words, "right", environment=environment)
             try:
-                left.expect(r"# right comes, session 2\n" + PROMPT)
+                left.expect(r"# right joined, session 2\n" + PROMPT)
                 right.expect(PROMPT)
                 right.type("show mo")
                 right.expect("show mo")
@@ -143,7 +143,7 @@ class Prompts(unittest.TestCase):
                 self.assertIn("ok watch 0", left.ask("break count jobs > 0"))
             finally:
                 left.kill()
-            right.expect("# left is away, with the wheel")
+            right.expect("# left is away and still has the wheel")
             self.assertEqual(right.ask("step 0"), "no Held 2")
             again = Terminal(*words, environment=environment)
             try:
@@ -198,7 +198,7 @@ class Prompts(unittest.TestCase):
     def test_a_name_that_is_here(self) -> None:
         with room() as here, Caller(here.port, "left"):
             words = [sys.executable, "-B", str(COMPANION), "sh", "--port", str(here.port), "--name"]
-            for name, why in (("left", "left is here already"), ("L", "'L' can't be a name: ")):
+            for name, why in (("left", "left is already here"), ("L", "'L' is not a valid name: ")):
                 ran = subprocess.run([*words, name], stderr=subprocess.PIPE, text=True)
                 self.assertEqual(ran.returncode, 2)
                 self.assertIn(f"rdbg sh: the server at port {here.port}: {why}", ran.stderr)

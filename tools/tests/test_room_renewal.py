@@ -110,12 +110,16 @@ class Renewal(unittest.TestCase):
             self.assertEqual(30, len(found))
             for line in ("show moves", "show watches", "show task worker"):
                 self.assertEqual(alone.tell(line), left.ask(line))
-            told = [it for it in heard if "no new rdbg goes on yet, which is tried again" in it]
+            told = [
+                it
+                for it in heard
+                if "cannot start a new rdbg with an empty history (trying again)" in it
+            ]
             self.assertEqual(1, len(told), heard)
             self.assertRegex(
                 told[0], r"somebody else connected to port \d+ first, from port \d+ of "
             )
-            self.assertTrue([it for it in heard if "a new rdbg goes on from here" in it], heard)
+            self.assertTrue([it for it in heard if "a new rdbg has taken over" in it], heard)
             self.assertNotIn("no HistoryFull", heard)
 
     def test_others_come_first_until_the_history_is_full(self) -> None:

@@ -17,7 +17,7 @@ from tests.paths import COMPANION
 from tests.rooms import LOST, PATIENCE, Caller, free_port, room
 from tests.test_room_hostile import served
 
-NO_THREAD = "# no: the system has no thread left for one more connection"
+NO_THREAD = "# no: the system cannot start a thread for another connection"
 
 
 def limited(limit: str) -> List[str]:

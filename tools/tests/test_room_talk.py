@@ -233,7 +233,7 @@ class Doings(unittest.TestCase):
         self.do(self.ada, "# does rc stuck", "tick", "tick")
         self.ada.leave()
         self.assertEqual(self.heard, ["# ada: rc stuck -> ok at 2", "# ada is away"])
-        self.assertEqual(of("ada", self.file), [("rc stuck", "broken off, at 2")])
+        self.assertEqual(of("ada", self.file), [("rc stuck", "interrupted, at 2")])
 
     def test_more_than_can_be_said_in_a_second(self) -> None:
         for number in range(50):

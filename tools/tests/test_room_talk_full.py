@@ -117,14 +117,14 @@ class Told(unittest.TestCase):
             with Caller(here.port, "left") as left, Caller(here.port, "right") as right:
                 self.fill(here, left)
                 why = f"cannot write the talk to {file}: {NO_SPACE}"
-                full = f"{why}; its rows wait in memory (trying again)"
+                full = f"{why}; its rows are kept in memory until it can be written"
                 for caller in (left, right):
                     caller.expect(f"# {full}")
                 left.send("tick")
                 right.expect("# left: tick -> ok at 1")
                 limit(here)
                 # (nobody says a line)
-                again = "the talk is written again; missing: nothing"
+                again = "the talk can be written again; missing: nothing"
                 for caller in (left, right):
                     caller.expect(f"# {again}")
             self.assertEqual(here.end(), 0)

@@ -64,9 +64,12 @@ class Typed(unittest.TestCase):
                 ("back 7", "no TooFar 0: no move is done: this is boot"),
                 ("redo 1", "no NothingUndone: "),
                 ("unwatch 4", "no NoWatch: the session has no watch of this number"),
-                ("save moves.commands", "no: `save` alone gives the moves to the browser"),
+                (
+                    "save moves.commands",
+                    "no: a page writes no files; `save` alone downloads the moves",
+                ),
                 ("source /etc/passwd", "no: a page reads and writes no files"),
-                ("quit", "no: who closes the page is away"),
+                ("quit", "no: close the page to leave the room"),
             ):
                 with self.subTest(line):
                     reply = page.ask(line)
@@ -124,7 +127,7 @@ class Reloaded(unittest.TestCase):
             page.ask("reload")
             said = self.told(heard, "anew")
             self.assertEqual(
-                f"# ada has the file read anew: all 5 moves are the same on {self.path}, at 5", said
+                f"# ada reloaded the file: all 5 moves are the same on {self.path}, at 5", said
             )
             self.assertEqual(
                 "queue jobs 1/1 items 42 recv - send - set -", other.ask("show queue jobs")
@@ -132,7 +135,7 @@ class Reloaded(unittest.TestCase):
             self.assertEqual("watches 0:fails", other.ask("show watches"))
             self.assertEqual("no Held 2", other.ask("tick"))
             self.assertTrue(page.ask("back 1").startswith("ok at 4"))
-            self.told(heard, "the history before: closed ")
+            self.told(heard, "audit of the previous rdbg: closed ")
 
     def test_the_first_that_differs(self) -> None:
         with page_of(str(self.path)) as (room, page, other, heard):
@@ -146,8 +149,8 @@ class Reloaded(unittest.TestCase):
             self.path.write_text(json.dumps(text))
             page.ask("reload")
             said = self.told(heard, "anew")
-            self.assertIn("read anew: 0 of 4 moves are the same on", said)
-            self.told(heard, "w0 of bo, count jobs > 0, is dropped: no NoSuch")
+            self.assertIn("reloaded the file: 0 of 4 moves are the same on", said)
+            self.told(heard, "watch w0 of bo (count jobs > 0) was dropped: no NoSuch")
             self.assertEqual("moves 0 undone 0 kept 0", other.ask("show moves"))
             self.assertEqual("watches -", other.ask("show watches"))
             self.assertEqual(["0"], [it.split()[1] for it in [other.ask("show moves")]])
@@ -186,7 +189,7 @@ class Reloaded(unittest.TestCase):
             kinds = dict(again.take(room, served.follower))
             self.assertIn('"done":2', kinds["run"])
             self.assertIn("polls", kinds["run"])
-            self.assertIn("has the file read anew", kinds["past"])
+            self.assertIn("reloaded the file", kinds["past"])
             served.pages.close(again)
         finally:
             audits = room.close()

@@ -226,7 +226,7 @@ class LetIn(unittest.TestCase):
             [f"Host: localhost:{port}"],
             [f"Host: [::1]:{port}"],
         ]
-        why = f"rdbg: this page is served as http://{LOCAL}:{port}/ only\n".encode()
+        why = f"rdbg: this page is only served as http://{LOCAL}:{port}/\n".encode()
         for heads in others:
             for it in (path, "/"):
                 answer = asked(self.here, "GET", it, None, *heads)
@@ -340,14 +340,16 @@ class Lines(unittest.TestCase):
         with served(6) as here, page(here) as (raw, key), page(here) as (other, _):
             self.assertEqual("web2", other.expect("who")["name"])
             self.assertIn("here already", said(here, "name", page=key, name="web2")["refused"])
-            self.assertIn("can't be", said(here, "name", page=key, name="<b>")["refused"])
+            self.assertIn(
+                "is not a valid name", said(here, "name", page=key, name="<b>")["refused"]
+            )
             self.assertEqual({}, said(here, "name", page=key, name="ada"))
             self.assertEqual("ada", raw.expect("who", "ada")["name"])
             other.expect("notice", "web is ada now")
             with Raw(here) as late:
                 ask = f"GET /{here.token}/events?name=ada HTTP/1.1\r\n{host(here)}\r\n\r\n"
                 late.send(ask.encode())
-                self.assertEqual("ada is here already", late.expect("refused"))
+                self.assertEqual("ada is already here", late.expect("refused"))
                 self.assertNotIn(b"event: ", late.rest())
 
     def test_one_that_goes_is_away_and_has_its_session_again(self) -> None:
@@ -357,7 +359,7 @@ class Lines(unittest.TestCase):
                 self.assertEqual(
                     {"reply": "ok watch 0"}, said(here, "line", page=key, line="watch tick > 0")
                 )
-            left.expect("notice", "ada is away, with the wheel")
+            left.expect("notice", "ada is away and still has the wheel")
             self.assertIn("has left", said(here, "line", page=key, line="step 0")["refused"])
             with page(here, "ada") as (raw, key):
                 self.assertEqual(
@@ -370,7 +372,7 @@ class Lines(unittest.TestCase):
             with page(here) as (_, key):
                 said(here, "line", page=key, line="wheel take")
                 said(here, "line", page=key, line="watch tick > 0")
-            left.expect("notice", "web is away, with the wheel")
+            left.expect("notice", "web is away and still has the wheel")
             with page(here) as (raw, key):
                 who = raw.expect("who")
                 self.assertEqual(("web2", {}), (who["name"], who["watches"]))
@@ -392,7 +394,7 @@ class Lines(unittest.TestCase):
             for place in ("", "-1", "1.5", "\u00b2", "\u0663", "9" * 3_000, "x", "4294967296"):
                 for name in ("before", "behind"):
                     answer = said(here, name, **{"page": key, name: place})
-                    self.assertIn("is no place", answer["refused"], place[:9])
+                    self.assertIn("is not a place", answer["refused"], place[:9])
             for name, place in (("before", "0"), ("behind", "300"), ("before", "301")):
                 self.assertEqual({}, said(here, name, **{"page": key, name: place}))
             first = here.follower.values()["blocks"][0]["first"]  # type: ignore[index]
@@ -526,7 +528,7 @@ class Hostile(unittest.TestCase):
                 with Raw(here) as raw:
                     ask = f"GET /{here.token}/events HTTP/1.1\r\n{host(here)}\r\n\r\n".encode()
                     raw.send(ask)
-                    self.assertEqual("3 pages are open already", raw.expect("refused"))
+                    self.assertEqual("3 pages are already open", raw.expect("refused"))
                 raws[0].connection.close()
                 raws[1].expect("notice", "web is away")
                 with page(here) as (raw, _):
@@ -562,7 +564,7 @@ class Hostile(unittest.TestCase):
                 late.hear(f"# {number}")
             notices = [text for kind, text in late.take(room, followed) if kind == "notice"]
             self.assertEqual(1 + web_pages.MOST_NOTICES, len(notices))
-            self.assertIn("5 notices before these weren't kept", notices[0])
+            self.assertIn("5 earlier notices were dropped", notices[0])
             self.assertEqual(['"# 5"', '"# 6"'], notices[1:3])
             pages.close(late)
         finally:

@@ -51,8 +51,8 @@ class Words(unittest.TestCase):
                     "# to bo: you there?",
                     "bo is away; here: ada (session 1), cy (session 3); away: ",
                 ),
-                ("# to dan: hello", "nobody has this name; here: ada (session 1)"),
-                ("# to cy", "`# to NAME: TEXT`: say what to whom?"),
+                ("# to dan: hello", "nobody is called dan; here: ada (session 1)"),
+                ("# to cy", "`# to NAME: TEXT` needs a name and a text"),
             ):
                 ada.remark(line)
                 self.assertTrue(own[-1].startswith(f"# no: {why}"), own[-1])
@@ -76,10 +76,10 @@ class Words(unittest.TestCase):
             self.assertEqual([it.split("Z ")[1] for it in heard[:2]], texts)
             self.assertRegex(heard[0], r"^# \d\d:\d\d:\d\dZ ada: step 1")
             self.assertEqual(
-                [it.split("Z ")[-1] for it in heard[2:]], ["bo comes, session 2", "# at 1"]
+                [it.split("Z ")[-1] for it in heard[2:]], ["bo joined, session 2", "# at 1"]
             )
             late.remark("# talk 0")
-            self.assertEqual(heard[-1], "# no: `# talk COUNT`: 1 to 20")
+            self.assertEqual(heard[-1], "# no: `# talk COUNT`: COUNT must be 1 to 20")
 
     def test_who_is_idle(self) -> None:
         # (no second passes, however long it takes)

@@ -62,7 +62,9 @@ class Client:
                 self._missed += 1
                 return
             if self._missed:
-                self._put(f"# {self._missed} notices are left out here, for it read too little")
+                self._put(
+                    f"# {self._missed} notices were dropped here: this client read too slowly"
+                )
                 self._missed = 0
             self._put(notice)
 
@@ -104,7 +106,7 @@ class Client:
             while len(self._out) > SLOW and not self._is_ending:
                 sent = self._sent
                 if not self._changed.wait_for(lambda: self._sent > sent or self._is_ending, STUCK):
-                    raise Refusal("it doesn't read its answers")
+                    raise Refusal("it does not read its replies")
 
     def lines(self) -> Iterator[Optional[bytes]]:
         """The lines that come, up to the end, of one that is too long the beginning; none where for

@@ -105,7 +105,7 @@ class Host:
                     host.kill()
                     raise
                 if not is_again:
-                    raise Failure(said or "rdbg serve ended at once")
+                    raise Failure(said or "rdbg serve exited at once")
                 if time.monotonic() > until:
                     raise Hindered(said)
 
@@ -199,7 +199,7 @@ class Host:
         clients = {} if self._is_apart else owners.clients_of(port)
         self.kill()
         users = {it: f"user {number}" for it, number in clients.items() if number is not None}
-        unknown = "a user who is not known any more"
+        unknown = "an unknown user"
         theirs = sorted(set(clients) - self._ours)
         named = [f"port {it} of {users.get(it, unknown)}" for it in theirs]
         if not named:

@@ -1,4 +1,4 @@
-"""What is typed where a room was started: `free` has the wheel given back."""
+"""The standard input of a room: the line `free` gives back the wheel of a member who is away."""
 import errno
 import os
 import signal
@@ -45,9 +45,9 @@ def lines_of(number: int) -> Iterator[str]:
 
 
 def usage(room: Room) -> str:
-    """What can be typed."""
+    """Returns what can be typed."""
     idle = counted(room.idle, "second")
-    return f"`{FREE}` gives back the wheel of who is away, or idle for {idle}"
+    return f"type `{FREE}` to free the wheel if its holder is away, or idle for {idle}"
 
 
 def hear(room: Room, number: int) -> None:

@@ -72,7 +72,7 @@ class Member:
         """Raises `Refusal` where it has said too much to the room within a second."""
         now = time.monotonic()
         if len(self._told_at) == MOST_TOLD and now - self._told_at[0] < 1:
-            raise Refusal(f"{MOST_TOLD} remarks of one are answered in a second, and no more")
+            raise Refusal(f"more than {MOST_TOLD} requests to the room in a second")
         self._told_at.append(now)
 
     def says(self) -> None:

@@ -15,7 +15,7 @@ from rdbg.rooms.room import Refusal, Room
 
 # The most connections at a time.
 MOST = 128
-NO_THREAD = "the system has no thread left for one more connection"
+NO_THREAD = "the system cannot start a thread for another connection"
 # How long the room waits at its end for clients that still read.
 PATIENCE = 2.0
 
@@ -69,7 +69,7 @@ class Port(Entrance):
             return False
         if len(self._guests) < MOST or (self.door.token and self.unread.drop_oldest()):
             return True
-        refuse(request, self.refusal(f"{MOST} connections are here already"))
+        refuse(request, self.refusal(f"there are already {MOST} connections"))
         return False
 
     def process_request(self, request: Any, client_address: Any) -> None:
@@ -113,7 +113,9 @@ class Port(Entrance):
     def _greet(self, guest: Client) -> None:
         """Makes a new connection a guest, or asks for the token first."""
         if self.door.token:
-            guest.hear(f"# say `{TOKEN} ..` first, as it was said where the room was started")
+            guest.hear(
+                f"# send `{TOKEN} ..` first, with the token that the room printed when it started"
+            )
         else:
             self.unread.remove(guest.connection)
             self._let_in(guest)
@@ -123,7 +125,9 @@ class Port(Entrance):
         try:
             guest.member = self.room.join(None, guest.hear, is_told=False)
         except Refusal as refusal:
-            guest.hear(f"# you are nobody yet: {refusal}; `# name NAME` comes by a name")
+            guest.hear(
+                f"# you have no session yet: {refusal}; send `# name NAME` to join by a name"
+            )
 
     def _line(self, guest: Client, line: Optional[bytes]) -> None:
         """Executes one line of a connection, whose first line may refuse it, or does what is due if
@@ -151,7 +155,7 @@ class Port(Entrance):
         """Announces a silent connection as a guest, or ends it if it is none."""
         if guest.member is None:
             lacks_token = self.door.token and not guest.has_spoken
-            raise Refusal(f"it has said no {'token' if lacks_token else 'name'}")
+            raise Refusal(f"it sent no {'token' if lacks_token else 'name'} in time")
         guest.member.announce()
 
     def _goes_on_behind(self, guest: Client, line: bytes) -> bool:

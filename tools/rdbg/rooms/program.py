@@ -139,7 +139,7 @@ class Program:
             with self._asking(seat) as target:
                 part = look_through(target, here - count + 1, here)
         except Refused as refused:
-            return [f"the target is at {self.place}: what tells moves was answered no {refused}"]
+            return [f"the target is at {self.place}: its moves cannot be described (no {refused})"]
         self._seen = part.looks[-1]
         more = [f".. {counted(made - count, 'move')} before these"] if made > count else []
         return more + trail.rows(part.moves)
@@ -195,7 +195,7 @@ class Program:
             before = self._ask_all(self._seats[0], checks)
             for was, reply in zip(before, host.tell_all(1, checks)):
                 if reply != was != FULL:
-                    raise Failure(f"the new rdbg shows {reply}, and the old one {was}")
+                    raise Failure(f"the new rdbg shows {reply} instead of {was}")
         except BaseException:
             host.kill()
             raise
@@ -229,4 +229,6 @@ def watch_again(host: Host, seat: Seat) -> List[str]:
     it refuses, which are none any more."""
     with host.asking(seat.number) as session:
         dropped = replay.watch_again(session.tell, seat.watches)
-    return [f"w{it} of {seat.name}, {text}, is dropped: {reply}" for it, text, reply in dropped]
+    return [
+        f"watch w{it} of {seat.name} ({text}) was dropped: {reply}" for it, text, reply in dropped
+    ]

@@ -67,7 +67,7 @@ class Quiet(Shell):
             self.texts[-1] += f": {self.in_its_names(text)}"
 
     def stopped(self, where: str) -> None:
-        self.refuse(f"it took more than {SECONDS:.0f} seconds; {where}")
+        self.refuse(f"stopped after {SECONDS:.0f} seconds; {where}")
 
     def _notice(self, notice: str) -> None:
         """The page hears it by itself."""

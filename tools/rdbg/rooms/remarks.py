@@ -1,4 +1,4 @@
-"""Lines that begin with `#`: they are for the room, and are answered by notices."""
+"""Lines that begin with `#`: requests to the room, which it answers with notices."""
 from typing import TYPE_CHECKING, Callable, Dict, Optional, Tuple
 
 from rdbg.commands import is_count
@@ -7,7 +7,7 @@ from rdbg.rooms.seats import Refusal
 if TYPE_CHECKING:
     from rdbg.rooms.room import Member, Room
 
-# So many moves, or rows of the talk, are told to who asks, or fewer.
+# The most moves, or notices, that one request shows; also the default.
 MOST = 20
 
 
@@ -27,7 +27,7 @@ def who(room: "Room", member: "Member", rest: str) -> str:
 def say(room: "Room", member: "Member", rest: str) -> str:
     """`# say TEXT`."""
     if not rest:
-        raise Refusal("`# say TEXT`: say what?")
+        raise Refusal("`# say TEXT` needs a text")
     return room.tell(f"{member.name} says: {rest}")
 
 
@@ -36,23 +36,23 @@ def to(room: "Room", member: "Member", rest: str) -> str:
     name, _, text = rest.partition(" ")
     name, text = name.rstrip(":"), text.strip()
     if not text:
-        raise Refusal("`# to NAME: TEXT`: say what to whom?")
+        raise Refusal("`# to NAME: TEXT` needs a name and a text")
     room.tell_one(member, name, text)
     return f"told {name}"
 
 
 def count_of(rest: str, form: str) -> int:
-    """The COUNT behind a word, or as many as there are told at the most."""
+    """Returns the COUNT of a request, or the default. Raises `Refusal` if it is out of range."""
     count = int(rest) if is_count(rest) else 0 if rest else MOST
     if not 0 < count <= MOST:
-        raise Refusal(f"`# {form}`: 1 to {MOST}")
+        raise Refusal(f"`# {form}`: COUNT must be 1 to {MOST}")
     return count
 
 
 def moves(room: "Room", member: "Member", rest: str) -> Optional[str]:
     """`# moves [COUNT]`."""
     text = room.tell_moves(member, count_of(rest, "moves COUNT"))
-    return text if member.doing is None else None  # (then it is a part of something)
+    return text if member.doing is None else None  # (a tool asked, not its user)
 
 
 def help_on(room: "Room", member: "Member", rest: str) -> str:
@@ -61,31 +61,31 @@ def help_on(room: "Room", member: "Member", rest: str) -> str:
     for form, (does, _) in FORMS.items():
         member.hear(f"# # {form.ljust(width)}  {does}")
     member.hear(
-        "# all other lines are rdbg's: `step 0`, `tick`, `back 1`, `show cores`, `wheel take`"
+        "# all other lines are commands of rdbg: `step 0`, `tick`, `back 1`, `show cores`, `wheel take`"
     )
     return room.tell_place(member)
 
 
 Do = Callable[["Room", "Member", str], Optional[str]]
-# The lines, each with what is said of it, and what it does.
+# Each request with its description and its function.
 FORMS: Dict[str, Tuple[str, Do]] = {
-    "name NAME": ("you are NAME from now on", name),
-    "who": ("who is here, away and idle, and who has the wheel", who),
-    "say TEXT": ("is told to all", say),
-    "to NAME: TEXT": ("is told to NAME alone", to),
+    "name NAME": ("change your name to NAME", name),
+    "who": ("list who is here, away or idle, and who has the wheel", who),
+    "say TEXT": ("say TEXT to everybody", say),
+    "to NAME: TEXT": ("say TEXT to NAME only", to),
     "talk COUNT": (
-        f"what all were told, the last {MOST} or fewer",
+        f"show the last COUNT notices to everybody (at most {MOST}, the default)",
         lambda room, member, rest: room.tell_talk(member, count_of(rest, "talk COUNT")),
     ),
-    "moves COUNT": (f"what the last moves did, {MOST} or fewer", moves),
-    "wheel": ("asks for the wheel", lambda room, member, _: room.wheel_wanted(member)),
+    "moves COUNT": (f"show what the last COUNT moves did (at most {MOST}, the default)", moves),
+    "wheel": ("ask for the wheel", lambda room, member, _: room.wheel_wanted(member)),
     "reload": (
-        "makes the same moves on the edited file; for who has the wheel",
+        "reload the edited file and repeat the moves (needs the wheel)",
         lambda room, member, _: room.begin_reload(member),
     ),
-    "help": ("these lines", help_on),
+    "help": ("show this list", help_on),
 }
-# What a program says of the lines around it, as often as it likes.
+# Brackets that a tool sends around the lines that one typed command takes; not rate-limited.
 AROUND: Dict[str, Do] = {
     "does": lambda room, member, text: room.begin(member, text),
     "did": lambda room, member, text: room.end(member, text),
@@ -96,12 +96,12 @@ WORDS = f"{', '.join(OTHERS)} or {LAST}"
 
 
 def do(room: "Room", member: "Member", line: str) -> Optional[str]:
-    """Does a line, or says why not. Answers what was said; none of what isn't kept by itself."""
+    """Executes a request, or says why not. Returns the text for the talk, `None` for no row."""
     word, _, rest = line.strip()[1:].strip().partition(" ")
     try:
         found = DO.get(word)
         if found is None:
-            raise Refusal(f"a line that begins with # is {WORDS}")
+            raise Refusal(f"unknown request; a line that begins with # is {WORDS}")
         if word not in ("who", *AROUND):
             member.check_pace()
         return found(room, member, rest.strip())

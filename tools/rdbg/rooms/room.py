@@ -113,8 +113,8 @@ class Room:
 
     def _announce(self, member: Member) -> None:
         member.is_told = True
-        self._keep(member.name, "#", f"comes, session {member.session}")
-        self.tell(f"{member.name} comes, session {member.session}", but=member)
+        self._keep(member.name, "#", f"joined, session {member.session}")
+        self.tell(f"{member.name} joined, session {member.session}", but=member)
 
     def _hand_over(self, seat: Seat) -> None:
         """Takes a session from who is away, for another one, with what was kept there."""
@@ -123,8 +123,8 @@ class Room:
         for line in lines + (["wheel give"] if has else []):
             self._program.ask(seat, line)
         if not seat.is_guest or has:
-            free = ", and the wheel is free" if has else ""
-            self.tell(f"{seat.name}, who is away, has no session any more{free}")
+            free = "; the wheel is free" if has else ""
+            self.tell(f"the session of {seat.name}, who is away, was given to somebody else{free}")
         self._seats.clear(seat)
 
     def rename(self, member: Member, name: str) -> None:
@@ -151,15 +151,15 @@ class Room:
             self._announce(member)
         elif name != old:
             self.counts.rename(old, name)
-            self._keep(old, "#", f"is {name} now, session {member.session}")
-            self.tell(f"{old} is {name} now, session {member.session}", but=member)
+            self._keep(old, "#", f"is now {name}, session {member.session}")
+            self.tell(f"{old} is now {name}, session {member.session}", but=member)
 
     def leave(self, member: Member, why: str = "") -> None:
         """Somebody is away."""
         with self._turns:
             if not member.is_here or self.is_over:
                 return
-            self.end(member, f"broken off, at {self.place}")
+            self.end(member, f"interrupted, at {self.place}")
             member.is_here = False
             self._seats.leave(member.seat)
             del self._members[member.session]
@@ -167,7 +167,7 @@ class Room:
             if not member.is_told:  # (nobody knows of it, and it has said nothing)
                 self._seats.clear(member.seat)
                 return
-            has = ", with the wheel" if self.holder is member.seat else ""
+            has = " and still has the wheel" if self.holder is member.seat else ""
             text = f"is away{has}" + (f" ({why})" if why else "")
             self._keep(member.name, "#", text)
             self.tell(f"{member.name} {text}")
@@ -226,7 +226,7 @@ class Room:
         if command is None:
             word = sent.split(" ")[0]
             if word in remarks.DO:
-                member.hear(f"# a line for the room begins with #: `# {word}`")
+                member.hear(f"# `{word}` is a line for the room: send `# {word}`")
             return self._program.ask(member.seat, sent)
         reply = self._program.memory.known(member.session, command)
         if reply is None and command.form.is_look:
@@ -301,12 +301,12 @@ class Room:
         yield
         if talk.fault and not before:
             why = f"cannot write the talk to {talk.path}: {talk.fault}"
-            self.warn(f"{why}; its rows wait in memory (trying again)")
+            self.warn(f"{why}; its rows are kept in memory until it can be written")
             threading.Thread(target=self._write_again, args=(talk,), daemon=True).start()
         if talk.lost_count and not lost_before:
-            self.warn("rows of the talk are lost from here on: too many wait in memory")
+            self.warn("the talk loses rows from here on: too many are waiting in memory")
         if before and not talk.fault:
-            self.warn(f"the talk is written again; missing: {talk.missing or 'nothing'}")
+            self.warn(f"the talk can be written again; missing: {talk.missing or 'nothing'}")
 
     def _write_again(self, talk: Talk) -> None:
         """Tries to write the talk until that works."""
@@ -325,15 +325,14 @@ class Room:
     def _warn(self, member: Member, reply: str) -> None:
         """Says when the history is nearly full, and when it is."""
         if reply == FULL:
-            member.hear("# the history is full: what was seen is still answered, nothing else is")
+            member.hear("# the history is full: only lines that were answered before get a reply")
         left, limit = self._program.left(), self._program.limits.history
         if left * SCARCE < limit and self._renew():
             return
         if self._warned < len(NEARLY) and left * NEARLY[self._warned] < limit:
             self._warned += 1
-            self.tell(
-                f"the history has room for {left} more lines; what moves did isn't told any more"
-            )
+            lines = counted(left, "more line")
+            self.tell(f"the history has room for {lines}; moves are no longer described")
 
     def _renew(self) -> bool:
         """Goes on with a new program, and answers whether that could be had."""
@@ -342,11 +341,13 @@ class Room:
                 return False
         except Failure as failure:
             if not self._is_told_why:
-                self.tell(f"no new rdbg goes on yet, which is tried again: {failure}")
+                self.tell(
+                    f"cannot start a new rdbg with an empty history (trying again): {failure}"
+                )
             self._is_told_why = True
             return False
         self._warned, self._is_told_why = 0, False
-        self.tell("the history was nearly full: a new rdbg goes on from here, all is as it was")
+        self.tell("the history was nearly full: a new rdbg has taken over in the same state")
         return True
 
     def _has_ended(self, audit: Audit) -> None:
@@ -354,7 +355,7 @@ class Room:
         with self._turns:
             self._audits.append(audit)
             self._keep("room", "#", audit.text())
-            self.tell(f"the history before: {audit.text()}")
+            self.tell(f"audit of the previous rdbg: {audit.text()}")
 
     def remark(self, member: Member, line: str) -> None:
         """Does a line that begins with `#`."""
@@ -383,9 +384,9 @@ class Room:
     def begin_reload(self, member: Member) -> str:
         """Begins to read the file anew, for who has the wheel. Raises `Refusal`."""
         if self.holder is not member.seat:
-            raise Refusal("who has the wheel reads the file anew: `wheel take`")
+            raise Refusal("reloading the file needs the wheel: `wheel take`")
         if self.is_reloading:
-            raise Refusal("the file is read anew already")
+            raise Refusal("the file is being reloaded already")
         self.is_reloading = True
         threading.Thread(target=self._reload, args=(member,), daemon=True).start()
         return "begun"
@@ -397,15 +398,15 @@ class Room:
             source, lines, said = quiet.made_again(self.app_source, was)
             with self._turns:
                 if self.is_over or not member.is_here or self.holder is not member.seat:
-                    why = "the wheel was given back, or the room has ended, before it was read"
-                    raise Refusal(why)
+                    why = "the wheel was given back, or the room has ended, meanwhile"
+                    raise Refusal(f"not reloaded: {why}")
                 if self._program.journal.lines() != was:
-                    raise Refusal("the target was moved before it was read: once more")
+                    raise Refusal("not reloaded: the target was moved meanwhile (try again)")
                 dropped = self._program.reload(source, lines)
                 self.app_source = source
                 self._followers.clear()
                 self._keep("room", "#", f"opens {source.path}")
-                self.tell(f"{member.name} has the file read anew: {said[0]}")
+                self.tell(f"{member.name} reloaded the file: {said[0]}")
                 for row in (*said[1:], *dropped):
                     self.tell(row)
             self.when_reloaded()
@@ -461,7 +462,11 @@ class Room:
         """Somebody has a word for another one. Raises `Refusal` where that one isn't here."""
         found = next((it for it in self._members.values() if it.name == name), None)
         if found is None:
-            away = f"{name} is away" if name in self._seats.by_name() else "nobody has this name"
+            away = (
+                f"{name} is away"
+                if name in self._seats.by_name()
+                else f"nobody is called {printable(name)}"
+            )
             raise Refusal(f"{away}; {self.who()}")
         found.hear(f"# {member.name} to you: {printable(text)}")
         if found is not member:
@@ -472,16 +477,16 @@ class Room:
         by who asks once more. Answers what all are told. Raises `Refusal`."""
         seat = self.holder
         if seat is None:
-            raise Refusal("the wheel is free: `wheel take`")
+            raise Refusal("the wheel is free: take it with `wheel take`")
         if seat is member.seat:
-            raise Refusal("you have the wheel: `wheel give` gives it back")
+            raise Refusal("you have the wheel already: `wheel give` gives it back")
         text = f"{member.name} asks for the wheel"
         if not seat.is_here and member.session in self._asked:
             self._program.ask(seat, "wheel give")
-            text = f"{member.name} has {seat.name}, who is away, give back the wheel: it is free"
+            text = f"{member.name} gave back the wheel for {seat.name}, who is away: it is free"
         elif not seat.is_here:
             self._asked.add(member.session)
-            member.hear(f"# {seat.name} is away with it: `# wheel` once more gives it back")
+            member.hear(f"# {seat.name} is away: send `# wheel` again to free the wheel")
         return self.tell(text)
 
     def free_wheel(self) -> str:
@@ -502,14 +507,12 @@ class Room:
             raise Refusal("nobody has the wheel")
         member, silence = self._members.get(seat.number), self.silence(seat)
         if member is not None and silence < self.idle:
-            waited, enough = (counted(it, "second") for it in (silence, self.idle))
-            why = f"{waited} without a line, {enough} would do"
-            raise Refusal(f"{seat.name} has the wheel and isn't idle: {why}")
+            waited, limit = (counted(it, "second") for it in (silence, self.idle))
+            why = f"its last line came {waited} ago, and the limit is {limit}"
+            raise Refusal(f"{seat.name} has the wheel and is not idle: {why}")
         self._program.ask(seat, "wheel give")
         why = f"idle for {counted(silence, 'second')}" if member else "away"
-        return (
-            f"who started the room has {seat.name}, who is {why}, give back the wheel: it is free"
-        )
+        return f"the room's owner gave back the wheel for {seat.name}, who is {why}: it is free"
 
     def _program_has_ended(self, host: Host) -> None:
         """Tells everybody at once that a program has ended by itself, unless the room has gone on
@@ -532,7 +535,7 @@ class Room:
         self._program.wait()
         with self._turns:
             for member in self._members.values():
-                self.end(member, f"broken off, at {self.place}")
+                self.end(member, f"interrupted, at {self.place}")
             audit = self._program.host.close()
             for row in self.counts.rows():
                 self._keep("room", "#", row)

@@ -9,15 +9,15 @@ from rdbg.printable import printable
 GUEST = "guest"
 # Words that stand at the head of what a room says.
 NOT_NAMES = ("no", "you", "here", "away", "rdbg", "room")
-NAMING = "a name is 1 to 16 of a to z, 0 to 9 and _, the first a letter"
+NAMING = "a name has 1 to 16 of the characters a-z, 0-9 and _, and begins with a letter"
 
 
 class Refusal(Exception):
-    """Why a room doesn't do what somebody asks for, in a sentence."""
+    """A request that the room refuses, with the reason as a sentence."""
 
 
 def all_of(count: int, what: str = "") -> str:
-    """That all sessions of a kind are, whatever they are."""
+    """Returns the beginning of a sentence about all sessions of a kind."""
     return f"the one session{what} is" if count == 1 else f"all {count} sessions{what} are"
 
 
@@ -35,9 +35,9 @@ class Seat:
 def check(name: str) -> None:
     """Raises `Refusal` where a name can be nobody's."""
     if not is_name(name):
-        raise Refusal(f"'{printable(name[:16])}' can't be a name: {NAMING}")
+        raise Refusal(f"'{printable(name[:16])}' is not a valid name: {NAMING}")
     if name in NOT_NAMES:
-        raise Refusal(f"'{name}' can't be a name: the room says it itself")
+        raise Refusal(f"'{name}' is not a valid name: the room uses this word itself")
 
 
 class Seats:
@@ -66,18 +66,18 @@ class Seats:
             return names.get(self.guest_name()) or self._for_guest()
         check(name)
         if name in names and names[name].is_here:
-            raise Refusal(f"{name} is here already")
+            raise Refusal(f"{name} is already here")
         return names[name] if name in names else self._free(self.all)
 
     def _for_guest(self) -> Seat:
         """The session of a guest who hasn't one yet. Raises `Refusal` where there is none."""
         most = max(1, len(self.all) // 2)
         if sum(it.is_guest for it in self.here()) >= most:
-            raise Refusal(f"{all_of(most, ' for guests')} taken")
+            raise Refusal(f"{all_of(most, ' for guests')} in use")
         away = [it for it in self.all if not it.is_here]
         seats = [it for it in away if it.is_guest or not it.name]
         if away and not seats:
-            raise Refusal(f"{all_of(len(self.all))} taken, or kept for a name that is away")
+            raise Refusal(f"{all_of(len(self.all))} in use, or kept for a name that is away")
         return self._free(seats)
 
     def guest_name(self) -> str:
@@ -89,7 +89,7 @@ class Seats:
         """That which nobody has, or whose name was away longest. Raises `Refusal` for none."""
         away = [it for it in seats if not it.is_here]
         if not away:
-            raise Refusal(f"{all_of(len(self.all))} taken by who is here")
+            raise Refusal(f"{all_of(len(self.all))} in use")
         return min(away, key=lambda it: (bool(it.name), not it.is_guest, it.left, it.number))
 
     def sit(self, seat: Seat, name: str) -> None:

@@ -36,7 +36,7 @@ def open_talk(path: str) -> int:
     is_plain = stat.S_ISREG(os.fstat(number).st_mode)
     if is_plain and os.pread(number, len(HEAD), 0) not in (b"", HEAD.encode()):
         os.close(number)
-        raise Failure(f"{path} is there, and is no talk: it stays as it is", 2)
+        raise Failure(f"refusing to append to {path}: it exists and is not a talk", 2)
     return number
 
 

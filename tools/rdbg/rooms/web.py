@@ -66,7 +66,7 @@ class Handler(BaseHTTPRequestHandler):
 
     def _let_in(self, method: str) -> None:
         if self.bounded.is_over:
-            raise Denied(431, "its head is too long")
+            raise Denied(431, "the request head is too long")
         guard.check_origin(self.headers, self.server.port, method)
         if self.path == "/" and method == "GET":
             self.server.unread.remove(self.connection)
@@ -77,11 +77,11 @@ class Handler(BaseHTTPRequestHandler):
         name, query = guard.check_token(self.path, self.server.token)
         if method == "POST":
             if name not in SAID and name not in MOVES:
-                raise Denied(404, "there is nothing")
+                raise Denied(404, "not found")
             return self._line(name, self._said())
         self.server.unread.remove(self.connection)
         if name not in ("room", "events") or guard.one(self.headers, "Sec-Fetch-Site") == "none":
-            raise Denied(404, "there is nothing")
+            raise Denied(404, "not found")
         if name == "room":
             return self._answer(200, guard.JSON, self.server.of_room)
         self._events(query)
@@ -107,7 +107,7 @@ class Handler(BaseHTTPRequestHandler):
     def _moves(self, name: str, place: str) -> str:
         """The moves for which a page asks. Raises `Refusal`."""
         if not is_number(place):
-            raise Refusal(f"'{place[:16]}' is no place")
+            raise Refusal(f"'{place[:16]}' is not a place")
         follower = self.server.follower
         with follower.guard:
             return as_json(MOVES[name](follower.known, int(place)))
@@ -162,7 +162,7 @@ class Handler(BaseHTTPRequestHandler):
         self, code: int, message: Optional[str] = None, explain: Optional[str] = None
     ) -> None:
         """Says why a request isn't answered, and nothing of what it said."""
-        why = "no request" if code == 400 else message or code
+        why = "bad request" if code == 400 else message or code
         with contextlib.suppress(OSError):
             self._answer(code, TEXT, f"rdbg: {why}\n")
 

@@ -92,7 +92,7 @@ class Follower:
 
     def lose(self, why: Exception) -> None:
         """Gives up, and tells pages why. Needs the guard."""
-        self.lost = self.lost or f"the lanes don't follow any more: {why}"
+        self.lost = self.lost or f"the lanes no longer follow the target: {why}"
         self._tell("now", self._now())
 
     def _follow(self) -> None:
@@ -194,7 +194,7 @@ class Follower:
         here = self._mirror.place
         count = told.place - here
         if count < 1:
-            raise Differs(f"{told.text} led to {told.place}")
+            raise Differs(f"`{told.text}` led to place {told.place}")
         is_short = count <= max(1, min(self._mirror.count(SECONDS), SHORT))
         is_known = self.known.cut(here)
         self._mirror.do(told)

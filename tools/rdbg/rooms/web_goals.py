@@ -87,10 +87,10 @@ def to_place(shell: Shell, room: Room, member: Member, it: Typed) -> str:
         except NoGoal as wrong:
             return f"{SYNTAX}: {wrong}"
         except (Interrupted, Unable, Refused, Failure) as ended:
-            return f"no: {ended or f'it took more than {SECONDS:.0f} seconds'}; at {start} still"
+            return f"no: {ended or f'stopped after {SECONDS:.0f} seconds'}; still at {start}"
     if place is None or place == start:
         where = f"in {most} moves" if it.is_forwards else "before"
-        return f"no: '{way.text}' wasn't met {where}; at {start} still"
+        return f"no: '{way.text}' was not met {where}; still at {start}"
     line = f"forward {place - start}" if it.is_forwards else record.way(start, place)
     reply = member.ask(line)
     if reply.startswith("no "):

@@ -35,7 +35,7 @@ HEADERS = (
 JSON = "application/json"
 # How many random bytes a key and a token have.
 BYTES = 24
-USED = "this is not the key of the address that the room has printed last"
+USED = "this key is not the one of the address that the room printed last"
 # What is printed at the start, and what announces another address in its place.
 Said = Tuple[str, Callable[[str], object]]
 
@@ -78,7 +78,7 @@ def one(headers: Message, name: str) -> Optional[str]:
     """Returns the value of a header, or `None`. Raises `Denied` if there are two."""
     found: List[str] = headers.get_all(name, [])
     if len(found) > 1:
-        raise Denied(400, f"{name} stands twice")
+        raise Denied(400, f"there is more than one header {name}")
     return found[0] if found else None
 
 
@@ -88,13 +88,13 @@ def check_origin(headers: Message, port: int, method: str) -> None:
     listens at the same port of ::1. A browser sends the origin with each line."""
     host = one(headers, "Host")
     if host != f"{LOCAL}:{port}":
-        raise Denied(403, f"this page is served as http://{LOCAL}:{port}/ only")
+        raise Denied(403, f"this page is only served as http://{LOCAL}:{port}/")
     origin = one(headers, "Origin")
     if origin != f"http://{host}" and (origin is not None or method != "GET"):
-        raise Denied(403, "another origin")
+        raise Denied(403, "the request comes from another origin")
     site = one(headers, "Sec-Fetch-Site")
     if site not in (None, "same-origin") and not (site == "none" and method == "GET"):
-        raise Denied(403, "another site")
+        raise Denied(403, "the request comes from another site")
 
 
 def check_token(path: str, token: str) -> Tuple[str, str]:
@@ -103,7 +103,7 @@ def check_token(path: str, token: str) -> Tuple[str, str]:
     given, slash, rest = path[1:].partition("/")
     is_same = hmac.compare_digest(given.encode("utf-8", "replace"), token.encode())
     if not is_same or not slash:
-        raise Denied(403, "the room has let nobody in by this")
+        raise Denied(403, "this token is not valid here")
     name, _, query = rest.partition("?")
     return name, query
 
@@ -113,28 +113,28 @@ def name_in(query: str) -> Optional[str]:
     try:
         names = urllib.parse.parse_qs(query, keep_blank_values=True, max_num_fields=1)
     except ValueError:
-        raise Denied(400, "it asks for too much") from None
+        raise Denied(400, "the query has too many parameters") from None
     return names["name"][0] if "name" in names else None
 
 
 def body_of(headers: Message, stream: BinaryIO) -> Dict[str, str]:
     """Returns the texts in a request's body. Raises `Denied` if it is something else."""
     if (one(headers, "Content-Type") or "").split(";")[0].strip() != JSON:
-        raise Denied(415, "it isn't JSON")
+        raise Denied(415, "the body is not JSON")
     length = one(headers, "Content-Length") or ""
     if one(headers, "Transfer-Encoding") is not None or not is_digits(length):
-        raise Denied(411, "its length isn't said")
+        raise Denied(411, "there is no valid Content-Length")
     if len(length) > 8 or int(length) > MOST_BODY:
-        raise Denied(413, f"it has over {MOST_BODY} bytes")
+        raise Denied(413, f"the body has more than {MOST_BODY} bytes")
     content = stream.read(int(length))
     if len(content) != int(length):
-        raise Denied(400, "it ends too early")
+        raise Denied(400, "the body is shorter than Content-Length says")
     try:
         found = json.loads(content)
     except (ValueError, RecursionError):
-        raise Denied(400, "it isn't JSON") from None
+        raise Denied(400, "the body is not JSON") from None
     if not isinstance(found, dict) or not all(isinstance(it, str) for it in found.values()):
-        raise Denied(400, "it has something else than texts")
+        raise Denied(400, "the body must be an object whose values are strings")
     return found
 
 
@@ -162,7 +162,7 @@ class Key:
                 self.say()
             except OSError as error:
                 self.text = given
-                why = f"the room can't say its next address: {error.strerror}"
+                why = f"the room cannot print its next address: {error.strerror}"
                 raise Denied(503, why) from None
 
     def _check(self, given: str) -> None:

@@ -100,7 +100,7 @@ class Page:
             notices, self._notices = self._notices, []
             dropped, self._dropped = self._dropped, 0
         if dropped:
-            notices.insert(0, f"# {dropped} notices before these weren't kept")
+            notices.insert(0, f"# {dropped} earlier notices were dropped")
         told = [("notice", as_json(it)) for it in notices]
         return [*found, *moves, *told, *self._who_is_here(room)]
 
@@ -130,7 +130,7 @@ class Page:
     def ask(self, line: str) -> str:
         """The reply to a line; empty of one with `#`, which notices answer. Raises `Refusal`."""
         if not self._lines.acquire(blocking=False):
-            raise Refusal(f"{MOST_LINES} lines wait for their replies already")
+            raise Refusal(f"{MOST_LINES} lines are already waiting for their replies")
         try:
             with self._turn:
                 if line.split() == ["reload"]:
@@ -188,7 +188,7 @@ class Pages:
         with self._guard:
             if len(self._open) >= MOST_PAGES:
                 page.close()
-                raise Refusal(f"{MOST_PAGES} pages are open already")
+                raise Refusal(f"{MOST_PAGES} pages are already open")
             self._open[page.key] = page
         try:
             page.member = self._join(name, page.hear)
@@ -211,7 +211,7 @@ class Pages:
         with self._guard:
             page = self._open.get(key)
         if page is None:
-            raise Refusal("this page has left the room: load it again")
+            raise Refusal("this page has left the room: reload it")
         return page
 
     def wait(self, seconds: float) -> None:

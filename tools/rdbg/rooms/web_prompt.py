@@ -12,12 +12,12 @@ from rdbg.rooms.quiet import Quiet
 from rdbg.rooms.room import Member, Room
 from rdbg.shell.words import BY_NAME
 
-# What a prompt does by itself, and a page has otherwise.
+# Commands of a prompt that a page does not have, each with what to use instead.
 ELSEWHERE: Dict[str, str] = {
-    **dict.fromkeys(("save", "save!"), "`save` alone gives the moves to the browser"),
-    **dict.fromkeys(("quit", "q", "exit"), "who closes the page is away"),
-    **dict.fromkeys(("reload", "again"), "`# reload` reads the file anew; then `reach GOAL`"),
-    "play": "the moves of an order are lines: type them",
+    **dict.fromkeys(("save", "save!"), "a page writes no files; `save` alone downloads the moves"),
+    **dict.fromkeys(("quit", "q", "exit"), "close the page to leave the room"),
+    **dict.fromkeys(("reload", "again"), "use `# reload`, and then ask `reach GOAL`"),
+    "play": "a page cannot play a run: type its moves as lines",
 }
 
 
@@ -68,10 +68,10 @@ class Prompt(Quiet):
         if words and words[0] in ELSEWHERE:
             return f"no: {ELSEWHERE[words[0]]}"
         if word is not None and "FILE" in word.behind:
-            files = "a page reads and writes no files of the room's machine"
-            return f"no: {files}: `{words[0]}` is for `sh`"
+            files = "a page cannot read or write files on the room's machine"
+            return f"no: {files}; use `{words[0]}` in `sh`"
         if "\n" in line or len(line.encode("utf-8", "replace")) > MOST_BYTES:
-            most = f"a line has at most {MOST_BYTES} bytes, and no other behind it"
+            most = f"a line has at most {MOST_BYTES} bytes and no line break"
             return f"{self._member.ask(line)}: {most}"
         self.target.moved_by_others(self._room.place)
         self.target.has_wheel = self._room.holder is self._member.seat
@@ -90,7 +90,7 @@ class Prompt(Quiet):
         if way is None:
             super().do(text)
         elif not way.goal:
-            self.say(f"{web_goals.SYNTAX}: to what? a goal, as `{text.strip()} asleep`")
+            self.say(f"{web_goals.SYNTAX}: expected a goal, for example `{text.strip()} asleep`")
         else:
             try:
                 with self.wheel():

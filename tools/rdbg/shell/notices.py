@@ -18,8 +18,8 @@ MOVED = re.compile(r"# \w+: .* -> ok at ([0-9]{1,10})\b")
 REMARK = re.compile(
     r"# *(who|wheel|help|reload|name +\S+|say +\S.*|to +\w+: *\S.*|(moves|talk)( +[0-9]+)?)$"
 )
-# That a room goes on with its file as it is now.
-READ_ANEW = re.compile(r"# \w+ has the file read anew: ")
+# Says that a room has reloaded its file.
+READ_ANEW = re.compile(r"# \w+ reloaded the file: ")
 # So many moves a room tells at the most.
 MOST_MOVES = 20
 # Between the lines of what something came to.

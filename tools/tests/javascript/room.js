@@ -149,9 +149,9 @@ test("the next instruction of a task, where it is known", () => {
 });
 
 test("who has the wheel", () => {
-  assert.equal(wheelWords("ann", undefined), "The wheel is free: everybody moves.");
-  assert.equal(wheelWords("ann", { name: "ann" }), "You have the wheel: nobody else moves.");
-  const away = "bob has the wheel, and is away: your moves are refused.";
+  assert.equal(wheelWords("ann", undefined), "The wheel is free: everybody can move the target.");
+  assert.equal(wheelWords("ann", { name: "ann" }), "You have the wheel: nobody else can move the target.");
+  const away = "bob has the wheel and is away: your moves are refused.";
   assert.equal(wheelWords("ann", { name: "bob", isHere: false }), away);
 });
 
@@ -163,7 +163,7 @@ test("how a notice is marked", () => {
     "bob to you: look": "private",
     "ann to bob: look": "private",
     "no: bob is away; here: ann (session 1)": "refused",
-    "bob is away, with the wheel": "others",
+    "bob is away and still has the wheel": "others",
   };
   for (const text in kinds) assert.equal(kindOf(text, "ann"), kinds[text], text);
 });

@@ -6,9 +6,9 @@ const EDITS = {
   "data of a task": ["poke data", ["task", "bytes in hex, - for none"]],
   "pc of a task": ["poke pc", ["task", "instruction"]],
   "notification value": ["poke note", ["task", "entry", "number"]],
-  "bits of a group": ["poke group", ["group", "bits as a number"]],
-  "item of a queue": ["poke item", ["queue", "item, 0 the front", "bytes in hex"]],
-  "byte of a stream": ["poke byte", ["stream", "byte, 0 the front", "value 0 to 255"]],
+  "bits of a group": ["poke group", ["group", "bits, as a number"]],
+  "item of a queue": ["poke item", ["queue", "index, 0 is the front", "bytes in hex"]],
+  "byte of a stream": ["poke byte", ["stream", "index, 0 is the front", "value 0 to 255"]],
 };
 const INTERRUPTS = {
   "send to a queue": ["isr send", ["queue", "bytes in hex"]],

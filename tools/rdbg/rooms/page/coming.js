@@ -129,7 +129,7 @@ class Line {
       const answer = await fetch(this.way + what, told);
       return answer.ok ? await answer.json() : { refused: (await answer.text()).trim() };
     } catch (error) {
-      return { refused: "the room can't be reached" };
+      return { refused: "the room cannot be reached" };
     }
   }
 }

@@ -125,7 +125,7 @@ class LiveTimeline extends Timeline {
       painter.context.globalAlpha = PALE;
       painter.fill(painter.paper, x, RULER, this.width - x, this.seen - RULER);
       painter.context.globalAlpha = 1;
-      painter.label("taken back", x + 6, this.seen - 10, this.width - x - 6);
+      painter.label("undone", x + 6, this.seen - 10, this.width - x - 6);
     }
     if (this.x(run.done) < GUTTER || x > this.width) return;
     painter.stroke(painter.ink, x, RULER - 9, x, this.seen, [6, 3], 2);

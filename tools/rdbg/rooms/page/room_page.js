@@ -38,22 +38,22 @@ class RoomPage extends Viewer {
 
   get moreKeys() {
     return [
-      ["all of these", "change this page only: the target stays where it is"],
-      [".", "go to where the target is, and follow it from there on"],
-      ["l, c", "type a line; say something"],
-      ["those below", "move the target or the wheel, while Keyboard control is on"],
-      ["s, k", "step the core in turn; let a tick pass"],
-      ["0 to 9", "step this core"],
-      ["b, r, f", "go back, redo, or forward by as many moves as the field says"],
-      ["u, U", "run until the goal in its field; go back until it. Without a goal: to the field"],
+      ["all of the above", "change only what this page shows, not the target"],
+      [".", "go to where the target is, and follow it"],
+      ["l, c", "type a command; type a message"],
+      ["all of the following", "move the target or the wheel, only while Keyboard control is on"],
+      ["s, k", "step the core whose turn it is; let a tick pass"],
+      ["0 to 9", "step the core with this number"],
+      ["b, r, f", "go back, redo, or go forward by the number of moves in the field"],
+      ["u, U", "run until the goal in the field holds; go back until it holds. If the field is empty, go to it"],
       ["h", "take the wheel, give it back, or ask for it"],
     ];
   }
 
   get moreSigns() {
     return [
-      ["now, with dashes", "where the target is"],
-      ["pale, behind it", "what was taken back, until another move is made"],
+      ["a dashed line, now", "where the target is"],
+      ["pale, right of it", "undone moves, until another move replaces them"],
     ];
   }
 
@@ -196,7 +196,7 @@ class RoomPage extends Viewer {
     super.say();
     const { done, undone, missing, lost } = this.run;
     const texts = [`the target is at ${done}`];
-    if (undone) texts.push(`${counted(undone, "move")} taken back`);
+    if (undone) texts.push(`${counted(undone, "move")} undone`);
     const how = this.room.isHere ? "still to come" : "missing";
     if (missing) texts.push(`${counted(missing, "earlier move")} ${how}`);
     if (lost) texts.push(lost);
@@ -213,7 +213,7 @@ class RoomPage extends Viewer {
 
   readout(place) {
     const { done } = this.run;
-    const where = place > done ? ", taken back" : "";
+    const where = place > done ? ", undone" : "";
     const target = place === done ? "" : ` (the target is at ${done})`;
     return `${super.readout(place)}${where}${target}`;
   }
@@ -248,8 +248,8 @@ class RoomOnPage {
     const texts = {
       you: "",
       end: "The room has ended.",
-      lost: "The room doesn't answer: trying again ..",
-      refused: `Not let in: ${values}`,
+      lost: "The room does not answer. Trying again ..",
+      refused: `The room refused: ${values}`,
     };
     if (kind in texts) this.setConnection(texts[kind]);
   }

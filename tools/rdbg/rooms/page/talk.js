@@ -58,9 +58,9 @@ class Talk {
 }
 
 function wheelWords(me, holder) {
-  if (!holder) return "The wheel is free: everybody moves.";
-  if (holder.name === me) return "You have the wheel: nobody else moves.";
-  const away = holder.isHere ? "" : ", and is away";
+  if (!holder) return "The wheel is free: everybody can move the target.";
+  if (holder.name === me) return "You have the wheel: nobody else can move the target.";
+  const away = holder.isHere ? "" : " and is away";
   return `${holder.name} has the wheel${away}: your moves are refused.`;
 }
 
@@ -151,9 +151,9 @@ class Watches {
   show() {
     const items = Object.entries(this.conditions).map(([number, text]) => {
       const item = made("li", `w${number} ${text}: ${this.holds.get(number) ?? "?"} `);
-      const button = item.appendChild(made("button", "drop"));
+      const button = item.appendChild(made("button", "delete"));
       button.type = "button";
-      button.setAttribute("aria-label", `drop watch ${number}`);
+      button.setAttribute("aria-label", `delete watch ${number}`);
       button.addEventListener("click", () => this.tell(`unwatch ${number}`));
       return item;
     });

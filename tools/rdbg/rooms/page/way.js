@@ -5,8 +5,8 @@
 
 const KEPT = "way";
 const NOT_LET_IN =
-  "This is a room of rdbg, and this address does not let anybody in: each works once." +
-  " Open the address that the room printed last, at its terminal or in its file.";
+  "This address does not let you into the room: each address works only once." +
+  " Open the address that the room printed last, on its terminal or in its file.";
 
 function keptWay() {
   try {
@@ -28,7 +28,7 @@ function keepWay(way) {
 // no answer.
 async function answerOf(path, given) {
   const answer = await fetch(path, given).catch(() => null);
-  if (answer === null) throw new Error("The room can't be reached");
+  if (answer === null) throw new Error("The room cannot be reached");
   if (answer.status === 403) return null;
   if (!answer.ok) throw new Error((await answer.text()).trim());
   return answer.json();
@@ -62,7 +62,7 @@ async function comeIn(begin) {
     if (room) begin(way, room);
     else sayAlone(NOT_LET_IN);
   } catch (error) {
-    sayAlone(`${error.message}: load this page again`);
+    sayAlone(`${error.message}: reload this page`);
   }
 }
 
