@@ -71,7 +71,7 @@ class Page(Shown):
         self.assertTrue(self.browser.value("document.querySelector('#loss').hidden"))
         self.show(RUN, "--lost", "at worker 1", link="#3")
         said = self.browser.text("#asked p")
-        self.assertIn("lost at worker 1? Lost at 8: from place 8 on no order", said)
+        self.assertIn("lost at worker 1? Lost at 8: from place 8 on, no run", said)
         label = self.browser.value("document.querySelector('#canvas').getAttribute('aria-label')")
         self.assertTrue(label.endswith("at 3; lost at 8"), label)
         self.assertNotEqual(plain, self.reader.picture())
@@ -82,7 +82,7 @@ class Page(Shown):
     def test_what_wasnt_lost_is_said(self) -> None:
         self.show(RUN[:3], "--lost", "at worker 1")
         said = self.browser.text("#asked p")
-        self.assertIn("Still: from the last place of the run an order leads there.", said)
+        self.assertIn("Still: the goal can be reached from the last place of the run.", said)
         place = self.reader.place()
         self.browser.key("x")
         self.assertEqual(place, self.reader.place())

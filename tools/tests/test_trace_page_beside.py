@@ -30,13 +30,13 @@ class Beside(Shown):
             "the same up to place 6. Here: 7: core 1: poller 1 jump 0. Below: 7: core 0", said
         )
         self.assertIn("Below: other.commands", self.browser.text("#other-title"))
-        at = "What there is at place {} {}."
+        at = "The state at place {} {}."
         self.assertEqual(at.format(0, "is the same"), self.browser.text("#differing-at"))
         drawn = self.drawn()
         self.browser.key("d")
         self.assertEqual(7, self.reader.place())
         self.assertNotEqual(drawn, self.drawn())
-        said = at.format(7, "differs, as rdbg answers it")
+        said = at.format(7, "differs (as replies of rdbg)")
         self.assertEqual(said, self.browser.text("#differing-at"))
         rows = self.browser.rows("#differing")
         words = {tuple(it.split(" ")[:2]) for row in rows for it in row}
@@ -53,16 +53,16 @@ class Beside(Shown):
     def test_a_longer_one(self) -> None:
         self.show_both([*RUN, "forward 6"])
         said = self.browser.text("#difference")
-        self.assertIn("the same up to place 9. Here: it has ended at 9. Below: 10:", said)
+        self.assertIn("the same up to place 9. Here: it ended at 9. Below: 10:", said)
         self.browser.key("End")
         self.assertEqual(15, self.reader.place())
-        self.assertEqual("15: this run has ended at 9", self.browser.text("#readout"))
+        self.assertEqual("15: this run ended at 9", self.browser.text("#readout"))
         for key in ("0", "+", "ArrowLeft", "PageUp", "v", "m", "z"):
             self.browser.key(key)
 
     def test_the_same(self) -> None:
         self.show_both(RUN)
-        self.assertEqual("Both runs are the same.", self.browser.text("#difference"))
+        self.assertEqual("The two runs are the same.", self.browser.text("#difference"))
         self.browser.key("d")
         self.assertEqual(0, self.reader.place())
 

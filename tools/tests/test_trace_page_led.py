@@ -36,8 +36,10 @@ class Led(Shown):
             ],
             self.browser.texts("#led li"),
         )
-        wakes_nobody = "what is put into it wakes nobody who waits at line0. No other task "
-        self.assertIn(f"As long as line0 is in set lines, {wakes_nobody}", self.ends())
+        wakes_none = (
+            "putting an item into it does not wake a task that waits to receive from it. No other"
+        )
+        self.assertIn(f"While line0 is a member of set lines, {wakes_none}", self.ends())
         pinned = "pinned: marks, task server, queue line0, task reader0, task monitor"
         self.assertEqual(f"Lanes: places 0 to 26 of 0 to 26, at 26; {pinned}", self.label())
         self.browser.click(*self.browser.middle("#led li:nth-child(3) a"))

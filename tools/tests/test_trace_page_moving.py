@@ -122,7 +122,7 @@ class Moving(Shown):
         self.assertLessEqual(wanted | {"way-lines", "copy", "script-of", "whole"}, set(seen))
         self.browser.key("?")
         self.assertTrue(self.browser.value("document.querySelector('#help').open"))
-        self.assertIn("the tick before, the next tick", self.browser.text("#help"))
+        self.assertIn("previous tick, next tick", self.browser.text("#help"))
         self.browser.key("End")
         self.assertEqual(0, self.reader.place())
         self.browser.key("Escape")

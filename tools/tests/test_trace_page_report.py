@@ -78,23 +78,28 @@ class Said(unittest.TestCase):
             (
                 LOST_AT,
                 ["lost at 8", "step 0"],
-                "Lost at 8: .* 8 on no order, .* from place 7 one",
+                "Lost at 8: .* 8 on, no run .* from place 7 one",
                 8,
             ),
-            (LOST_AT, ["lost at 0"], "From no place of the run .*: 0 is its first", 0),
-            (LOST_AT, ["still", "step 0"], "Still: from the last place", None),
-            (LOST_AT, ["full", "no memory"], "That can't be told: full: no memory", None),
-            (REACH, ["found", "step 0"], "Found: an order from place 5 leads there", None),
-            (REACH, ["never"], "Never: from place 5 no order, of whatever length", None),
-            (REACH, ["not within 4 moves"], "Not within 4 moves: from place 5", None),
+            (
+                LOST_AT,
+                ["lost at 0"],
+                "Lost at 0: no run of any length .* from any place of this run",
+                0,
+            ),
+            (LOST_AT, ["still", "step 0"], "Still: .* from the last place", None),
+            (LOST_AT, ["full", "no memory"], "Undecided: full: no memory", None),
+            (REACH, ["found", "step 0"], "Found: a run from place 5 reaches the goal", None),
+            (REACH, ["never"], "Never: no run of any length from place 5", None),
+            (REACH, ["not within 4 moves"], "Not within 4 moves: .* no run from place 5", None),
             (
                 DOOMED,
                 ["found", "step 0"],
-                "Found: .* from which no order, of whatever length",
+                "Found: .* from which no run of any length",
                 None,
             ),
             (DOOMED, ["never", "within 4 moves it comes"], "Never: .* (within 4 moves it", None),
-            (DOOMED, ["full", "so"], "That can't be told", None),
+            (DOOMED, ["full", "so"], "Undecided", None),
         ):
             with self.subTest(lines):
                 it = asked(question, "g", read([*lines, counts]), 5, ["step 0"])
@@ -112,8 +117,8 @@ class Made(Shown):
         self.assertIn("isn't known to be proved", made)
         self.browser.value("document.querySelector('#made').open = true")
         for part, name, text in (
-            ("application", "Application: lost_item.json", LOST.read_text()),
-            ("lines", "Command lines: run.commands", "".join(f"{it}\n" for it in RUN)),
+            ("application", "Model: lost_item.json", LOST.read_text()),
+            ("lines", "Commands: run.commands", "".join(f"{it}\n" for it in RUN)),
         ):
             self.assertEqual(name, self.browser.text(f"#{part} summary"))
             self.browser.value(f"document.querySelector('#{part}').open = true")
@@ -128,9 +133,7 @@ class Made(Shown):
         self.browser.value("document.querySelector('#made').open = true")
         self.browser.value("document.querySelector('#application').open = true")
         self.browser.settle()
-        self.assertEqual(
-            "Application: talk.fw -D STEP=3", self.browser.text("#application summary")
-        )
+        self.assertEqual("Model: talk.fw -D STEP=3", self.browser.text("#application summary"))
         self.assertEqual("./rdbg sh talk.fw -DSTEP=3", self.browser.text("#way-where"))
         saved = self.folder / "saved"
         saved.mkdir()
@@ -186,15 +189,15 @@ class Answers(Shown):
         self.browser.click(*self.browser.middle("#asked-place"))
         self.assertEqual(8, self.reader.place())
         self.browser.key("End")
-        self.assertIn("behind the point of no return", self.browser.text("#readout"))
+        self.assertIn("after the point of no return", self.browser.text("#readout"))
         self.assertNotEqual(drawn, self.reader.picture())
 
     def check_lost(self) -> None:
         """Whether the page that is open answers where the job was lost."""
         self.assertEqual(8, self.reader.place())
         said = self.browser.text("#asked p")
-        self.assertIn("lost at worker 1? Lost at 8: from place 8 on no order", said)
-        self.assertIn("It was lost by move 8: core 1: poller 0 recv jobs 0 -> 1", said)
+        self.assertIn("lost at worker 1? Lost at 8: from place 8 on, no run", said)
+        self.assertIn("Move 8: core 1: poller 0 recv jobs 0 -> 1", said)
         self.assertTrue(self.browser.text("#readout").endswith("-- the point of no return"))
         order = self.browser.value("document.querySelector('#order pre').textContent")
         self.assertEqual([*RUN, "back 2", "tick", "step 0"], order.split("\n"))
@@ -204,9 +207,9 @@ class Answers(Shown):
         for words, said in (
             (
                 ("reach", str(LOST), "reg poller 0 = 1"),
-                "reach reg poller 0 = 1? Found: the order of",
+                "reach reg poller 0 = 1? Found: the run of",
             ),
-            (("hunt", str(LOST), "reg poller 0 = 1"), "hunt reg poller 0 = 1? Found: the order of"),
+            (("hunt", str(LOST), "reg poller 0 = 1"), "hunt reg poller 0 = 1? Found: the run of"),
             (("reach", str(STOLEN), "ended client", "--doomed"), "doomed ended client? Found: the"),
         ):
             with self.subTest(words):
@@ -219,9 +222,9 @@ class Answers(Shown):
     def test_what_is_asked_at_the_end(self) -> None:
         self.show(RUN, "--ask", "asleep")
         said = self.browser.text("#asked p")
-        self.assertIn("reach asleep? Never: from place 9 no order, of whatever length", said)
+        self.assertIn("reach asleep? Never: no run of any length from place 9", said)
         self.show(RUN, "--ask", "reach reg poller 0 = 0")
-        self.assertIn("Found: an order from place 9 leads there", self.browser.text("#asked p"))
+        self.assertIn("Found: a run from place 9 reaches the goal", self.browser.text("#asked p"))
         self.assertEqual(9, self.reader.place())
 
 
@@ -234,8 +237,8 @@ class Words(unittest.TestCase):
             (("--title", "x"), "--title is for a page: --page OUT.html"),
             (("--ask", "asleep", "--events", "-"), "--ask is for a page: --page OUT.html"),
             (("--ask", "asleap", *page), "--ask: word 1, 'asleap'"),
-            (("--at", "12", *page), "--at 12: the page has the places 0 to 3"),
-            (("--at", "tick > 9", *page), "--at: tick > 9 is so at none of the places 0 to 3"),
+            (("--at", "12", *page), "--at 12 is out of range: the page has places 0 to 3"),
+            (("--at", "tick > 9", *page), "--at: 'tick > 9' holds at none of the places 0 to 3"),
             (("--at", "x", *page), "--at: word 1, 'x'"),
             (("--note", "none.md", *page), "cannot read none.md: No such file"),
         ):

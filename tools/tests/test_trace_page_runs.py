@@ -41,7 +41,7 @@ class Runs(Shown):
 
     def test_a_part(self) -> None:
         self.show(RUN, "--from", "4", "--to", "6", link="#3")
-        self.assertEqual("3: before the first move that is shown", self.browser.text("#readout"))
+        self.assertEqual("3: before the first move shown", self.browser.text("#readout"))
         self.check_places(LOST, [*RUN, "back 3"], 3)
         self.show(RUN, "--from", "20")
         self.assertEqual(9, self.reader.place())
@@ -71,7 +71,7 @@ class Runs(Shown):
         # (a way from the end is promised where there is one)
         self.browser.value("location.hash = '#5'")
         self.browser.settle()
-        self.assertIn("there is no way back to here", self.browser.text("#way-note"))
+        self.assertIn("You cannot go back to here", self.browser.text("#way-note"))
         self.browser.key("e")
         self.assertEqual("8: poke reg poller 3 7, then trim 1", self.browser.text("#readout"))
         self.assertIn("poke reg poller 3 7", page.read_text())
@@ -91,7 +91,7 @@ class Runs(Shown):
     def test_from_the_end(self) -> None:
         self.show(link="#4")
         note = self.browser.text("#way-note")
-        self.assertEqual("From the end of the run, at 9: back 5 (in sh also: goto 4).", note)
+        self.assertEqual("From the end of the run, at 9: back 5 (or, in sh, goto 4).", note)
         self.assertEqual(self.reader.answers(), Asked(LOST).behind([*RUN, "back 5"]))
 
     def test_the_built_in_application(self) -> None:

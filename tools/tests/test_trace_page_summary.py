@@ -25,7 +25,7 @@ class Summary(Shown):
                 ["worker", wait, "2", four, "1", four],
                 ["producer", "on a core", "1", "1 tick, 6 moves", "0", "1 tick, 6 moves"],
                 ["producer", "ended", "1", "0 ticks, 3 moves", "6", "0 ticks, 3 moves"],
-                ["poller", "ready, on no core", "2", "0 ticks, 1 move", "0", "0 ticks, 2 moves"],
+                ["poller", "ready, not on a core", "2", "0 ticks, 1 move", "0", "0 ticks, 2 moves"],
                 ["poller", "on a core", "2", four, "1", "1 tick, 7 moves"],
             ],
             self.browser.rows("#waits"),

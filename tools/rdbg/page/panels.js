@@ -3,10 +3,10 @@
 class StatePanel {
   constructor(run) {
     this.run = run;
-    this.cores = new Table(byId("cores"), ["core", "who", "pc", "does next"]);
-    const task = ["task", "where", "phase", "pc", "does next", "holds"];
+    this.cores = new Table(byId("cores"), ["core", "task", "pc", "next instruction"]);
+    const task = ["task", "where", "phase", "pc", "next instruction", "holds"];
     this.tasks = new Table(byId("tasks"), task);
-    this.objects = new Table(byId("objects"), ["object", "has", "holds", "who waits, in order"]);
+    this.objects = new Table(byId("objects"), ["object", "level", "contents", "waiting tasks, in order"]);
     this.answers = byId("replies");
     this.answers.addEventListener("toggle", () => this.showAnswers());
   }
@@ -50,7 +50,7 @@ function taskRows(run, place) {
   return run.tasks.map((task, at) => {
     const it = run.values(task.tracks, place);
     const name = task.priority === null ? task.name : `${task.name} (${task.priority})`;
-    if (it.pc === null) return [name, "not known", "", "", "", ""];
+    if (it.pc === null) return [name, "unknown", "", "", "", ""];
     const data = it.data ? [`data ${bytesWords(it.data)}`] : [];
     const holds = [...registerWords(it.registers), ...data, ...noteWords(it.notes)].join(", ");
     const seat = seatWords(it.core, it.phase);
@@ -64,7 +64,7 @@ function objectRows(run, place) {
     const it = run.values(object.tracks, place);
     const name = `${object.kind} ${object.name}`;
     if (Object.values(it).some((value) => value === null) && it[firstTrack(object)] === null) {
-      return [name, "not known", "", ""];
+      return [name, "unknown", "", ""];
     }
     const lists = WAITING[object.kind];
     const waiting = lists.map(([list, words]) => [words, waitingNames(list, it[list])]);
@@ -83,7 +83,7 @@ function firstTrack({ tracks }) {
 class MovesPanel {
   constructor(run, go) {
     this.run = run;
-    const heads = ["place", "tick", "core", "who", "pc", "does", "effects"];
+    const heads = ["place", "tick", "core", "task", "pc", "instruction", "effects"];
     this.table = new Table(byId("moves"), heads);
     this.table.body.addEventListener("click", ({ target }) => {
       const row = target.closest("tr");
@@ -132,7 +132,7 @@ class ScriptPanel {
     this.run = run;
     this.table = new Table(byId("script"), SCRIPT_HEADS);
     this.choice = byId("script-of");
-    this.choice.appendChild(made("option", "the task that moved")).value = "";
+    this.choice.appendChild(made("option", "task of the last move")).value = "";
     run.tasks.forEach(({ name }, at) => {
       this.choice.appendChild(made("option", name)).value = String(at);
     });
@@ -153,7 +153,7 @@ class ScriptPanel {
     const rows = lines.slice(first, first + 11).flatMap((it, at) => {
       return scriptRows(it, first + at === next ? task.code[pc][0] : null);
     });
-    this.table.show(rows.length ? rows : [["", orNobody(pc), "", "the file isn't known", ""]]);
-    this.choice.options[0].textContent = `the task that moved (${this.run.tasks[this.moved].name})`;
+    this.table.show(rows.length ? rows : [["", orNobody(pc), "", "the model is not known", ""]]);
+    this.choice.options[0].textContent = `task of the last move (${this.run.tasks[this.moved].name})`;
   }
 }

@@ -1,42 +1,42 @@
-// What pages of runs have in common: one place of the run, shown by all parts, and what moves
-// about in it.
+// The common part of all pages that show a run: one current place, which every panel shows, and the
+// controls that move it.
 
 const MOVING_KEYS = [
-  ["Left, Right", "a move back, forward"],
-  ["Shift and Left, Right", "ten moves"],
-  ["Page Up, Page Down", "as many moves as are seen"],
-  ["Home, End", "the first place, the last"],
-  ["[ and ]", "the tick before, the next tick"],
-  ["w and W", "the next move that wakes somebody, the one before"],
-  ["e and E", "the next edit, interrupt or trim, the one before"],
-  ["x", "the move that lost a goal, where it is marked"],
-  ["/", "search; Enter finds the next, Escape leaves it"],
-  ["n and N", "the next that was found, the one before"],
+  ["Left, Right", "previous move, next move"],
+  ["Shift and Left, Right", "ten moves back, forward"],
+  ["Page Up, Page Down", "one screen of moves back, forward"],
+  ["Home, End", "first place, last place"],
+  ["[ and ]", "previous tick, next tick"],
+  ["w and W", "next move that wakes a task, previous one"],
+  ["e and E", "next edit, interrupt or trim, previous one"],
+  ["x", "the move that lost the goal, if one is marked"],
+  ["/", "search: Enter goes to the next match, Escape leaves the field"],
+  ["n and N", "next match, previous match"],
   ["g", "go to a place by its number"],
-  ["+ and -, a", "fewer moves, more, all; so does the wheel over the ruler, or with Ctrl"],
-  ["p, v", "pins the lane that is chosen, or lets it go; pins what this move was of, whom it woke too"],
-  ["o, y", "chooses a lane; leaves out all but some"],
-  ["Up, Down", "scrolls lanes or state, where the focus is (Tab)"],
+  ["+ and -, a", "zoom in, zoom out, show all moves (also: mouse wheel over the ruler, or with Ctrl)"],
+  ["p, v", "pin or unpin the chosen lane; pin the core and the tasks of this move"],
+  ["o, y", "choose a lane; filter lanes by name"],
+  ["Up, Down", "scroll the lanes or the state, whichever has the focus (Tab)"],
 ];
 
 const LAST_KEYS = [
-  ["t", "light or dark"],
-  ["?", "these keys; Escape closes them"],
+  ["t", "switch between light and dark"],
+  ["?", "show this help; Escape closes it"],
 ];
 
 const SIGNS = [
   ["a box with a name", "the task is on this core"],
-  ["slanting lines", "ready, and on no core"],
-  ["a dotted line", "waits, at the place that is named, until a tick or with no limit of time"],
-  ["a thin line", "ended"],
-  ["crossed lines", "failed"],
+  ["slanting lines", "the task is ready but not on a core"],
+  ["a dotted line", "the task waits where its label says, until a tick or with no time limit"],
+  ["a thin line", "the task has ended"],
+  ["crossed lines", "the task has failed"],
   ["a box below a core's tasks", "a move of this core"],
   ["an arrow", "the move wakes the task"],
-  ["a stroke at the top, a dotted line down", "a tick"],
-  ["a level that is filled", "how much a queue, a set or a buffer holds"],
-  ["names in a box below it", "who waits there, who is served first stands first"],
+  ["a stroke at the top with a dotted line", "a tick"],
+  ["a filled level", "how much a queue, set or buffer holds"],
+  ["names in a box below it", "the waiting tasks, in the order in which they are served"],
   ["*, ! and | with dashes", "an edit by hand; an interrupt; a trim"],
-  ["lost, above crossed lines", "the move behind which a goal could come no more, whatever came"],
+  ["lost, above crossed lines", "the move after which no run can reach the goal"],
 ];
 
 const LEGEND = [
@@ -134,7 +134,7 @@ class Viewer {
   readout(place) {
     const move = this.run.move(place);
     if (move) return moveSentence(this.run, move);
-    return `${place}: ${place ? "before the first move that is shown" : "boot"}`;
+    return `${place}: ${place ? "before the first move shown" : "boot"}`;
   }
 
   // The next of these places, in order, or the one before.

@@ -29,7 +29,7 @@ test("the first move that isn't the same", () => {
 test("where one of them ends", () => {
   const shorter = others((it) => Object.assign(it, { last: 3, moves: it.moves.slice(0, 3) }));
   assert.deepEqual([firstDifference(run, shorter), firstDifference(shorter, run)], [4, 4]);
-  assert.equal(doneWords(shorter, 4), "it has ended at 3");
+  assert.equal(doneWords(shorter, 4), "it ended at 3");
   assert.equal(doneWords(shorter, 0), "0: it begins here");
   assert.match(doneWords(run, 4), /^4: tick 1/);
 });

@@ -29,7 +29,7 @@ test("what tasks do, how often and how long", () => {
     ["waits at recv:jobs", 1, 2, 0, 1, 2, 0],
   ]);
   assert.deepEqual(told(1, 0, 5), [
-    ["ready, on no core", 2, 3, 1, 3, 2, 1],
+    ["ready, not on a core", 2, 3, 1, 3, 2, 1],
     ["on a core", 1, 2, 0, 1, 2, 0],
   ]);
   // (a part of it: what was so before counts from its beginning on)

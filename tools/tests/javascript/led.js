@@ -35,7 +35,7 @@ test("the last moves that touched an object, in their order", () => {
   assert.deepEqual(moves.map(({ place, text, flag }) => [place, text, flag]), [
     [3, "producer put something into jobs (send jobs 0 -> 1)", "put"],
     [5, "an edit took something from jobs (poke reg worker 3 7)", "took"],
-    [6, "worker got what it waited for (select set -> 1)", "got"],
+    [6, "worker got what it was waiting for (select set -> 1)", "got"],
     [7, `worker ${LAST}`, "waits"],
   ]);
   assert.deepEqual(keys, ["marks", "task worker", "queue jobs", "task producer"]);
@@ -43,10 +43,10 @@ test("the last moves that touched an object, in their order", () => {
 
 test("who could end a wait", () => {
   const run = new Run(valuesOf(takenBack()));
-  const whole = "Who could end the wait, as far as this page knows: producer (ready), ";
+  const whole = "These tasks could end the wait, as far as this page can tell: producer (ready), ";
   assert.equal(ledTo(run, 7).ends, `${whole}whose next instruction is send jobs max.`);
   run.tasks[1].code = [["send jobs 0"], ["data 41"], ["end"]];
-  assert.equal(ledTo(run, 7).ends, `${whole}which has send jobs 0 in its script.`);
+  assert.equal(ledTo(run, 7).ends, `${whole}whose script contains send jobs 0.`);
   run.tasks[1].code = [["send others 0"]];
   assert.match(ledTo(run, 7).ends, /^No other task /);
   run.tasks[1].code = [];

@@ -1,4 +1,4 @@
-"""The question that a page answers: its words, what was answered, and where that is seen."""
+"""The question that a page answers, the answer in sentences, and the place that shows it."""
 import dataclasses
 from typing import Optional, Sequence, Tuple
 
@@ -9,8 +9,9 @@ from rdbg.reaching.said import Answer, Kind
 
 @dataclasses.dataclass(frozen=True)
 class Asked:
-    """A question with its answer: the words of a command line, sentences, the place at which a page
-    opens, the first from which the goal can't come, and an order to where that is seen."""
+    """A question with its answer: the words of a command line, the answer in sentences, the place at
+    which the page opens, the first place from which the goal is unreachable, and a run that shows
+    the answer if the run of the page does not."""
 
     words: str
     said: Tuple[str, ...]
@@ -20,36 +21,37 @@ class Asked:
 
 
 def of_loss(answer: Answer) -> str:
-    """What is said of a goal that a run may have lost."""
+    """Returns the sentence about a goal that the run may have lost."""
     loss = loss_of(answer)
     if loss is None:
-        return "Still: from the last place of the run an order leads there."
+        return "Still: the goal can be reached from the last place of the run."
     if not answer.order:
-        nowhere = "From no place of the run an order, of whatever length, leads there"
-        return f"{nowhere}: {loss.place} is its first."
+        return (
+            f"Lost at {loss.place}: no run of any length reaches the goal from any place of this run,"
+            f" which begins at place {loss.place}."
+        )
     return (
-        f"Lost at {loss.place}: from place {loss.place} on no order, of whatever length, leads"
-        f" there; from place {loss.before} one does."
+        f"Lost at {loss.place}: from place {loss.place} on, no run of any length reaches the goal;"
+        f" from place {loss.before} one does."
     )
 
 
 def of_doom(answer: Answer, shown: str) -> str:
-    """What is said of whether a goal can be lost."""
+    """Returns the sentence about whether a goal can be lost."""
     if answer.kind is Kind.REACHED:
-        whatever = "no order, of whatever length, leads there"
-        return f"Found: {shown} leads to a place from which {whatever}."
+        return f"Found: {shown} leads to a place from which no run of any length reaches the goal."
     more = f" ({answer.why})" if answer.why else ""
-    return f"Never: from every place that an order leads to, one leads there{more}."
+    return f"Never: the goal can be reached from every reachable place{more}."
 
 
 def of_reach(answer: Answer, place: int, shown: str) -> str:
-    """What is said of whether an order leads to a goal from a place."""
+    """Returns the sentence about whether a run from a place reaches a goal."""
     where = f"from place {place}" if place else "from boot"
     if answer.kind is Kind.REACHED:
-        return f"Found: {shown} leads there."
+        return f"Found: {shown} reaches the goal."
     if answer.head() == "never":
-        return f"Never: {where} no order, of whatever length, leads there."
-    return f"{answer.head().capitalize()}: {where} no order within that leads there."
+        return f"Never: no run of any length {where} reaches the goal."
+    return f"{answer.head().capitalize()}: within that limit, no run {where} reaches the goal."
 
 
 def asked(
@@ -60,15 +62,15 @@ def asked(
     order: Sequence[str] = (),
     beside: Sequence[str] = (),
 ) -> Asked:
-    """A question about a goal, asked at a place, or of the run up to there, with its answer and the
-    remarks `beside` it. The order of the answer is shown if it isn't the run of the page."""
+    """Returns a question about a goal, asked at a place or about the run up to there, with its
+    answer and the remarks `beside` it. The run of the answer is shown unless it is the page's."""
     loss = loss_of(answer) if question is LOST else None
     lost = loss.place if loss else None
-    own = f"the order of this page, to place {place},"
-    shown = f"an order from place {place}" if order else own
+    own = f"the run of this page, up to place {place},"
+    shown = f"a run from place {place}" if order else own
     if answer.kind is Kind.UNTOLD:
         why = f": {answer.why}" if answer.why else ""
-        said = f"That can't be told: {answer.head()}{why}."
+        said = f"Undecided: {answer.head()}{why}."
     elif question is LOST:
         said = of_loss(answer)
     elif question is DOOMED:

@@ -22,7 +22,7 @@ function firstDifference(run, other) {
 function doneWords(run, place) {
   const move = run.move(place);
   if (move) return moveSentence(run, move);
-  return place > run.last ? `it has ended at ${run.last}` : `${place}: it begins here`;
+  return place > run.last ? `it ended at ${run.last}` : `${place}: it begins here`;
 }
 
 // What two runs differ in at a place, as rdbg answers it: the replies that aren't the same.
@@ -38,7 +38,7 @@ class BesidePanel {
     this.run = page.run;
     this.other = new Run(run);
     this.place = firstDifference(page.run, this.other);
-    this.table = new Table(byId("differing"), [own || "this run", name || "the other"]);
+    this.table = new Table(byId("differing"), [own || "this run", name || "the other run"]);
     this.open(name);
     this.say();
   }
@@ -69,8 +69,8 @@ class BesidePanel {
     const { run, other, place } = this;
     byId("difference").textContent =
       place === null
-        ? "Both runs are the same."
-        : `Both runs are the same up to place ${Math.max(run.first, place - 1)}. ` +
+        ? "The two runs are the same."
+        : `The two runs are the same up to place ${Math.max(run.first, place - 1)}. ` +
           `Here: ${doneWords(run, place)}. Below: ${doneWords(other, place)}.`;
     const link = byId("to-difference");
     link.hidden = place === null;
@@ -87,7 +87,7 @@ class BesidePanel {
     const rows = differingReplies(run, other, page.place);
     this.table.show(rows);
     byId("differing").hidden = !rows.length;
-    const how = rows.length ? "differs, as rdbg answers it" : "is the same";
-    byId("differing-at").textContent = `What there is at place ${page.place} ${how}.`;
+    const how = rows.length ? "differs (as replies of rdbg)" : "is the same";
+    byId("differing-at").textContent = `The state at place ${page.place} ${how}.`;
   }
 }

@@ -49,7 +49,7 @@ function totalsOf(run, stretches) {
 function doing({ core, phase }) {
   if (phase === null) return "";
   if (core !== null) return "on a core";
-  if (isReady(phase)) return "ready, on no core";
+  if (isReady(phase)) return "ready, not on a core";
   const [word, ...rest] = phase.split(":");
   return word === "wait" ? `waits at ${rest[0]}:${rest[1]}` : phaseWords(phase);
 }

@@ -104,7 +104,7 @@ function gotWords(run, place) {
   const [word, name] = wordsOf(does);
   const set = run.objects.find((it) => word === "select" && it.kind === "set" && it.name === name);
   const [first] = (set && run.value(set.tracks.handles, place - 1)) || [];
-  const what = first ? `selected ${first} from ${name}` : "got what it waited for";
+  const what = first ? `selected ${first} from ${name}` : "got what it was waiting for";
   return `${run.tasks[task].name} ${what} (${does})`;
 }
 
@@ -163,17 +163,17 @@ function enders(run, wait, place) {
 function enderWords(run, wait, place, found) {
   if (!run.tasks.some(({ code }) => code.length)) return "";
   const set = isMember(run, wait, place) ? setOf(run, wait.object, place) : null;
-  const nobody = `what is put into it wakes nobody who waits at ${wait.name}. `;
-  const before = set === null ? "" : `As long as ${wait.name} is in set ${set}, ${nobody}`;
+  const nobody = "putting an item into it does not wake a task that waits to receive from it. ";
+  const before = set === null ? "" : `While ${wait.name} is a member of set ${set}, ${nobody}`;
   const next = found.filter(({ isNext }) => isNext);
   const later = found.filter(({ isNext }) => !isNext);
   const said = [
     next.map(({ name, seat, text }) => `${name} (${seat}), whose next instruction is ${text}`),
-    later.map(({ name, seat, text }) => `${name} (${seat}), which has ${text} in its script`),
+    later.map(({ name, seat, text }) => `${name} (${seat}), whose script contains ${text}`),
   ].flat();
   const who = said.length
-    ? `Who could end the wait, as far as this page knows: ${said.join("; ")}.`
-    : "No other task that hasn't ended has an instruction that ends this wait.";
+    ? `These tasks could end the wait, as far as this page can tell: ${said.join("; ")}.`
+    : "No other task that has not ended contains an instruction that could end this wait.";
   return before + who;
 }
 

@@ -50,8 +50,8 @@ class BookmarkPanel {
         Object.assign(it, { type: "button", title });
         Object.assign(it.dataset, { place: String(place), act });
       };
-      button(`${place}: ${word}`, "go", "goes there");
-      button("\u00d7", "drop", "drops this bookmark");
+      button(`${place}: ${word}`, "go", "go to this bookmark");
+      button("\u00d7", "drop", "delete this bookmark");
       return item;
     });
     byId("bookmarks").replaceChildren(...items);
@@ -102,7 +102,7 @@ class RangePanel {
     const { range, run } = this;
     const words = range ? lengthWords(lengthOf(run, ...range)) : "";
     byId("range").textContent = range ? `places ${range[0]} to ${range[1]}: ${words}` : "";
-    const does = this.begun !== null ? "end range" : range ? "drop range" : "begin range";
+    const does = this.begun !== null ? "end range" : range ? "clear range" : "begin range";
     byId("range-begin").textContent = does;
   }
 }

@@ -2,11 +2,11 @@
 // marked, in place of the lanes.
 
 const PRINTED = [
-  ["Cores", ["core", "who", "pc", "does next"], coreRows],
-  ["Tasks", ["task", "where", "phase", "pc", "does next", "holds"], taskRows],
-  ["Objects", ["object", "has", "holds", "who waits, in order"], objectRows],
+  ["Cores", ["core", "task", "pc", "next instruction"], coreRows],
+  ["Tasks", ["task", "where", "phase", "pc", "next instruction", "holds"], taskRows],
+  ["Objects", ["object", "level", "contents", "waiting tasks, in order"], objectRows],
 ];
-const MOVE_HEADS = ["place", "tick", "core", "who", "pc", "does", "effects"];
+const MOVE_HEADS = ["place", "tick", "core", "task", "pc", "instruction", "effects"];
 const MOVES_BEFORE = 4;
 
 function printedTable(caption, heads, rows) {

@@ -22,9 +22,9 @@ class ReportPanel {
     const { asked, consts, day, made: maker } = report;
     byId("made-by").textContent = `Made on ${day} by ${maker}.`;
     const given = consts.map((it) => ` -D ${it}`).join("");
-    offerText(byId("application"), `Application: ${application?.name}${given}`, application);
-    offerText(byId("lines"), `Command lines: ${lines?.name}`, lines);
-    offerText(byId("other-lines"), `Command lines of the other run: ${other?.name}`, other);
+    offerText(byId("application"), `Model: ${application?.name}${given}`, application);
+    offerText(byId("lines"), `Commands: ${lines?.name}`, lines);
+    offerText(byId("other-lines"), `Commands of the other run: ${other?.name}`, other);
     // (place 0 is of no move)
     this.lost = asked?.lost || null;
     if (asked) this.showAsked(asked, go);
@@ -40,7 +40,7 @@ class ReportPanel {
     byId("asked").hidden = false;
     byId("asked-words").textContent = `${words}?`;
     const move = lost === null ? null : this.run.move(lost);
-    const more = move ? [`It was lost by move ${moveSentence(this.run, move)}.`] : [];
+    const more = move ? [`Move ${moveSentence(this.run, move)} lost it.`] : [];
     byId("asked-said").textContent = [...said, ...more].join(" ");
     const link = byId("asked-place");
     link.hidden = at === null || at < this.run.first || at > this.run.last;
@@ -57,6 +57,6 @@ class ReportPanel {
   // What there is to say of a place besides.
   said(place) {
     if (this.lost === null || place < this.lost) return "";
-    return place === this.lost ? " -- the point of no return" : " -- behind the point of no return";
+    return place === this.lost ? " -- the point of no return" : " -- after the point of no return";
   }
 }

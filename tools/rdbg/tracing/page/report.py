@@ -66,12 +66,14 @@ class Report:
         none is said. Raises `Failure` for another one."""
         if isinstance(self.at, Goal):
             if seen is None:
-                why = f"--at: {self.at.text} is so at none of the places {first} to {last}"
+                why = f"--at: '{self.at.text}' holds at none of the places {first} to {last}"
                 raise Failure(why, 2)
             return seen
         if self.at is not None:
             if not first <= self.at <= last:
-                raise Failure(f"--at {self.at}: the page has the places {first} to {last}", 2)
+                raise Failure(
+                    f"--at {self.at} is out of range: the page has places {first} to {last}", 2
+                )
             return self.at
         found = self.asked.at if self.asked else None
         return None if found is None else max(first, min(found, last))

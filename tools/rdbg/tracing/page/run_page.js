@@ -29,12 +29,12 @@ class RunPage extends Viewer {
 
   get moreKeys() {
     return [
-      ["c", "copies the lines to type"],
-      ["m", "begins a range at this place, ends it, drops it; so does a drag with Shift, or over the ruler"],
-      ["z", "shows the range in all the room there is"],
-      ["b", "a bookmark at this place, with a word"],
-      ["j and J", "the next bookmark, the one before"],
-      ["d", "where two runs first differ"],
+      ["c", "copy the commands to type"],
+      ["m", "begin, end or clear a range at this place (also: drag over the ruler, or with Shift)"],
+      ["z", "zoom to the range"],
+      ["b", "set a bookmark with a label at this place"],
+      ["j and J", "next bookmark, previous bookmark"],
+      ["d", "go to where the two runs first differ"],
     ];
   }
 
@@ -89,7 +89,7 @@ class RunPage extends Viewer {
   }
 
   readout(place) {
-    if (place > this.run.last) return `${place}: this run has ended at ${this.run.last}`;
+    if (place > this.run.last) return `${place}: this run ended at ${this.run.last}`;
     return super.readout(place) + this.report.said(place);
   }
 

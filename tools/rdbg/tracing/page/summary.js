@@ -42,9 +42,9 @@ function loadRows(run, first, last) {
 }
 
 const SUMMARIES = [
-  ["waits", ["task", "does", "times", "at most", "from", "in all"], waitRows],
-  ["levels", ["object", "full at most", "from", "waits", "at once", "from"], levelRows],
-  ["load", ["core", "busy", "idle", "idle at most", "from", "moves of its own"], loadRows],
+  ["waits", ["task", "activity", "times", "longest", "from", "in total"], waitRows],
+  ["levels", ["object", "fullest", "from", "waits", "most at once", "from"], levelRows],
+  ["load", ["core", "busy", "idle", "longest idle", "from", "own moves"], loadRows],
 ];
 
 class SummaryPanel {

@@ -24,7 +24,7 @@ function wayTo(way, place) {
   if (way.server) return wayAtPort(way, place);
   const where = way.program ? `${way.prompt} (or ${way.program})` : way.prompt;
   const lines = linesTo(way, place);
-  const note = place === 0 ? "This is boot: nothing has to be typed." : behindEnd(way, place);
+  const note = place === 0 ? "This is boot: there is nothing to type." : behindEnd(way, place);
   return { where, lines, note };
 }
 
@@ -33,16 +33,16 @@ function behindEnd({ lines, base }, place) {
   const done = lines.length ? lines[lines.length - 1][1] : 0;
   if (place === done) return "This is the end of the run.";
   if (place < base) {
-    return `From the end of the run there is no way back to here: trim gave up the records before ${base}. These lines stop earlier, where there was one.`;
+    return `You cannot go back to here from the end of the run: a trim dropped the records before place ${base}. These commands stop before that trim.`;
   }
-  return `From the end of the run, at ${done}: back ${done - place} (in sh also: goto ${place}).`;
+  return `From the end of the run, at ${done}: back ${done - place} (or, in sh, goto ${place}).`;
 }
 
 function wayAtPort(way, place) {
   const back = way.done - place;
   const there = back
-    ? `goto ${place} leads there while the server has the moves that it had when this page was made.`
-    : "The server was here when this page was made.";
+    ? `goto ${place} gets here as long as the server still has the moves that it had when this page was made.`
+    : "The server was at this place when this page was made.";
   const lines = way.known ? linesTo(way, place) : [`goto ${place}`];
   const where = way.known ? way.prompt : way.server;
   const note = way.known ? `At the server (${way.server}): ${there}` : there;
@@ -53,7 +53,7 @@ function wayAtPort(way, place) {
 function shownLines(lines) {
   if (lines.length <= LINES_SHOWN) return lines.join("\n");
   const left = lines.length - LINES_SHOWN;
-  return [`(${left} lines before these: Copy has all)`, ...lines.slice(left)].join("\n");
+  return [`(${left} earlier lines not shown; Copy copies all)`, ...lines.slice(left)].join("\n");
 }
 
 // What to type to come here.
