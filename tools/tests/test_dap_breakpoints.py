@@ -55,7 +55,7 @@ class Lines(Held):
             found = client.lines(self.file, 1, 7, 11, 14, 99)
             self.assertEqual([it.get("line") for it in found], [7, 7, 13, 14, None])
             self.assertEqual(found[3]["message"], "taker 1 add r2 1")
-            self.assertIn("no instruction stands at this line", found[4]["message"])
+            self.assertIn("there is no instruction at or after this line", found[4]["message"])
             self.assertEqual((found[3]["column"], found[3]["endColumn"]), (5, 13))
             self.assertFalse(client.lines(LOST, 6)[0]["verified"])
             self.assertEqual(client.lines(self.file), [])
@@ -76,7 +76,7 @@ class Lines(Held):
             self.assertEqual(shown, ["data 41", "send jobs 0", "end"])
             found = client.lines(LOST, 7, column=places[1]["column"] + 3)
             self.assertEqual(found[0]["message"], "producer 1 send jobs 0")
-            self.assertEqual(self.stops(client, "continue", 1), ["at 2: producer comes to 1"])
+            self.assertEqual(self.stops(client, "continue", 1), ["at 2: producer reaches 1"])
 
     def test_an_editor_that_counts_from_0(self) -> None:
         with editor() as client:
@@ -92,9 +92,9 @@ class Lines(Held):
             client.begin(self.file, limit=200)
             client.lines(self.file, 14)
             ahead = self.stops(client, "continue", 4)
-            self.assertEqual([it.split(": ")[1] for it in ahead], ["taker comes to 1"] * 4)
+            self.assertEqual([it.split(": ")[1] for it in ahead], ["taker reaches 1"] * 4)
             back = self.stops(client, "reverseContinue", 4)
-            self.assertEqual(back, [*ahead[2::-1], "at 0: the start: nothing was met before"])
+            self.assertEqual(back, [*ahead[2::-1], "at 0: the start: no breakpoint was hit before"])
             self.assertEqual(self.stops(client, "continue", 4), ahead)
             client.lines(self.file, 14, condition="reg taker 2 > 2")
             self.assertEqual(self.stops(client, "reverseContinue", 1)[0][:4], "at 0")
@@ -114,9 +114,9 @@ class Lines(Held):
                 ({"condition": "jobs>0"}, ""),
                 ({"condition": "count jobs > 0 5"}, "'and', 'or', ')' or the end is wanted there"),
                 ({"condition": "reg maker 9 = 1"}, "a register is wanted there, 0 to 7"),
-                ({"hitCondition": "often"}, "'often' is no number of hits"),
-                ({"hitCondition": "0"}, "'0' is no number of hits"),
-                ({"logMessage": "{maker.r9}"}, "{maker.r9} is no register, part of a task"),
+                ({"hitCondition": "often"}, "'often' is not a hit count"),
+                ({"hitCondition": "0"}, "'0' is not a hit count"),
+                ({"logMessage": "{maker.r9}"}, "{maker.r9} is not a register, a part of a task"),
                 ({"logMessage": "{count job + 1}"}, "the name of a queue is wanted there"),
             ):
                 found = client.lines(self.file, 14, **more)[0]
@@ -138,7 +138,7 @@ class Lines(Held):
         with editor() as client:
             client.begin(self.file, limit=50)
             stop = client.stopped("continue", threadId=2)
-            self.assertEqual(stop["description"], "at 50: 50 moves, and nothing was met")
+            self.assertEqual(stop["description"], "at 50: no breakpoint was hit in 50 moves")
             self.assertIn(".. 45 moves before these", client.output())
 
     def test_the_end(self) -> None:
@@ -146,9 +146,9 @@ class Lines(Held):
             client.begin(self.file, moves=20)
             for _ in range(2):
                 stop = client.stopped("continue", threadId=2)
-                said = "at 20: there is no further move: MovesFull"
+                said = "at 20: no further move is possible: MovesFull"
                 self.assertEqual(stop["description"], said)
-            self.assertIn("rdbg says no MovesFull", client.refused("next", threadId=1))
+            self.assertIn("rdbg replied no MovesFull", client.refused("next", threadId=1))
 
 
 class Names(Held):
@@ -159,11 +159,11 @@ class Names(Held):
             client.begin(LOST)
             for name, text in (
                 ("count jobs > 0", "count jobs > 0"),
-                ("xQueueReceive", "worker comes to 0; poller comes to 0"),
-                ("recv jobs 0", "poller comes to 0"),
-                ("jump", "worker comes to 1; poller comes to 1"),
-                ("producer", "producer comes to 0"),
-                ("producer:1", "producer comes to 1"),
+                ("xQueueReceive", "worker reaches 0; poller reaches 0"),
+                ("recv jobs 0", "poller reaches 0"),
+                ("jump", "worker reaches 1; poller reaches 1"),
+                ("producer", "producer reaches 0"),
+                ("producer:1", "producer reaches 1"),
                 ("sleeps worker", "sleeps worker"),
                 ("wakes worker", "wakes worker"),
                 ("changes jobs", "changes jobs"),
@@ -173,7 +173,7 @@ class Names(Held):
             ):
                 self.assertEqual(named(client, name)[0].get("message"), text)
             for name, why in (
-                ("", "a condition, as"),
+                ("", "expected a condition such as"),
                 ("producer 9", "has no instruction 9"),
                 ("sleeps", "the name of a task is wanted there"),
                 ("sleeps nobody", "word 2, 'nobody': the name of a task is wanted there"),
@@ -205,7 +205,7 @@ class Names(Held):
             client.begin(LOST)
             named(client, "sleeps worker", "producer 2", "wakes worker", "tick > 3")
             stops = [client.stopped("continue", threadId=2) for _ in range(4)]
-            texts = ["sleeps worker", "producer comes to 2; wakes worker"]
+            texts = ["sleeps worker", "producer reaches 2; wakes worker"]
             expected = [f"at 1: {texts[0]}", f"at 5: {texts[1]}", "at 12: tick > 3"]
             self.assertEqual([it["description"] for it in stops[:3]], expected)
             self.assertEqual(len(stops[1]["hitBreakpointIds"]), 2)
@@ -269,7 +269,7 @@ class Names(Held):
             self.assertEqual(client.stopped("continue", threadId=uart)["reason"], "exception")
             self.assertEqual(client.ask("exceptionInfo", threadId=1)["exceptionId"], "asleep")
             stop = client.stopped("continue", threadId=uart)
-            self.assertIn("asleep: all that is left waits", stop["description"])
+            self.assertIn("asleep: all remaining tasks wait", stop["description"])
 
 
 class Endings(Held):
@@ -282,8 +282,8 @@ class Endings(Held):
         for tasks, filters, reason, said in (
             ((ends,), ["asleep"], "pause", "finished: all tasks have ended"),
             ((ends, waits), ["asleep"], "exception", "asleep: ends ended; waits waits at recv:q"),
-            ((ends, waits), [], "pause", "asleep: all that is left waits, and no task has a"),
-            ((waits, fails), [], "pause", "asleep: all that is left waits, and no task has a"),
+            ((ends, waits), [], "pause", "asleep: all remaining tasks wait, and none has a"),
+            ((waits, fails), [], "pause", "asleep: all remaining tasks wait, and none has a"),
             ((ends, fails), [], "pause", "stuck: no task waits, and one has failed"),
             ((ends, fails), ["failed"], "exception", "fails failed"),
         ):
@@ -336,11 +336,13 @@ class Places(Held):
             worker = client.thread("worker")
             client.stopped("next", threadId=worker)
             said = client.refused("next", threadId=worker)
-            self.assertIn("worker is on no core: it waits at recv:jobs with no limit of time", said)
-            self.assertIn("Step Out runs until it goes on", said)
+            self.assertIn(
+                "worker is not on a core: it waits at recv:jobs with no limit of time", said
+            )
+            self.assertIn("Step Out runs until it continues", said)
             client.event("stopped")
             stop = client.stopped("stepOut", threadId=worker)
-            self.assertEqual(stop["description"], "at 7: worker goes on")
+            self.assertEqual(stop["description"], "at 7: worker continued")
             self.assertEqual(stop["threadId"], worker)
 
     def test_time_is_a_thread(self) -> None:
@@ -365,9 +367,9 @@ class Places(Held):
                 [it["label"] for it in found],
                 [
                     "back to place 10, where worker came to 0",
-                    "an edit: worker goes on at 0",
+                    "edit: worker continues at 0",
                     "back to place 7, where worker came to 1",
-                    "an edit: worker goes on at 1",
+                    "edit: worker continues at 1",
                 ],
             )
             stop = client.stopped("goto", threadId=2, targetId=3)

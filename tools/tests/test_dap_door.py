@@ -153,7 +153,7 @@ class Silent(unittest.TestCase):
                 clients[-1].ask("initialize")
             with port.editor() as client:
                 said = client.refused("initialize")
-                self.assertEqual(said, f"{MOST} editors are served here already")
+                self.assertEqual(said, f"there are already {MOST} editors")
                 self.assertIsNone(client.receive())
             clients[0].ask("disconnect")
             self.assertIsNone(clients[0].receive())

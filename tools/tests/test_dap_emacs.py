@@ -177,10 +177,10 @@ HUNTS = (
             "step | at 4: uart 3 jumpz r1 0, goes on at 4",
             "exception | at 26: uart failed: SetFull",
             "set inputs = 1/1 handles rx",
-            "function breakpoint | at 18: uart comes to 4",
+            "function breakpoint | at 18: uart reaches 4",
             "function breakpoint | at 9: sleeps server",
             "queue rx = 0/1 -, waits: receive: server",
-            "function breakpoint | at 4: uart comes to 4",
+            "function breakpoint | at 4: uart reaches 4",
         ),
     ),
     Hunt(
@@ -201,13 +201,13 @@ HUNTS = (
 """,
         (
             "entry | at 0: the start",
-            "function breakpoint | at 5: worker comes to 1",
+            "function breakpoint | at 5: worker reaches 1",
             "step | at 6: worker 1 recv items 0 -> 0",
             "exception | at 12: asleep: sender waits at recv:acks with no limit of time;"
             " worker waits at note:0 with no limit of time",
             "queue items = 1/4 41",
             "function breakpoint | at 8: changes items",
-            "function breakpoint | at 5: worker comes to 1",
+            "function breakpoint | at 5: worker reaches 1",
             "step | at 6: sender 2 send items 0 -> 1, items 1/4",
             "step | at 7: worker 1 recv items 0 -> 1, data 41, items 0/4",
             "r0 = 1",
@@ -277,16 +277,16 @@ class Sessions(Emacs):
 """,
             "lost_item.json",
             "entry | at 0: the start",
-            "breakpoint | at 11: poller comes to 0, count jobs = 0",
+            "breakpoint | at 11: poller reaches 0, count jobs = 0",
             "r0 = 0",
             "r0 = 42",
             "step | at 13: poller 0 recv jobs 0 -> 0",
             "step | at 12, before: poller 0 recv jobs 0 -> 0",
-            "breakpoint | at 11: poller comes to 0, count jobs = 0",
+            "breakpoint | at 11: poller reaches 0, count jobs = 0",
             "step | at 12: tick 4",
             "pause | still at 12",
-            "refused: producer is on no core: it has ended",
-            "breakpoint | at 16: poller comes to 0, count jobs = 0",
+            "refused: producer is not on a core: it has ended",
+            "breakpoint | at 16: poller reaches 0, count jobs = 0",
             "entry | at 0: the start",
         )
 
@@ -328,7 +328,7 @@ class Attached(Emacs):
                 "lost_item.json",
                 "entry | attached at 0",
                 "pause | still at 0",
-                "refused: rdbg says no Held 1: session 1 has the wheel: views go on, moves once it"
+                "refused: rdbg replied no Held 1: session 1 has the wheel: views go on, moves once it"
                 " gives it",
                 "wheel 1",
                 "moves 0 undone 0 kept 0",

@@ -108,7 +108,7 @@ class Buttons(Held):
     def there_and_back(self, client: Client, description: str) -> None:
         """On to a stop, back to the start, and on again, as an editor does by itself."""
         self.timed(client, "continue", description)
-        self.timed(client, "reverseContinue", "at 0: the start: nothing was met before")
+        self.timed(client, "reverseContinue", "at 0: the start: no breakpoint was hit before")
         self.timed(client, "continue", description)
 
     def test_a_breakpoint_100000_moves_ahead(self) -> None:
@@ -116,17 +116,17 @@ class Buttons(Held):
             client.begin(self.file)
             client.lines(self.file, DONE)
             self.assertGreater(far(ROUNDS), 100_000)
-            self.there_and_back(client, f"at {far(ROUNDS)}: counter comes to 4")
+            self.there_and_back(client, f"at {far(ROUNDS)}: counter reaches 4")
 
     def test_by_a_condition_and_a_number_of_hits(self) -> None:
         with editor() as client:
             client.begin(self.file)
             place = 1 + 6 * (ROUNDS - 5)
             client.lines(self.file, LOOP, condition="reg counter 0 = 5")
-            self.there_and_back(client, f"at {place}: counter comes to 1, reg counter 0 = 5")
+            self.there_and_back(client, f"at {place}: counter reaches 1, reg counter 0 = 5")
             client.stopped("reverseContinue", threadId=2)
             client.lines(self.file, LOOP, hitCondition="3000")
-            self.there_and_back(client, f"at {1 + 6 * 2_999}: counter comes to 1, hit 3000")
+            self.there_and_back(client, f"at {1 + 6 * 2_999}: counter reaches 1, hit 3000")
 
     def test_among_several(self) -> None:
         with editor() as client:

@@ -42,8 +42,8 @@ class Frames(Held):
                 self.assertIn(other, one)
 
     def test_headers(self) -> None:
-        self.wrong(b"Content-Length: many\r\n\r\n", "Content-Length is no number of bytes")
-        self.wrong(b"Content-Length: -3\r\n\r\n", "Content-Length is no number of bytes")
+        self.wrong(b"Content-Length: many\r\n\r\n", "Content-Length is not a number of bytes")
+        self.wrong(b"Content-Length: -3\r\n\r\n", "Content-Length is not a number of bytes")
         self.wrong(b"hello\r\n\r\n", "a header has lines such as")
         self.wrong(b"hello\r\n", "a header has lines such as")
         self.wrong(b"\r\n\r\n\n")
@@ -92,10 +92,10 @@ class Frames(Held):
         with editor() as client:
             wrong: List[Tuple[Message, str]] = [
                 ({"arguments": 3}, "arguments must be an object"),
-                ({"command": ""}, "a text as command"),
-                ({"command": "dance"}, "rdbg answers no request 'dance'"),
-                ({"command": "d" * 100_000}, "rdbg answers no request"),
-                ({"command": "\ud800{}"}, "rdbg answers no request"),
+                ({"command": ""}, "a string as command"),
+                ({"command": "dance"}, "request 'dance' is not supported"),
+                ({"command": "d" * 100_000}, "is not supported"),
+                ({"command": "\ud800{}"}, "is not supported"),
             ]
             for more, text in wrong:
                 client.raw(json.dumps({**REQUEST, **more}).encode())
@@ -135,12 +135,12 @@ class Numbers(Held):
                     ("next", {"threadId": number}, f"there is no thread {number}"),
                     ("variables", {"variablesReference": number}, f"no variables {number}"),
                     ("goto", {"threadId": 2, "targetId": number}, f"no target {number}"),
-                    ("source", {"sourceReference": number}, f"there is no text {number}"),
+                    ("source", {"sourceReference": number}, f"there is no source {number}"),
                 ]
                 for command, asked, text in wrong:
                     self.assertIn(text, client.refused(command, asked))
             found = client.lines(LOST, 1234567890123456789)
-            self.assertIn("no instruction stands at this line", found[0]["message"])
+            self.assertIn("there is no instruction at or after this line", found[0]["message"])
             asked = {"threadId": 2, "startFrame": 10**19, "levels": 10**19}
             self.assertEqual(client.ask("stackTrace", asked)["stackFrames"], [])
             self.assertEqual(client.place(), 0)
@@ -149,20 +149,20 @@ class Numbers(Held):
         with editor() as client:
             client.begin(LOST)
             for text, said in (
-                ("1e19", "a whole number, and not 1e+19"),
-                ("2.0", "a whole number, and not 2.0"),
-                ("true", "a number, and not true"),
-                ('"2"', "a number, and not a text"),
-                ("[]", "a number, and not a list"),
-                ("1" * 5_000, "a number, and not one of more than 1000 digits"),
-                ("-" + "1" * 100_000, "a number, and not one of more than 1000 digits"),
+                ("1e19", "a whole number, not 1e+19"),
+                ("2.0", "a whole number, not 2.0"),
+                ("true", "a number, not true"),
+                ('"2"', "a number, not a string"),
+                ("[]", "a number, not a list"),
+                ("1" * 5_000, "a number, not a number of more than 1000 digits"),
+                ("-" + "1" * 100_000, "a number, not a number of more than 1000 digits"),
             ):
                 client._sent += 1
                 head, last = '"type": "request", "command": "next"', '"arguments": {"threadId": '
                 client.raw(f'{{"seq": {client._sent}, {head}, {last} {text}}}}}'.encode())
                 self.assertIn(f"next: threadId must be {said}", told(client, client._sent))
                 client.raw(f'{{"seq": {text}, {head}, {last} 2}}}}'.encode())
-                self.assertIn(said.split("and not ")[1], told(client))
+                self.assertIn(said.split(", not ")[1], told(client))
                 client.told.clear()
                 client._read = 0
 
@@ -190,7 +190,7 @@ class Numbers(Held):
                 for context in ("hover", "watch"):
                     expression = f"reg worker {text} = 0"
                     client.refused("evaluate", expression=expression, context=context)
-            faults = [line for line in client.output() if "a fault of rdbg" in line]
+            faults = [line for line in client.output() if "internal error in rdbg" in line]
             self.assertEqual(faults, [])
             with started("--port", "\u00b2") as program:
                 self.assertEqual(program.process.wait(30), 2)
@@ -215,7 +215,7 @@ class Arguments(Held):
             ("\ud800", "cannot read"),
             (str(EXAMPLES), "cannot read"),
             (str(EXAMPLES / "lost_item.commands"), "unknown file type '.commands'"),
-            (3, "program must be a text"),
+            (3, "program must be a string"),
         ):
             with self.subTest(program), editor() as client:
                 client.ask("initialize")
@@ -226,12 +226,12 @@ class Arguments(Held):
         with editor() as client:
             client.ask("initialize")
             wrong: List[Tuple[Message, str]] = [
-                ({"program": None}, "launch: program must be a text, and not null"),
-                ({"stopOnEntry": "yes"}, "stopOnEntry must be true or false, and not a text"),
-                ({"stopOnEntry": 1}, "stopOnEntry must be true or false, and not a number"),
-                ({"stopOnEntry": 0.0}, "stopOnEntry must be true or false, and not 0.0"),
-                ({"unproved": "yes"}, "unproved must be true or false, and not a text"),
-                ({"limit": 2.5}, "limit must be a whole number, and not 2.5"),
+                ({"program": None}, "launch: program must be a string, not null"),
+                ({"stopOnEntry": "yes"}, "stopOnEntry must be true or false, not a string"),
+                ({"stopOnEntry": 1}, "stopOnEntry must be true or false, not a number"),
+                ({"stopOnEntry": 0.0}, "stopOnEntry must be true or false, not 0.0"),
+                ({"unproved": "yes"}, "unproved must be true or false, not a string"),
+                ({"limit": 2.5}, "limit must be a whole number, not 2.5"),
             ]
             for more, what in wrong:
                 self.assertIn(what, client.refused("launch", {"program": str(LOST), **more}))
@@ -239,7 +239,7 @@ class Arguments(Held):
             client.event("initialized")
             self.assertEqual(client.stopped("configurationDone")["reason"], "entry")
             said = client.refused("restart", {"arguments": {"program": None}})
-            self.assertIn("program must be a text, and not null", said)
+            self.assertIn("program must be a string, not null", said)
 
     def test_limits(self) -> None:
         with editor() as client:
@@ -259,29 +259,29 @@ class Arguments(Held):
         with editor() as client:
             client.begin(LOST)
             wrong: List[Tuple[str, Message, str]] = [
-                ("launch", {}, "something is debugged already"),
+                ("launch", {}, "a debug session is already running"),
                 ("stackTrace", {"threadId": 99}, "there is no thread 99"),
-                ("stackTrace", {}, "lacks threadId"),
+                ("stackTrace", {}, "threadId is missing"),
                 ("next", {"threadId": "2"}, "threadId must be a number"),
                 ("continue", {"threadId": 9}, "there is no thread 9"),
                 ("scopes", {"frameId": 0}, "there is no thread 0"),
                 ("variables", {"variablesReference": 77}, "there are no variables 77"),
                 ("goto", {"threadId": 2, "targetId": 5}, "there is no target 5"),
-                ("source", {"sourceReference": 5}, "there is no text 5"),
+                ("source", {"sourceReference": 5}, "there is no source 5"),
                 ("exceptionInfo", {"threadId": 2}, "nothing has failed"),
-                ("setExceptionBreakpoints", {"filters": ["all"]}, "no filter 'all'"),
-                ("setExceptionBreakpoints", {"filters": [3]}, "a list of texts"),
+                ("setExceptionBreakpoints", {"filters": ["all"]}, "unknown filter 'all'"),
+                ("setExceptionBreakpoints", {"filters": [3]}, "a list of strings"),
                 ("setBreakpoints", {"source": {}, "breakpoints": [3]}, "a list of objects"),
                 ("evaluate", {"expression": "quit"}, "Disconnect"),
                 ("evaluate", {"expression": "x\n" * 2_000}, "2000 lines at once"),
-                ("evaluate", {"expression": "x", "context": "hover"}, "is no register"),
+                ("evaluate", {"expression": "x", "context": "hover"}, "is not a register"),
                 (
                     "evaluate",
                     {"expression": "reg nobody 0 = 1", "context": "watch"},
                     "word 2, 'nobody'",
                 ),
-                ("evaluate", {"expression": "step 0", "context": "hover"}, "is no register"),
-                ("stepInTargets", {"frameId": 2}, "rdbg answers no request"),
+                ("evaluate", {"expression": "step 0", "context": "hover"}, "is not a register"),
+                ("stepInTargets", {"frameId": 2}, "is not supported"),
             ]
             for command, asked, text in wrong:
                 with self.subTest(command, asked=str(asked)[:60]):

@@ -52,7 +52,7 @@ class Words(Held):
             client.typed(RUN)
             self.assertEqual("lost at 8", client.typed("lost at worker 1").splitlines()[0])
             found = named(client, "lost at worker 1")[0]
-            self.assertIn("stops a program that is launched here", found["message"])
+            self.assertIn("needs a launched target", found["message"])
 
 
 @unittest.skipUnless(real(), "no program that searches")
@@ -69,14 +69,14 @@ class Stops(Held):
             self.assertEqual(f"7  core 0  {MOVE}", client.output()[-2])
             self.assertEqual(f"lost {GOAL}; {WAY} step 1; step 1; step 1", client.output()[-1])
             stop = client.stopped("continue", threadId=2)
-            self.assertIn("50 moves, and nothing was met", stop["description"])
+            self.assertIn("no breakpoint was hit in 50 moves", stop["description"])
             self.assertEqual(AT, client.stopped("reverseContinue", threadId=2)["description"])
             # (what was taken back is made again, and it is met there once more)
             client.stopped("stepBack", threadId=2)
             client.stopped("stepBack", threadId=2)
             self.assertEqual(AT, client.stopped("continue", threadId=2)["description"])
             stop = client.stopped("reverseContinue", threadId=2)
-            self.assertIn("the start: nothing was met before", stop["description"])
+            self.assertIn("the start: no breakpoint was hit before", stop["description"])
 
     def test_of_an_order_of_ones_own(self) -> None:
         with editor() as client:
@@ -120,7 +120,7 @@ class Stops(Held):
                 self.assertIn(why, found["message"])
             asked = [{"name": "lost failed", "hitCondition": "2"}]
             found = client.ask("setFunctionBreakpoints", breakpoints=asked)["breakpoints"][0]
-            self.assertIn("takes no condition and no number of hits", found["message"])
+            self.assertIn("takes neither a condition nor a hit count", found["message"])
 
 
 if __name__ == "__main__":

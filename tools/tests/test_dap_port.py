@@ -41,7 +41,7 @@ class Attached(Held):
             self.assertEqual(stop["description"].split(",")[0], "at 2: producer 1 send jobs 0 -> 1")
             other.tell("step 0")
             stop = client.stopped("stepBack", threadId=2)
-            self.assertIn("others have moved the target: 2 -> 3", client.output())
+            self.assertIn("another session moved the target from 2 to 3", client.output())
             self.assertEqual(stop["description"][:30], "at 2, before: worker 0 recv jo")
             self.assertEqual(other.tell("show wheel"), "wheel -")
             self.assertEqual(other.tell("show moves"), "moves 2 undone 1 kept 2")
@@ -89,7 +89,7 @@ class Attached(Held):
             other.tell("wheel take")
             for command in ("next", "continue", "reverseContinue", "stepBack", "stepOut"):
                 said = client.refused(command, threadId=2)
-                self.assertIn("rdbg says no Held 1: session 1 has the wheel", said)
+                self.assertIn("rdbg replied no Held 1: session 1 has the wheel", said)
                 self.assertEqual(client.event("stopped")["description"], "still at 0")
             reference = client.scope(2, "Registers")
             asked = {"variablesReference": reference, "name": "r0", "value": "3"}
@@ -180,7 +180,7 @@ class Pauses(Held):
             client.ask("continue", threadId=2)
             time.sleep(0.02)
             self.assertEqual(
-                client.refused("stackTrace", threadId=2), "the target runs: Pause first"
+                client.refused("stackTrace", threadId=2), "the target is running: pause it first"
             )
             self.assertIn("time", client.ask("threads")["threads"][0]["name"])
             began = processor_seconds()

@@ -20,7 +20,7 @@ class Sessions(Held):
             producer = client.thread("producer")
             self.assertEqual([it["line"] for it in client.lines(LOST, 8)], [8])
             stop = client.stopped("continue", threadId=producer)
-            self.assertEqual(stop["description"], "at 11: poller comes to 0")
+            self.assertEqual(stop["description"], "at 11: poller reaches 0")
             self.assertEqual(stop["threadId"], client.thread("poller"))
             self.assertEqual(stop["hitBreakpointIds"], [1])
             self.assertEqual(client.frame(stop["threadId"])["line"], 8)
@@ -43,7 +43,7 @@ class Sessions(Held):
             }
             self.assertTrue(client.ask("setBreakpoints", asked)["breakpoints"][0]["verified"])
             self.assertEqual(
-                client.stopped("continue", threadId=2)["description"], "at 7: t0 comes to 4"
+                client.stopped("continue", threadId=2)["description"], "at 7: t0 reaches 4"
             )
 
     def test_the_end_of_the_input_is_the_end(self) -> None:

@@ -43,7 +43,7 @@ class Logs(InFile):
             found = client.lines(self.file, 14, logMessage=text)
             self.assertTrue(found[0]["verified"])
             stop = client.stopped("continue", threadId=2)
-            self.assertEqual(stop["description"], "at 30: 30 moves, and nothing was met")
+            self.assertEqual(stop["description"], "at 30: no breakpoint was hit in 30 moves")
             said = self.logged(client)
             self.assertEqual(said[0], "log 0 of 1, fails, 0/3 -, 1")
             self.assertEqual([it.split()[1] for it in said], [str(at) for at in range(len(said))])
@@ -213,7 +213,7 @@ class Shows(InFile):
                 self.assertEqual(found, [*reversed(places[:-1]), 0])
             asked = [{"dataId": "core 7"}, {"dataId": "core"}]
             for it in client.ask("setDataBreakpoints", breakpoints=asked)["breakpoints"]:
-                self.assertIn("is no core: core 0 to core 1, or ready", it["message"])
+                self.assertIn("is not a core: expected core 0 to core 1, or ready", it["message"])
 
     def test_where_each_task_stands(self) -> None:
         with editor() as client:

@@ -15,10 +15,10 @@ from tests.strangers import IS_ROOT, UNTOLD, Clock, before, told_nobody
 
 LOST = str(EXAMPLES / "lost_item.json")
 SAID = re.compile(
-    "rdbg dap: whose a connection is can't be told here:"
-    r" `launch` and `attach` say as token what stands in (\S+)\n"
+    "rdbg dap: this system does not tell which user made a connection:"
+    r" `launch` and `attach` need as `token` the contents of (\S+)\n"
 )
-WANTED = "`launch` or `attach` says first, as token, what `rdbg dap` said at its start"
+WANTED = "`launch` or `attach` must pass the `token` that `rdbg dap` named when it started"
 
 
 @contextlib.contextmanager
@@ -54,7 +54,7 @@ class Token(unittest.TestCase):
                 self.assertEqual(WANTED, client.refused("launch", program=LOST, token=wrong))
             self.assertEqual(WANTED, client.refused("launch", program=LOST))
             self.assertEqual(WANTED, client.refused("attach", port=port.number))
-            number = "launch: token must be a text, and not a number"
+            number = "launch: token must be a string, not a number"
             self.assertEqual(number, client.refused("launch", token=1))
             said = client.refused("evaluate", expression="save made.commands", context="repl")
             self.assertEqual(WANTED, said)

@@ -118,15 +118,15 @@ class Shown(Held):
             group = objects(client, thread)["group flags"]["variablesReference"]
             queue = objects(client, thread)["queue jobs"]["variablesReference"]
             for reference, name, value, why in (
-                (registers, "r3", "many", "'many' is no number"),
-                (registers, "r3", "4294967296", "isn't within"),
+                (registers, "r3", "many", "'many' is not a number"),
+                (registers, "r3", "4294967296", "is out of range"),
                 (registers, "r9", "1", "there is no variable 'r9'"),
-                (task, "core", "1", "core can't be set"),
-                (task, "phase", "run", "phase can't be set"),
-                (task, "pc", "1", "rdbg says no BadEdit"),
-                (task, "data", "xyz", "is no bytes"),
-                (group, "bits", "0x1000000", "isn't within 0 to 16777215"),
-                (queue, "[0]", "41", "rdbg says no BadEdit"),
+                (task, "core", "1", "core is read-only"),
+                (task, "phase", "run", "phase is read-only"),
+                (task, "pc", "1", "rdbg replied no BadEdit"),
+                (task, "data", "xyz", "is not a byte string"),
+                (group, "bits", "0x1000000", "is out of range: 0 to 16777215"),
+                (queue, "[0]", "41", "rdbg replied no BadEdit"),
             ):
                 asked = {"variablesReference": reference, "name": name, "value": value}
                 self.assertIn(why, client.refused("setVariable", asked))

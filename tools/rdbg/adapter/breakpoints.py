@@ -1,4 +1,4 @@
-"""What an editor's user sets to be stopped at: lines, names and conditions, variables, failures."""
+"""Breakpoints of an editor: at lines, by name or condition, on variables, and on failures."""
 import dataclasses
 import re
 from typing import Callable, Dict, List, Sequence, Tuple
@@ -24,28 +24,28 @@ from rdbg.shell import seek
 from rdbg.shell.hints import refusal
 from rdbg.shell.shell import Shell
 
-# The failures at which one can be stopped: what the editor shows, and whether it is so by itself.
+# The failures that can stop a run, each with its label and whether it is on by default.
 FAILURES: Dict[str, Tuple[str, bool]] = {
     "failed": ("failed: a task fails", True),
-    "asleep": ("asleep: all that is left waits, and no task has a deadline", True),
+    "asleep": ("asleep: all remaining tasks wait, and none has a deadline", True),
 }
-# How a number of hits can be compared.
+# Comparisons of a hit count.
 HITS: Dict[str, Callable[[int, int], bool]] = {
     **COMPARING,
     "%": lambda hits, number: hits % number == 0,
 }
 HIT = re.compile(r"\s*(==?|>=?|<=?|%)?\s*([0-9]{1,7})\s*")
-# The kinds of breakpoints, as a stop at one is called.
+# The kinds of breakpoints; also the reason of a stop at one.
 LINE, NAME, DATA = "breakpoint", "function breakpoint", "data breakpoint"
-# So many breakpoints of a kind are looked at.
+# The most breakpoints of one kind.
 MOST = 256
 
 
 @dataclasses.dataclass(frozen=True)
 class Breakpoint:
-    """A breakpoint: its number, what kind a stop at it is, its stops, and what an editor is told of
-    it, and the instruction of each stop, where it is at one. It has no stops where it can't be met,
-    and stops nothing where it has a text to `log`."""
+    """A breakpoint: its number, its kind, its stops, its description for the editor, and the
+    instruction of each stop that is at one. It has no stops if it could not be set, and does not
+    stop a run if it has a text to `log`."""
 
     number: int
     reason: str
@@ -56,7 +56,7 @@ class Breakpoint:
 
 
 def goal_in(shell: Shell, text: str) -> Goal:
-    """The goal that a text is. Raises `Wrong` where it is none, or names what isn't there."""
+    """Parses a goal. Raises `Wrong` if the text is not a goal, or names something unknown."""
     try:
         with turned(Wrong, NoGoal, Unable):
             goal = goal_words.read(text.split(), shell.scope())
@@ -67,41 +67,45 @@ def goal_in(shell: Shell, text: str) -> Goal:
 
 
 def wrong_line(shell: Shell, line: str, refused: Refused) -> Wrong:
-    """Why rdbg refuses a line, in words."""
+    """Explains why rdbg refused a line."""
     why = refusal(shell, line, refused)
-    return Wrong(f"rdbg says no {refused}" + (f": {why}" if why else ""))
+    return Wrong(f"rdbg replied no {refused}" + (f": {why}" if why else ""))
 
 
 def hits_of(text: str) -> Callable[[int], bool]:
-    """Which numbers of hits a text means."""
+    """Parses a hit condition."""
     found = HIT.fullmatch(text)
     if not found or not int(found[2]):
-        raise Wrong(f"'{text}' is no number of hits: 3, > 3, or % 3 for each third")
+        raise Wrong(f"'{text}' is not a hit count: expected 3, > 3, or % 3 for every third hit")
     compare, number = HITS[found[1] or "="], int(found[2])
     return lambda hits: compare(hits, number)
 
 
 def limited(shell: Shell, stop: Stop, given: Arguments) -> Stop:
-    """A stop with the condition and the hits that are given."""
+    """Adds the condition and the hit count of a request to a stop."""
     condition, hits = given.text("condition", "").strip(), given.text("hitCondition", "").strip()
     if isinstance(stop, Loses) and (condition or hits):
-        raise Wrong(f"{stop.text} is met once, and takes no condition and no number of hits")
+        raise Wrong(
+            f"{stop.text} can be hit only once: it takes neither a condition nor a hit count"
+        )
     if condition:
         stop = Where(stop, goal_in(shell, condition))
     return Counted(stop, hits, hits_of(hits)) if hits else stop
 
 
 def arrival(spot: Spot) -> Stop:
-    """That a task comes to an instruction."""
+    """Returns the stop where a task reaches an instruction."""
     condition = Condition("pc", spot.task, number=spot.pc)
-    return Becomes(condition, f"{spot.task} comes to {spot.pc}", is_at_start=True)
+    return Becomes(condition, f"{spot.task} reaches {spot.pc}", is_at_start=True)
 
 
 def named(shell: Shell, text: Text, name: str) -> List[Stop]:
-    """What a name stands for: a goal, that one is lost, a task's place, or a call of FreeRTOS."""
+    """Returns the stops of a name: a goal, `lost GOAL`, a task's instruction, or a FreeRTOS call."""
     words = name.replace(":", " ").split()
     if not words:
-        raise Wrong("a condition, as count jobs > 0, or send, xQueueSend, worker 2")
+        raise Wrong(
+            "expected a condition such as count jobs > 0, a call such as xQueueSend, or worker 2"
+        )
     if words[0] in reading.OF_MOVES:
         return [of_move(shell, words)]
     if words[0] == LOST.word and LOST.word not in shell.target.names.tasks:
@@ -120,7 +124,7 @@ def named(shell: Shell, text: Text, name: str) -> List[Stop]:
 
 
 def is_call(spot: Spot, words: Sequence[str]) -> bool:
-    """Whether an instruction begins with these words, or FreeRTOS calls it so."""
+    """Whether an instruction begins with these words, or is the FreeRTOS call of that name."""
     there = spot.instruction.words()
     form = instructions.form_of(there[0])
     called = form.freertos if form else ()
@@ -128,11 +132,11 @@ def is_call(spot: Spot, words: Sequence[str]) -> bool:
 
 
 def of_move(shell: Shell, words: Sequence[str]) -> Stop:
-    """What these words say of a move. Raises `Wrong`."""
+    """Returns the stop for a property of moves, such as `changes jobs`. Raises `Wrong`."""
     with turned(Wrong, NoGoal):
         way, at = goal_words.of_move(words, shell.target, shell.scope())
     if at < len(words):
-        raise Wrong(f"'{' '.join(words[at:])}' is too much behind {' '.join(words[:at])}")
+        raise Wrong(f"unexpected '{' '.join(words[at:])}' after '{' '.join(words[:at])}'")
     if isinstance(way, Changes):
         return Content(shell.target, (way.kind, way.name))
     assert isinstance(way, To)
@@ -140,33 +144,33 @@ def of_move(shell: Shell, words: Sequence[str]) -> Stop:
 
 
 class Breakpoints:
-    """All that are set. An editor sets all of a kind at once."""
+    """All breakpoints. An editor always sets all of one kind at once."""
 
     def __init__(self) -> None:
         self._count = 0
         self._of: Dict[str, List[Breakpoint]] = {}
-        # What was asked for last, with its number, to be looked at anew where the file is another.
+        # The last requests with their numbers, to set them again after a reload.
         self._asked: Dict[str, List[Tuple[int, Arguments]]] = {}
         self.failures = [name for name, (_, is_on) in FAILURES.items() if is_on]
 
     def all(self) -> List[Breakpoint]:
-        """Those that can be met."""
+        """Returns those that could be set."""
         return [it for group in self._of.values() for it in group if it.stops]
 
     def logs(self) -> List[Breakpoint]:
-        """Those that say something, and stop nothing."""
+        """Returns the log points."""
         return [it for it in self.all() if it.log]
 
     def put(self, kind: str, shell: Shell, text: Text, asked: Sequence[Arguments]) -> List[Values]:
-        """Sets all of a kind."""
+        """Sets all of one kind."""
         if len(asked) > MOST:
-            raise Wrong(f"there are {len(asked)} breakpoints; {MOST} are looked at")
+            raise Wrong(f"{len(asked)} breakpoints are too many: the limit is {MOST}")
         self._asked[kind] = list(enumerate(asked, self._count + 1))
         self._count += len(asked)
         return self._made(kind, shell, text)
 
     def again(self, shell: Shell, text: Text) -> List[Values]:
-        """All of them, each with its number, for a target and a text that are others now."""
+        """Sets all of them again for a new target and source, with the same numbers."""
         return [value for kind in self._asked for value in self._made(kind, shell, text)]
 
     def _made(self, kind: str, shell: Shell, text: Text) -> List[Values]:
@@ -187,17 +191,19 @@ class Breakpoints:
             asked = [Arguments({"line": it}, "setBreakpoints.lines") for it in given.all("lines")]
         if text.is_named(given.part("source")):
             return self.put(LINE, shell, text, asked)
-        found = "no file is known here" if text.source is None else f"it isn't {text.source.name}"
+        found = "no model is loaded"
+        if text.source is not None:
+            found = f"this file is not the model that is being debugged, {text.source.name}"
         return [{"verified": False, "message": found} for _ in asked]
 
 
 def told(number: int, said: str) -> Values:
-    """What an editor is told of a breakpoint that can be met."""
+    """Returns the description of a breakpoint that was set."""
     return {"id": number, "verified": True, "message": said[:1_000]}
 
 
 def at_line(shell: Shell, text: Text, given: Arguments, number: int) -> Breakpoint:
-    """A breakpoint at a line, and a column where one is given."""
+    """Makes a breakpoint at a line, and at a column if one is given."""
     log = given.text("logMessage", "").strip()
     column = given.number("column") + 1 - text.first_column if given.has("column") else None
     spot = text.found(text.line_in(given), column)
@@ -211,15 +217,15 @@ def at_line(shell: Shell, text: Text, given: Arguments, number: int) -> Breakpoi
 
 
 def by_name(shell: Shell, text: Text, given: Arguments, number: int) -> Breakpoint:
-    """A breakpoint by a name."""
+    """Makes a function breakpoint."""
     stops = [limited(shell, it, given) for it in named(shell, text, given.text("name"))]
     return Breakpoint(number, NAME, tuple(stops), told(number, "; ".join(it.text for it in stops)))
 
 
 def on_data(shell: Shell, text: Text, given: Arguments, number: int) -> Breakpoint:
-    """A breakpoint on a variable, by what `dataBreakpointInfo` has said."""
+    """Makes a data breakpoint from the id that `dataBreakpointInfo` returned."""
     if given.text("accessType", "write") != "write":
-        raise Wrong("a variable is watched as it changes; reads aren't known")
+        raise Wrong("a data breakpoint stops at changes only; reads cannot be watched")
     watched = given.text("dataId")
     words = watched.split()
     if words[:1] == ["changes"] and len(words) == 3:
@@ -227,17 +233,19 @@ def on_data(shell: Shell, text: Text, given: Arguments, number: int) -> Breakpoi
     elif words[:1] in (["core"], ["ready"]):
         cores = len(shell.target.ask("show cores", Cores).running)
         if watched not in ("ready", *(f"core {core}" for core in range(cores))):
-            raise Wrong(f"'{watched[:100]}' is no core: core 0 to core {cores - 1}, or ready")
+            raise Wrong(
+                f"'{watched[:100]}' is not a core: expected core 0 to core {cores - 1}, or ready"
+            )
         stop = Seat(watched)
     else:
         condition = f"{watched} run" if words[:1] == ["phase"] else f"{watched} = 0"
-        goal_in(shell, condition)  # (what it names is there)
+        goal_in(shell, condition)  # (raises if it names something unknown)
         stop = Amount(watched)
     stop = limited(shell, stop, given)
     return Breakpoint(number, DATA, (stop,), told(number, stop.text))
 
 
-# What makes a breakpoint of each kind.
+# The function that makes a breakpoint of each kind.
 MAKERS: Dict[str, Callable[[Shell, Text, Arguments, int], Breakpoint]] = {
     LINE: at_line,
     NAME: by_name,

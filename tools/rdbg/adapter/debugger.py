@@ -1,5 +1,5 @@
-"""What is debugged for one editor: the target with its threads, sources and breakpoints, how it is
-moved, and what the editor is told of it."""
+"""The debug session of one editor: the target with its threads, sources and breakpoints, its moves,
+and the events that the editor gets."""
 import contextlib
 import itertools
 import select
@@ -27,12 +27,12 @@ from rdbg.shell.shell import Shell
 from rdbg.shell.views import phase_text
 from rdbg.wording import counted
 
-# So many seconds pass until it is shown, and between two times.
+# Seconds before the first progress report, and between two of them.
 MOMENT = 1.0
 
 
 class Progress:
-    """How far the run is that goes on. An editor ends it by its name; without a run there is none."""
+    """The progress report of the current run. An editor cancels the run by its name."""
 
     def __init__(self, send: Callable[[Values], None]) -> None:
         self._send, self._numbers, self._next = send, itertools.count(1), 0.0
@@ -40,12 +40,12 @@ class Progress:
         self.name = ""
 
     def begin(self) -> None:
-        """Something begins."""
+        """Starts a new report."""
         self.name = f"run {next(self._numbers)}"
         self._next, self._is_shown = time.monotonic() + MOMENT, False
 
     def show(self, text: str) -> None:
-        """Says how far it is, where that wasn't said just now."""
+        """Reports the progress, unless that was done a moment ago."""
         now = time.monotonic()
         if not self.is_asked_for or now < self._next:
             return
@@ -58,16 +58,16 @@ class Progress:
             self._send(event("progressStart", {**body, "title": "rdbg", "cancellable": True}))
 
     def end(self) -> None:
-        """It has ended."""
+        """Ends the report."""
         if self._is_shown:
             self._is_shown = False
             self._send(event("progressEnd", {"progressId": self.name}))
         self.name = ""
 
 
-# Of a run of more moves than MANY the last FEW are told.
+# Of a run of more than MANY moves, only the last FEW are listed.
 MANY, FEW = 20, 5
-# So many moves a run makes at the most, unless `launch` says another number.
+# The most new moves of a run, unless `launch` sets `limit`.
 LIMIT = 200_000
 FAILURE = "exception"
 
@@ -113,7 +113,7 @@ class Debugger:
     def shell(self) -> Shell:
         """The shell that drives the target. Raises `Wrong` before there is one."""
         if self._shell is None:
-            raise Wrong("nothing is debugged yet: launch or attach comes first")
+            raise Wrong("no debug session yet: send launch or attach first")
         return self._shell
 
     @property
@@ -129,7 +129,7 @@ class Debugger:
     def standing(self) -> None:
         """Raises `Wrong` while the target runs, or before there is one."""
         if self.shell and self.is_running:
-            raise Wrong("the target runs: Pause first")
+            raise Wrong("the target is running: pause it first")
 
     def take(self, shell: Shell) -> None:
         """Goes on with this shell and its file."""
@@ -154,7 +154,7 @@ class Debugger:
             self._seen = None
             # (in a room, what moved it was told)
             if self.own_name is None and drift[0] != drift[1]:
-                self.say(f"others have moved the target: {drift[0]} -> {drift[1]}")
+                self.say(f"another session moved the target from {drift[0]} to {drift[1]}")
 
     def look(self) -> Look:
         """What there is, looked at once as long as nothing moves."""
@@ -385,10 +385,10 @@ class Debugger:
             self._tell_met(outcome.met)
             return
         texts = {
-            "limit": f"{counted(here - start, 'move')}, and nothing was met",
-            "wall": f"there is no further move: {outcome.wall}",
+            "limit": f"no breakpoint was hit in {counted(here - start, 'move')}",
+            "wall": f"no further move is possible: {outcome.wall}",
             "stuck": self._ending(),
-            "start": "the start: nothing was met before",
+            "start": "the start: no breakpoint was hit before",
             "paused": "paused",
         }
         reason = "entry" if outcome.how == "start" else "pause"
@@ -400,8 +400,8 @@ class Debugger:
         if Finished().is_so(look):
             return f"{Finished().text}: all tasks have ended"
         if ASLEEP.is_so(look):
-            return f"{ASLEEP.text}: all that is left waits, and no task has a deadline"
-        return f"{Stuck().text}: no task waits, and one has failed at the least"
+            return f"{ASLEEP.text}: all remaining tasks wait, and none has a deadline"
+        return f"{Stuck().text}: no task waits, and at least one has failed"
 
     def _tell_met(self, met: Sequence[Stop]) -> None:
         failures = [name for name, stop in self.begins.items() if stop in met]

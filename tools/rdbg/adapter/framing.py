@@ -1,4 +1,4 @@
-"""Frames of the protocol: a header that says a length, then so many bytes of JSON."""
+"""Frames of the protocol: a header with a length, then as many bytes of JSON."""
 import json
 import re
 import threading
@@ -55,7 +55,7 @@ class Frames:
             elif wrong:
                 raise Unreadable(wrong)
         if length > MOST_BODY:
-            raise Unreadable(f"a message has at most {MOST_BODY} bytes; this one says {length}")
+            raise Unreadable(f"a message of {length} bytes is too long: the limit is {MOST_BODY}")
         if wrong:
             self._length = length
             raise Unreadable(wrong)
@@ -74,10 +74,10 @@ class Frames:
 def of_line(text: bytes) -> str:
     """What is wrong with a line of a header, if something is."""
     if text[:15].lower() == b"content-length:":
-        return "Content-Length is no number of bytes"
+        return "Content-Length is not a number of bytes"
     if re.match(rb"[A-Za-z-]{1,64}:", text):
         return ""
-    return "a header has lines such as Content-Length: 120, and an empty one behind them"
+    return "not a header line: expected Content-Length: N, and an empty line at the end"
 
 
 class Sender:

@@ -9,12 +9,12 @@ from rdbg.adapter.server import Server
 from rdbg.door import Door, Entrance, SilentConnections, drop
 from rdbg.temporary import temporary_file
 
-# So many editors at a time are served. So many connections may be silent, so many seconds each:
-# then the oldest is closed.
+# The most editors at a time, the most connections that have sent nothing (the oldest is closed if
+# there are more), and the seconds that each may stay silent.
 MOST, MOST_SILENT, SECONDS = 16, 16, 10.0
-# What is said where the system says of nobody who it is.
-UNTOLD = "rdbg dap: whose a connection is can't be told here"
-ASKED = "`launch` and `attach` say as token what stands in"
+# Printed on systems that do not tell which user made a connection.
+UNTOLD = "rdbg dap: this system does not tell which user made a connection"
+ASKED = "`launch` and `attach` need as `token` the contents of"
 
 
 def listen(port: int, door: Door) -> None:
@@ -57,13 +57,13 @@ class Editors(Entrance):
                         self._served.discard(request)
                     drop(request)  # (while another thread reads it, it can't be closed)
         except OSError as error:
-            print(f"rdbg dap: an editor was lost: {error.strerror}", file=sys.stderr)
+            print(f"rdbg dap: lost the connection to an editor: {error.strerror}", file=sys.stderr)
 
     def _comes(self, connection: socket.socket) -> str:
         """An editor has said something; why it isn't served, if so."""
         self.unread.remove(connection)
         with self._guard:
             if len(self._served) >= MOST:
-                return f"{MOST} editors are served here already"
+                return f"there are already {MOST} editors"
             self._served.add(connection)
         return ""

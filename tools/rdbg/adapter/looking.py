@@ -34,7 +34,7 @@ def stack(it: Debugger, given: Arguments) -> Optional[Values]:
     name = it.threads.task(number)
     look = it.look()
     if name is not None and name not in look.tasks:
-        raise Wrong(f"there is no task {name} any more")
+        raise Wrong(f"task {name} no longer exists")
     frames = [frame(number, look.tasks[name] if name else None, look, it.text)]
     first = given.number("startFrame", 0)
     levels = given.number("levels", 0) or len(frames)
@@ -66,7 +66,7 @@ def variables(it: Debugger, given: Arguments) -> Optional[Values]:
 def put(it: Debugger, variable: Variable, value: str) -> None:
     """Sets a variable, by an edit. Raises `Wrong` where there is none."""
     if variable.put is None:
-        raise Wrong(f"{variable.name} can't be set: there is no edit for it")
+        raise Wrong(f"{variable.name} is read-only")
     it.edit(variable.put(value))
     if it.shows_invalidated:
         it.later.append(lambda: it.send(event("invalidated", {"areas": ["variables"]})))
@@ -93,7 +93,7 @@ def expressed(shown: Shown, task: Optional[str], text: str) -> Variable:
     """The variable that an expression names."""
     found = names.found(shown, task, text.strip())
     if found is None:
-        raise Wrong(f"'{text[:100]}' is no register, part of a task, object or condition here")
+        raise Wrong(f"'{text[:100]}' is not a register, a part of a task, an object or a condition")
     return found
 
 
@@ -116,7 +116,7 @@ def source(it: Debugger, given: Arguments) -> Optional[Values]:
     number = asked.number("sourceReference", 0) or given.number("sourceReference", 0)
     text = it.text.source
     if number != REFERENCE or text is None or not it.text.is_generated:
-        raise Wrong(f"there is no text {number}")
+        raise Wrong(f"there is no source {number}")
     return {"content": text.text, "mimeType": "text/plain"}
 
 
@@ -131,7 +131,7 @@ def exception(it: Debugger, given: Arguments) -> Optional[Values]:
     task = it.look().tasks.get(name) if name else None
     if task and task.phase.word == "failed":
         cause = task.phase.cause or "failed"
-        text = f"{task.name} failed: {cause}: {CAUSES.get(cause, 'a call went wrong')}"
+        text = f"{task.name} failed: {cause}: {CAUSES.get(cause, 'a call failed')}"
         return {"exceptionId": cause, "description": text, "breakMode": "always"}
     if not it.failure:
         raise Wrong("nothing has failed here")
@@ -173,7 +173,7 @@ def on_failures(it: Debugger, given: Arguments) -> Optional[Values]:
     filters += [option.text("filterId") for option in given.parts("filterOptions")]
     unknown = [name for name in filters if name not in FAILURES]
     if unknown:
-        raise Wrong(f"there is no filter '{unknown[0]}', but {', '.join(FAILURES)}")
+        raise Wrong(f"unknown filter '{unknown[0]}': expected {' or '.join(FAILURES)}")
     it.breakpoints.failures = list(dict.fromkeys(filters))
     return {"breakpoints": [{"verified": True} for _ in filters]}
 
@@ -199,7 +199,7 @@ def data_info(it: Debugger, given: Arguments) -> Optional[Values]:
     if variable and variable.within and variable.within[0] == "object":
         watched = f"changes {' '.join(variable.within[1:])}"
     if not watched:
-        return {"dataId": None, "description": f"{name} can't be watched"}
+        return {"dataId": None, "description": f"{name} cannot be watched"}
     return {
         "dataId": watched,
         "description": watched if watched.startswith("changes") else f"{watched} changes",

@@ -18,7 +18,7 @@ from rdbg.shell.shell import Shell
 # A search ends after so many seconds.
 SECONDS = 20.0
 AT_A_PORT = (
-    "`lost` stops a program that is launched here; typed in the console it is asked at a port, too"
+    "a `lost` breakpoint needs a launched target; at a port, type `lost GOAL` in the debug console"
 )
 
 
@@ -40,7 +40,7 @@ class Loses(Begins):
             raise Wrong(NOT_ASKED)
         empty = vacuity.vacuous(goal, shell.target.application)
         if empty:
-            raise Wrong(f"{self.text} is never met: {empty.note}")
+            raise Wrong(f"{self.text} can never be hit: {empty.note}")
         self._shell, self._asked = shell, asked
         self._known: Dict[Tuple[str, ...], bool] = {}
         self.way = ""
@@ -78,5 +78,5 @@ class Loses(Begins):
                 source, lines, question, self._asked, shell.may_come(), pace, asker, counts=False
             )
         if found.kind is Kind.UNTOLD:
-            raise Wrong(f"{self.text} can't be told here: {found.head()}, {found.why}")
+            raise Wrong(f"{self.text} is undecided here: {found.head()}, {found.why}")
         return found

@@ -8,7 +8,7 @@ Kind = TypeVar("Kind")
 # A number of more digits isn't read.
 MOST_DIGITS = 1_000
 MOST_TEXT = 65_536
-KINDS = {str: "a text", int: "a number", bool: "true or false", dict: "an object", list: "a list"}
+KINDS = {str: "a string", int: "a number", bool: "true or false", dict: "an object", list: "a list"}
 
 
 class Wrong(Exception):
@@ -35,14 +35,14 @@ def kind_of(value: Any) -> str:
     if isinstance(value, float):
         return str(value)
     if isinstance(value, Long):
-        return f"one of more than {MOST_DIGITS} digits"
+        return f"a number of more than {MOST_DIGITS} digits"
     return KINDS[type(value)]
 
 
 def unlike(kind: type, value: Any) -> str:
     """What a value had to be, and is instead."""
     whole = "a whole number" if kind is int and isinstance(value, float) else KINDS[kind]
-    return f"{whole}, and not {kind_of(value)}"
+    return f"{whole}, not {kind_of(value)}"
 
 
 def clean(value: Any) -> Any:
@@ -70,7 +70,7 @@ class Arguments:
         value = self._values.get(key)
         if value is None:
             if absent is None:
-                raise Wrong(f"{self._of} lacks {key}")
+                raise Wrong(f"{self._of}: {key} is missing")
             return absent
         # (true and false are numbers to Python)
         if not isinstance(value, kind) or (kind is int and isinstance(value, bool)):
@@ -115,7 +115,7 @@ class Arguments:
 
     def texts(self, key: str) -> List[str]:
         """A list of texts; an empty one where it is absent."""
-        return self.all(key, str, "texts")
+        return self.all(key, str, "strings")
 
 
 @dataclasses.dataclass(frozen=True)
@@ -138,19 +138,19 @@ def read(body: bytes) -> Request:
         # (NaN and its kin, which JSON doesn't have, are no whole numbers either)
         value = clean(json.loads(body.decode("utf-8"), parse_int=whole, parse_constant=int))
     except (ValueError, RecursionError):
-        raise Unreadable("the message is no JSON") from None
+        raise Unreadable("the message is not JSON") from None
     if not isinstance(value, dict):
-        raise Unreadable("the message is no object")
+        raise Unreadable("the message is not a JSON object")
     seq, command = value.get("seq"), value.get("command")
     is_number = isinstance(seq, int) and not isinstance(seq, bool)
     number: int = value["seq"] if is_number else 0
     name = command if isinstance(command, str) else ""
     if isinstance(seq, Long):
-        raise Unreadable(f"the message is no JSON that is read: its seq is {kind_of(seq)}", 0, name)
+        raise Unreadable(f"the message cannot be read: its seq is {kind_of(seq)}", 0, name)
     if value.get("type") != "request":
-        raise Unreadable("the message is no request: its type is another", number, name)
+        raise Unreadable("the message is not a request: its type must be 'request'", number, name)
     if not name or seq is None or number != seq:
-        said = "a request has a number as seq, and a text as command"
+        said = "a request needs a number as seq and a string as command"
         more = "" if is_number else f"; its seq must be {unlike(int, seq)}"
         raise Unreadable(said + more, number, name)
     arguments = {} if value.get("arguments") is None else value["arguments"]

@@ -133,8 +133,10 @@ def core_of(it: Debugger, name: str) -> int:
     task = it.shell.target.ask(f"show task {name}", replies.Task)
     if task.core is None:
         why = why_on_none(it.shell, task)
-        more = "" if task.phase.word in ("ended", "failed") else "; Step Out runs until it goes on"
-        raise Wrong(f"{name} is on no core: {why}{more}")
+        more = (
+            "" if task.phase.word in ("ended", "failed") else "; Step Out runs until it continues"
+        )
+        raise Wrong(f"{name} is not on a core: {why}{more}")
     return task.core
 
 
@@ -148,7 +150,7 @@ def step_out(it: Debugger, given: Arguments) -> None:
     if now.phase.word in ("ended", "failed"):
         raise Wrong(f"{task} has {now.phase.word}")
     done = Amount(f"pc {task}")
-    done.text = f"{task} goes on"
+    done.text = f"{task} continued"
     stops = lambda: [*it.stops(), done]
     begin_run(it, lambda runner: runner.forwards(it.limit), stops, thread)
 
@@ -187,9 +189,9 @@ def goto_targets(it: Debugger, given: Arguments) -> Optional[Values]:
             there = arrival(spot).last(it.shell.walk)
         for place in (None,) if there is None else (there, None):
             it.gotos.append((spot, place))
-            label = f"an edit: {spot.task} goes on at {spot.pc}"
+            label = f"edit: {spot.task} continues at {spot.pc}"
             if place is not None:
-                label = f"back to place {place}, where {spot.task} came to {spot.pc}"
+                label = f"go back to place {place}, where {spot.task} reached {spot.pc}"
             targets.append({"id": len(it.gotos), "label": label, **it.text.place(spot)})
     return {"targets": targets}
 
@@ -198,7 +200,7 @@ def goto(it: Debugger, given: Arguments) -> None:
     """`goto`: to the target that was chosen."""
     number = given.number("targetId")
     if not 0 < number <= len(it.gotos):
-        raise Wrong(f"there is no target {number}; gotoTargets names them")
+        raise Wrong(f"there is no target {number}: gotoTargets lists them")
     spot, place = it.gotos[number - 1]
     thread = it.threads.number(spot.task)
     with it.wheel():
@@ -251,10 +253,10 @@ def evaluate(it: Debugger, given: Arguments) -> Optional[Values]:
         return value_of(it, given)
     lines = [line for line in given.text("expression").splitlines() if line.strip()]
     if len(lines) > MOST_LINES:
-        raise Wrong(f"{len(lines)} lines at once; {MOST_LINES} are done")
+        raise Wrong(f"{len(lines)} lines at once are too many: the limit is {MOST_LINES}")
     word = lines[0].strip() if len(lines) == 1 else ""
     if word in ENDS:
-        raise Wrong("Disconnect, or Stop, ends the session")
+        raise Wrong("use Disconnect or Stop to end the session")
     if word in BUTTONS:
         BUTTONS[word](it, Arguments({}, "evaluate"))
     return {"result": "" if word in BUTTONS else typed(it, lines), "variablesReference": 0}

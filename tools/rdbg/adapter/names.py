@@ -54,14 +54,14 @@ def value(shell: Shell, shown: Callable[[], Shown], task: Optional[str], text: s
         return variable
     made = computed(shell, task, text)
     if made is None:
-        raise Wrong(f"'{text[:100]}' is no register, part of a task, object or condition here")
+        raise Wrong(f"'{text[:100]}' is not a register, a part of a task, an object or a condition")
     try:
         target = shell.target
         look = shown().look if target.is_own else target.look(made.names(target.names))
         with turned(Wrong, Undefined):
             return Variable(text, made.said(look))
     except (Refused, IndexError):
-        raise Wrong(f"'{text}' names what isn't there") from None
+        raise Wrong(f"'{text}' names something that does not exist") from None
 
 
 def check(shell: Shell, text: str, task: str) -> None:
@@ -72,7 +72,7 @@ def check(shell: Shell, text: str, task: str) -> None:
         if ALONE.fullmatch(part) or (is_there and (not name or PART.fullmatch(last))):
             continue
         if computed(shell, task, part) is None:
-            raise Wrong(f"{{{part}}} is no register, part of a task, object or condition here")
+            raise Wrong(f"{{{part}}} is not a register, a part of a task, an object or a condition")
 
 
 def view(shell: Shell, text: str) -> Optional[str]:

@@ -64,7 +64,7 @@ def count(given: Arguments, key: str, absent: int, least: int = 1) -> int:
     """A number of at least so much, and a million at the most."""
     value = given.number(key, absent)
     if not least <= value <= commands.MOST_COUNT:
-        raise Wrong(f"{key} is a number from {least} to {commands.MOST_COUNT}, and not {value}")
+        raise Wrong(f"{key} must be {least} to {commands.MOST_COUNT}, not {value}")
     return value
 
 
@@ -91,7 +91,7 @@ def program(is_unproved: bool, tell: Tell) -> str:
         path = os.fsdecode(found.read().strip())
     os.environ["RDBG_BUILD_REPORTED"] = "1"  # (the wrapper says once which build runs)
     if made.returncode or not path:
-        raise Wrong(f"there is no program to start: {said[-1] if said else 'nothing was built'}")
+        raise Wrong(f"cannot start rdbg: {said[-1] if said else 'nothing was built'}")
     return path
 
 
@@ -119,7 +119,7 @@ def set_pace(shell: Shell, given: Arguments) -> None:
     text, names = given.text("pace", ""), given.texts("interrupts")
     found = pace(text)
     if text and found is None:
-        raise Wrong(f"pace: '{text}' is none: {IS}")
+        raise Wrong(f"pace: '{text}' is not a pace: {IS}")
     with turned(Wrong, Unable, of="interrupts"):
         coming = paces.chosen(shell, names)
     if names:
@@ -136,7 +136,7 @@ def attach(given: Arguments, pause: Pause, hear: Tell) -> Shell:
     """
     port = given.number("port")
     if not 0 < port < 65_536:
-        raise Wrong(f"port is a number from 1 to 65535, and not {port}")
+        raise Wrong(f"port must be 1 to 65535, not {port}")
     path = file_of(given)
     source = None if path is None else read(path, given)
     name, anyone = given.text("as", "") or None, given.flag("anyone")

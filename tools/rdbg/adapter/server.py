@@ -33,7 +33,7 @@ ENDING, CANCEL = ("pause", "terminate", "disconnect"), "cancel"
 CANCELLED = "cancelled"
 # What says a token, where one is asked for, and what is answered before.
 TELLING, BEFORE = ("launch", "attach"), "initialize"
-NO_TOKEN = "`launch` or `attach` says first, as token, what `rdbg dap` said at its start"
+NO_TOKEN = "`launch` or `attach` must pass the `token` that `rdbg dap` named when it started"
 # No request: something has come from a room.
 HEARD = Asked(0, "", Arguments({}, ""))
 # So many requests may wait.
@@ -46,7 +46,7 @@ def said_of(error: Exception) -> str:
     """What is said of an error; of a fault of this program that it is one."""
     if isinstance(error, (Failure, Interrupted, Refused, Unable, Wrong)):
         return str(error)
-    return f"a fault of rdbg dap: {type(error).__name__}: {error}"
+    return f"internal error in rdbg dap: {type(error).__name__}: {error}"
 
 
 class Server:
@@ -179,7 +179,7 @@ class Server:
             if request.seq in self._cancelled:
                 raise Wrong(CANCELLED)
             if request.command not in REQUESTS:
-                raise Wrong(f"rdbg answers no request '{request.command[:100]}'")
+                raise Wrong(f"request '{request.command[:100]}' is not supported")
             if request.command in STANDING:
                 it.standing()
             return self._sender.send(
@@ -187,9 +187,9 @@ class Server:
             )
         except Refused as refused:
             wrong = wrong_line(it.shell, "", refused) if it.has_shell else ""
-            why = str(wrong or f"rdbg says no {refused}")
+            why = str(wrong or f"rdbg replied no {refused}")
         except Interrupted:
-            why = "it was ended by a pause"
+            why = "interrupted by a pause"
         except Exception as error:  # (so that the editor isn't left without an answer)
             why = said_of(error)
             if isinstance(error, Failure):

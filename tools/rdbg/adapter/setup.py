@@ -10,14 +10,12 @@ from rdbg.adapter.threads import TIME
 from rdbg.shell.shell import Shell
 
 START = "at 0: the start"
-# Why nothing is started anew at a port.
+# Why a target at a port is neither restarted nor ended.
 AT_A_PORT = (
-    "at a port nothing is started anew, since others have this target, too: Reverse goes back to"
-    " its start, and who has started it starts it with another file"
+    "cannot restart a target at a port, because others share it: Reverse goes back to its start; to"
+    " change the file, start the server again"
 )
-NO_END = (
-    "at a port nothing is ended, since others have this target, too: Disconnect ends the session"
-)
+NO_END = "cannot end a target at a port, because others share it: Disconnect ends your session"
 # What is supported, as the protocol has it behind that word.
 CAN = (
     "ConfigurationDoneRequest FunctionBreakpoints ConditionalBreakpoints HitConditionalBreakpoints"
@@ -30,7 +28,7 @@ CAN = (
 def initialize(it: Debugger, given: Arguments) -> Optional[Values]:
     """`initialize`: what rdbg can do for an editor."""
     if given.text("pathFormat", "path") != "path":
-        raise Wrong("paths are paths; URIs aren't known")
+        raise Wrong("pathFormat must be 'path'; URIs are not supported")
     firsts = [int(given.flag(f"{each}StartAt1", True)) for each in ("lines", "columns")]
     it.text.first_line, it.text.first_column = firsts
     it.shows_invalidated = given.flag("supportsInvalidatedEvent")
@@ -55,7 +53,7 @@ def started(it: Debugger, given: Arguments, shell: Shell) -> None:
 def check_start(it: Debugger, given: Arguments) -> None:
     """Raises `Wrong` where nothing can begin."""
     if it.has_shell:
-        raise Wrong("something is debugged already")
+        raise Wrong("a debug session is already running")
     opening.count(given, "limit", LIMIT)
 
 

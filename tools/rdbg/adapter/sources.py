@@ -107,7 +107,7 @@ class Text:
         if not there:
             later = [spot.line for spot in self.spots if spot.line > line]
             if not later:
-                raise Wrong("no instruction stands at this line or behind it")
+                raise Wrong("there is no instruction at or after this line")
             return self.at(min(later))[0]
         before = [spot for spot in there if column is not None and spot.column <= column]
         return before[-1] if before else there[0]

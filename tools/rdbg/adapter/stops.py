@@ -479,7 +479,7 @@ class Counted(Stop):
 def not_too_many(stop: Stop, found: Sequence[int]) -> None:
     """Raises `Wrong` where a stop is met too often to be counted."""
     if len(found) > MOST_HITS:
-        raise Wrong(f"more than {MOST_HITS} hits of {stop.text} aren't counted")
+        raise Wrong(f"{stop.text} has more than {MOST_HITS} hits, which is too many to count")
 
 
 def met_here(walk: Walk, stops: Sequence[Stop]) -> List[Stop]:

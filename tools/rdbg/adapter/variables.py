@@ -24,13 +24,13 @@ def typed_number(text: str, most: int = MOST_VALUE) -> int:
     other end as in C. Raises `Wrong` where it is none."""
     plain = BEHIND.sub("", text.strip()).replace("_", "")
     if not re.fullmatch(r"-?(0[xX][0-9a-fA-F]+|[0-9]+)", plain):
-        raise Wrong(f"'{text}' is no number: 41, 0x29 or -1")
+        raise Wrong(f"'{text}' is not a number: expected 41, 0x29 or -1")
     # (a number of more digits is too large, whatever they are)
     value = int(plain[:DIGITS], 16 if "x" in plain.lower() else 10)
     if value < 0 and most == MOST_VALUE:
         value += MOST_VALUE + 1
     if not 0 <= value <= most:
-        raise Wrong(f"'{text}' isn't within 0 to {most}")
+        raise Wrong(f"'{text}' is out of range: 0 to {most}")
     return value
 
 
@@ -41,7 +41,7 @@ def typed_bytes(text: str) -> str:
     quoted = re.fullmatch(r'"([ -~]*)"', plain)
     digits = quoted[1].encode("ascii").hex() if quoted else re.sub(r"\s|^0[xX]", "", plain)
     if not commands.is_bytes(digits or "-"):
-        raise Wrong(f"'{text}' is no bytes: 0a1b, \"text\" or - for none")
+        raise Wrong(f"'{text}' is not a byte string: expected 0a1b, \"text\" or - for none")
     return digits or "-"
 
 
