@@ -1,7 +1,7 @@
-;;; rdbg-dap.el --- rdbg as a debugger of dap-mode -*- lexical-binding: t; -*-
+;;; rdbg-dap.el --- Debug FreeRTOS models with rdbg and dap-mode -*- lexical-binding: t; -*-
 
-;; What dap-mode needs to know of rdbg, and commands for what it has no buttons for: steps back, the
-;; way back to a breakpoint, a tick, and a line for rdbg.  docs/guides/editors.md goes through a session.
+;; Registers rdbg with dap-mode, and adds the commands that dap-mode lacks: step back, reverse
+;; continue, tick, and a line for rdbg.  docs/guides/editors.md shows a session.
 
 ;;; Code:
 
@@ -11,15 +11,15 @@
          (expand-file-name "rdbg-fw-mode.el"
                            (file-name-directory (or load-file-name buffer-file-name))))
 
-;; (lsp-treemacs asks for it, and the treemacs of some versions, as Debian's, doesn't have it)
+;; lsp-treemacs needs this variable, which some versions of treemacs (such as Debian's) lack.
 (defvar treemacs-text-scale nil)
 
-;; (in a terminal dap-mode shows no breakpoints by itself)
+;; In a terminal, dap-mode does not show breakpoints by itself.
 (face-spec-set 'dap-ui-verified-breakpoint-face '((((type tty)) :foreground "red")))
 (face-spec-set 'dap-ui-pending-breakpoint-face '((((type tty)) :foreground "red")))
 
 (defun rdbg-dap--populate (conf)
-  "Fill in what CONF leaves open: how rdbg is started, and the file of this buffer."
+  "Complete the launch configuration CONF with the adapter and the file of this buffer."
   (setq conf (plist-put conf :dap-server-path (list rdbg-program "dap")))
   (unless (plist-get conf :program)
     (setq conf (plist-put conf :program (or (buffer-file-name) ""))))
@@ -40,15 +40,15 @@
 (dap-register-debug-template
  "rdbg: a port" (list :type "rdbg" :request "attach" :name "rdbg at a port"))
 
-(defvar rdbg-dap--marks nil "What says at which line each task stands.")
+(defvar rdbg-dap--marks nil "Overlays that show at which line each task is.")
 
 (defun rdbg-dap--unmark (&rest _)
-  "Say no more where tasks stand."
+  "Remove the marks that show where tasks are."
   (mapc #'delete-overlay rdbg-dap--marks)
   (setq rdbg-dap--marks nil))
 
 (defun rdbg-dap--mark (session answer)
-  "Say behind lines which tasks stand there, by ANSWER to threads, but for the chosen one of SESSION."
+  "Mark the lines where tasks are, as ANSWER lists them, except the current task of SESSION."
   (rdbg-dap--unmark)
   (let* ((frame (dap--debug-session-active-frame session))
          (source (and frame (gethash "source" frame)))
@@ -69,7 +69,7 @@
                   (push mark rdbg-dap--marks))))))))))
 
 (defun rdbg-dap--ask-where (session)
-  "Ask where the tasks of SESSION stand, and show it."
+  "Ask where the tasks of SESSION are, and mark the lines."
   (when (and (equal (plist-get (dap--debug-session-launch-args session) :type) "rdbg")
              (dap--session-running session)
              (dap--debug-session-active-frame session))
@@ -81,12 +81,12 @@
 (add-hook 'dap-terminated-hook #'rdbg-dap--unmark)
 
 (defun rdbg-step-back ()
-  "Take the last move back, and go to whose it was."
+  "Undo the last move, and select the task that made it."
   (interactive)
   (dap--step "stepBack" (dap--cur-session-or-die)))
 
 (defun rdbg-reverse-continue ()
-  "Go back to the last place where a breakpoint is met, or to the start."
+  "Go back to the last breakpoint hit, or to the start."
   (interactive)
   (dap--step "reverseContinue" (dap--cur-session-or-die)))
 
@@ -98,7 +98,7 @@
     (dap--step "next" session)))
 
 (defun rdbg-step-task ()
-  "Choose a task, and let it do one instruction on its core."
+  "Choose a task, and step it by one instruction on its core."
   (interactive)
   (let* ((session (dap--cur-active-session-or-die))
          (threads (gethash "threads" (dap-request session "threads")))
@@ -107,30 +107,30 @@
     (setf (dap--debug-session-thread-id session) (cdr (assoc chosen names)))
     (dap--step "next" session)))
 
-(defvar rdbg-breaks nil "What `rdbg-break' has set, for each session.")
+(defvar rdbg-breaks nil "Alist from sessions to the breakpoints that `rdbg-break' has set.")
 
 (defun rdbg-breaks-send (session names)
-  "Let SESSION stop at NAMES, and say what they stand for."
+  "Set the function breakpoints of SESSION to NAMES, and report what they stand for."
   (setq rdbg-breaks (cons (cons session names) (assq-delete-all session rdbg-breaks)))
   (let* ((asked (vconcat (mapcar (lambda (name) (list :name name)) names)))
          (answer (dap-request session "setFunctionBreakpoints" :breakpoints asked))
          (texts (mapcar (lambda (it) (gethash "message" it)) (gethash "breakpoints" answer))))
-    (message "Stops at: %s" (if texts (string-join texts "; ") "none of these"))))
+    (message "Breakpoints: %s" (if texts (string-join texts "; ") "none"))))
 
 (defun rdbg-break (name)
-  "Stop where NAME is so: a condition, changes jobs, sleeps worker, send, xQueueSend, worker 2."
-  (interactive "sStop where (count jobs > 0, changes jobs, sleeps worker, xQueueSend, worker 2): ")
+  "Set a breakpoint on NAME: a goal, changes jobs, sleeps worker, a call, or an instruction."
+  (interactive "sStop at (count jobs > 0, changes jobs, sleeps worker, xQueueSend, worker 2): ")
   (let ((session (dap--cur-active-session-or-die)))
     (rdbg-breaks-send session (append (cdr (assq session rdbg-breaks)) (list name)))))
 
 (defun rdbg-break-delete-all ()
-  "Drop all that `rdbg-break' has set."
+  "Delete all breakpoints that `rdbg-break' has set."
   (interactive)
   (rdbg-breaks-send (dap--cur-active-session-or-die) nil))
 
 (defun rdbg-line (line)
-  "Tell rdbg a LINE, and show what it says."
-  (interactive "sLine of rdbg: ")
+  "Send LINE to rdbg, and show the reply."
+  (interactive "sCommand for rdbg: ")
   (let ((said (dap-request (dap--cur-active-session-or-die) "evaluate"
                            :expression line :context "repl")))
     (message "%s" (gethash "result" said))))
@@ -141,7 +141,7 @@
   (save-selected-window (dap-ui-locals)))
 
 (defun rdbg-go ()
-  "Go on to the next breakpoint; where nothing is debugged, debug the file of this buffer."
+  "Continue to the next breakpoint, or start debugging the file of this buffer."
   (interactive)
   (if (dap--session-running (dap--cur-session))
       (call-interactively #'dap-continue)
@@ -167,13 +167,13 @@
 
 ;;;###autoload
 (define-minor-mode rdbg-keys-mode
-  "Keys of rdbg's debugger, in files of applications.
+  "Keys to debug with rdbg, for buffers that visit a model.
 
 \\{rdbg-keys-mode-map}"
   :lighter " rdbg")
 
 (defun rdbg-maybe-keys ()
-  "Turn the keys on in a file that can be an application."
+  "Turn on `rdbg-keys-mode' if this file may be a model."
   (when (rdbg-application-p)
     (rdbg-keys-mode 1)))
 

@@ -1,14 +1,14 @@
-;;; rdbg-fw-mode.el --- applications of rdbg in lines -*- lexical-binding: t; -*-
+;;; rdbg-fw-mode.el --- Major mode for rdbg models (.fw) -*- lexical-binding: t; -*-
 
-;; A mode for files that end in .fw, and what is wrong in them and in JSON with tasks while one types,
-;; by flymake.  It needs nothing but Emacs and rdbg; rdbg-dap.el has the debugger.
+;; A major mode for .fw files, and a flymake backend that reports errors in them, and in JSON models,
+;; while you type.  It needs only Emacs and rdbg; rdbg-dap.el has the debugger.
 
 ;;; Code:
 
 (require 'flymake)
 
 (defun rdbg--starts-p (path)
-  "Say whether PATH is a file that can be started, and no folder."
+  "Return non-nil if PATH is an executable file."
   (and (file-regular-p path) (file-executable-p path)))
 
 (defvar rdbg-program
@@ -18,31 +18,31 @@
     (cond ((rdbg--starts-p checkout) checkout)
           ((rdbg--starts-p installed) installed)
           (t "rdbg")))
-  "The file that starts rdbg: of the checkout or installation that this is of.")
+  "The rdbg program: by default that of the checkout or installation that contains this file.")
 
 (defconst rdbg-fw-lines
   '("cores" "notes" "tick" "profile" "queue" "stream" "message" "group" "semaphore" "mutex" "task"
     "interrupt" "const")
-  "Words with which lines begin that say what there is; `set' is one, too.")
+  "Words that begin a declaration; `set' is another.")
 
 (defconst rdbg-fw-blocks
   '("loop" "while" "if" "else" "end" "break" "continue" "goto" "wait")
-  "Words of blocks, and of the wait.")
+  "Words of control flow.")
 
 (defconst rdbg-fw-instructions
   '("add" "move" "data" "pack" "unpack" "jump" "jumpz" "send" "front" "recv" "peek" "over" "qreset"
     "count" "spaces" "scount" "sspaces" "mspaces" "setadd" "setdel" "select" "swrite" "sread" "sreset" "strig" "mwrite" "mread"
     "mreset" "mnext" "notify" "query" "take" "give" "nwait" "nclear" "vclear" "gset" "gclear" "gget"
     "gwait" "gsync")
-  "Words of instructions; `set' is one, too.")
+  "Words of instructions; `set' is another.")
 
 (defconst rdbg-fw-operands
   '("length" "item" "size" "trigger" "members" "priority" "given" "times" "apart" "after" "any" "all"
     "keep" "clear" "none" "bits" "inc" "dec" "setif" "max" "not")
-  "Words that stand behind others.")
+  "Words that follow the first word of a line.")
 
 (defun rdbg-fw--words (words &optional before)
-  "What finds WORDS, behind BEFORE."
+  "Return a regexp that matches any of WORDS after the regexp BEFORE."
   (concat (or before "") "\\_<" (regexp-opt words t) "\\_>"))
 
 (defvar rdbg-fw-font-lock
@@ -60,7 +60,7 @@
     (,(rdbg-fw--words rdbg-fw-blocks) . font-lock-keyword-face)
     (,(rdbg-fw--words (cons "set" rdbg-fw-instructions)) . font-lock-builtin-face)
     (,(rdbg-fw--words rdbg-fw-operands) . font-lock-preprocessor-face))
-  "What is shown how.")
+  "Font lock rules of `rdbg-fw-mode'.")
 
 (defvar rdbg-fw-mode-syntax-table
   (let ((table (make-syntax-table)))
@@ -70,13 +70,13 @@
     (modify-syntax-entry ?\n "> b" table)
     (modify-syntax-entry ?_ "_" table)
     table)
-  "Comments are C's two kinds, and `#' up to the end of its line.")
+  "Syntax table: comments are those of C, and `#' to the end of the line.")
 
 (defconst rdbg-fw--define (syntax-propertize-rules ("\\(#\\)define\\_>" (1 ".")))
-  "A const of C is no comment.")
+  "Syntax rule by which a `#define' is not a comment.")
 
 (defun rdbg-fw--depth ()
-  "How many blocks are open at this line; nil outside of a task."
+  "Return the number of blocks that are open at this line, or nil outside a task."
   (save-excursion
     (let ((end (point)) (depth 0))
       (when (re-search-backward "^[ \t]*task\\_>" nil t)
@@ -92,7 +92,7 @@
         depth))))
 
 (defun rdbg-fw-indent ()
-  "Indent this line: four columns in a task, and in each block."
+  "Indent this line by four columns in a task, and by four more for each block."
   (interactive)
   (let* ((depth (save-excursion (beginning-of-line) (rdbg-fw--depth)))
          (words (save-excursion (back-to-indentation) (buffer-substring (point) (line-end-position))))
@@ -108,10 +108,10 @@
     (when (< (current-column) column)
       (back-to-indentation))))
 
-(defvar-local rdbg-check--process nil "What checks this buffer.")
+(defvar-local rdbg-check--process nil "The process that checks this buffer.")
 
 (defun rdbg-check--found (source value)
-  "The diagnostics of the buffer SOURCE that VALUE has, what rdbg check printed."
+  "Return flymake diagnostics for the buffer SOURCE from VALUE, the output of rdbg check."
   (mapcar
    (lambda (fault)
      (let ((region (flymake-diag-region source (gethash "line" fault) (gethash "column" fault))))
@@ -122,7 +122,7 @@
    (gethash "faults" (elt (gethash "files" value) 0))))
 
 (defun rdbg-check--ended (source report process)
-  "Tell flymake by REPORT what PROCESS has found in the buffer SOURCE."
+  "Call REPORT with the errors that PROCESS found in the buffer SOURCE, once it has ended."
   (when (memq (process-status process) '(exit signal))
     (unwind-protect
         (when (and (buffer-live-p source)
@@ -135,7 +135,7 @@
       (kill-buffer (process-buffer process)))))
 
 (defun rdbg-check-flymake (report &rest _)
-  "Have rdbg check this buffer, and tell flymake by REPORT."
+  "Check this buffer with rdbg, and call REPORT with the result (a flymake backend)."
   (when (process-live-p rdbg-check--process)
     (kill-process rdbg-check--process))
   (let ((source (current-buffer))
@@ -153,12 +153,12 @@
     (process-send-eof rdbg-check--process)))
 
 (defun rdbg-check-here ()
-  "Say in this buffer what is wrong with its application, while one types."
+  "Report errors in the model of this buffer while you type."
   (add-hook 'flymake-diagnostic-functions #'rdbg-check-flymake nil t)
   (flymake-mode 1))
 
 (defun rdbg-application-p ()
-  "Say whether this file can be an application: .fw, or JSON that has tasks."
+  "Return non-nil if this file may be a model: .fw, or JSON that contains \"tasks\"."
   (and buffer-file-name
        (or (string-suffix-p ".fw" buffer-file-name)
            (and (string-suffix-p ".json" buffer-file-name)
@@ -167,13 +167,13 @@
                   (search-forward "\"tasks\"" nil t))))))
 
 (defun rdbg-maybe-check ()
-  "Check JSON that can be an application, while one types."
+  "Report errors while you type if this is JSON that may be a model."
   (when (and (rdbg-application-p) (not (derived-mode-p 'rdbg-fw-mode)))
     (rdbg-check-here)))
 
 ;;;###autoload
 (define-derived-mode rdbg-fw-mode prog-mode "fw"
-  "A mode for applications of rdbg in lines."
+  "Major mode for rdbg models."
   (setq-local comment-start "// " comment-end "" indent-tabs-mode nil
               comment-start-skip "\\(?://+\\|/\\*+\\|#+\\)[ \t]*"
               syntax-propertize-function rdbg-fw--define

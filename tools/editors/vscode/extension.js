@@ -1,15 +1,14 @@
-// Marks what is wrong with an application in lines (.fw) while it is open: rdbg checks the text as it
-// stands in the editor.
+// Marks errors in open .fw files: rdbg checks the text as it is in the editor.
 
 const childProcess = require("child_process");
 const path = require("path");
 const vscode = require("vscode");
 
 const LANGUAGE = "rdbg-fw";
-// (what an editor shows of an older state, beside the file, has another one)
+// (an older version of the file, such as one that a diff shows, has another scheme)
 const SCHEMES = ["file", "untitled"];
 const SETTING = "rdbg.check.program";
-// So many milliseconds nothing changes before a text is checked.
+// A text is checked once it has not changed for this many milliseconds.
 const PAUSE = 300;
 const WORDS = ["check", "--json", "--name", "text.fw", "-"];
 
@@ -21,22 +20,22 @@ function programName() {
   return vscode.workspace.getConfiguration().get(SETTING) || path.join(__dirname, "adapter");
 }
 
-// What rdbg prints of a text. What it runs as is kept in the run, so that it can be ended.
+// Checks a text with rdbg, and returns its output. The process is kept in `run`, to be killed.
 function printedOf(text, run) {
   return new Promise((resolve, reject) => {
     run.child = childProcess.execFile(programName(), WORDS, (error, printed, complaint) => {
-      // (a status is a number: 1, where there are faults)
+      // (the code is a number if rdbg ran: 1 if there are errors in the text)
       if (error && typeof error.code === "string") reject(error);
       else resolve([printed, complaint]);
     });
-    // (it may end before it has read all)
+    // (rdbg may exit before it has read everything)
     run.child.stdin.on("error", () => {});
     run.child.stdin.end(text);
   });
 }
 
-// The mark of a fault, from its column to the end of the word there. A column counts characters, of
-// which some are two to VS Code.
+// Returns the diagnostic of an error, from its column to the end of the word there. rdbg counts
+// characters, and VS Code counts UTF-16 units.
 function markOf(fault, lines) {
   const at = fault.line - 1;
   const line = lines[at] || "";
@@ -56,21 +55,21 @@ async function marksOf(text, run) {
     const lines = text.split(/\r?\n/);
     return JSON.parse(printed).files[0].faults.map((fault) => markOf(fault, lines));
   } catch {
-    throw new Error(complaint.trim() || "it prints no JSON with faults");
+    throw new Error(complaint.trim() || "its output is not the expected JSON");
   }
 }
 
-// The marks of all documents. Of each the last run is known, whose answer alone counts.
+// The diagnostics of all documents. Only the result of the last run for a document counts.
 class Marks {
   constructor() {
-    // (a task's matcher has the same name, so that no fault stands twice)
+    // (the same name as the owner of the problem matcher, so that no error is listed twice)
     this.marks = vscode.languages.createDiagnosticCollection("rdbg");
     this.output = vscode.window.createOutputChannel("rdbg");
     this.runs = new Map();
     this.isTold = false;
   }
 
-  // Checks a document once it has been left alone for a while.
+  // Checks a document after a pause in typing.
   check(document) {
     if (!isChecked(document)) return;
     this.end(document.uri.toString());
@@ -92,15 +91,15 @@ class Marks {
     this.tell(trouble);
   }
 
-  // Says once what hinders it, until it has worked again.
+  // Reports a failure of the check once, until a check succeeds.
   tell(trouble) {
     if (trouble && !this.isTold) {
-      this.output.appendLine(`Faults aren't marked: ${programName()} ${WORDS.join(" ")}: ${trouble}`);
+      this.output.appendLine(`cannot check for errors: ${programName()} ${WORDS.join(" ")}: ${trouble}`);
     }
     this.isTold = trouble !== "";
   }
 
-  // Ends what is under way for a document, whose answer is void.
+  // Cancels the check of a document, if there is one.
   end(name) {
     const { timer, child } = this.runs.get(name) || {};
     clearTimeout(timer);

@@ -167,7 +167,7 @@ for (const [what, program, said] of [
   ["isn't there", "/nowhere/rdbg", "spawn /nowhere/rdbg ENOENT"],
   ["can't be there", `${__filename}/rdbg`, "spawn ENOTDIR"],
   ["is no text", 5, "must be of type string"],
-  ["answers no JSON", "/bin/echo", "it prints no JSON with faults"],
+  ["answers no JSON", "/bin/echo", "its output is not the expected JSON"],
   ["complains", "/bin/cat", "/bin/cat: "],
 ]) {
   test(`a program that ${what} is told once`, async (context) => {
@@ -176,7 +176,7 @@ for (const [what, program, said] of [
     const document = user.open(WRONG);
     await until(() => marksIn(document));
     assert.equal(output.length, 1);
-    assert(output[0].startsWith(`Faults aren't marked: ${program} check --json`), output[0]);
+    assert(output[0].startsWith(`cannot check for errors: ${program} check --json`), output[0]);
     assert(output[0].includes(said), output[0]);
 
     const long = user.open(WRONG.repeat(1000), { name: "long.fw" });
