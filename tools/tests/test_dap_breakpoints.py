@@ -284,7 +284,7 @@ class Endings(Held):
             ((ends, waits), ["asleep"], "exception", "asleep: ends ended; waits waits at recv:q"),
             ((ends, waits), [], "pause", "asleep: all remaining tasks wait, and none has a"),
             ((waits, fails), [], "pause", "asleep: all remaining tasks wait, and none has a"),
-            ((ends, fails), [], "pause", "stuck: no task waits, and one has failed"),
+            ((ends, fails), [], "pause", "stuck: no task waits, and at least one has failed"),
             ((ends, fails), ["failed"], "exception", "fails failed"),
         ):
             with self.subTest(said), tempfile.TemporaryDirectory() as folder, editor() as client:
@@ -366,9 +366,9 @@ class Places(Held):
             self.assertEqual(
                 [it["label"] for it in found],
                 [
-                    "back to place 10, where worker came to 0",
+                    "go back to place 10, where worker reached 0",
                     "edit: worker continues at 0",
-                    "back to place 7, where worker came to 1",
+                    "go back to place 7, where worker reached 1",
                     "edit: worker continues at 1",
                 ],
             )

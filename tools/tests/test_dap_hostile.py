@@ -44,14 +44,14 @@ class Frames(Held):
     def test_headers(self) -> None:
         self.wrong(b"Content-Length: many\r\n\r\n", "Content-Length is not a number of bytes")
         self.wrong(b"Content-Length: -3\r\n\r\n", "Content-Length is not a number of bytes")
-        self.wrong(b"hello\r\n\r\n", "a header has lines such as")
-        self.wrong(b"hello\r\n", "a header has lines such as")
+        self.wrong(b"hello\r\n\r\n", "not a header line: expected Content-Length")
+        self.wrong(b"hello\r\n", "not a header line: expected Content-Length")
         self.wrong(b"\r\n\r\n\n")
-        self.wrong(b"x" * 100_000 + b"\r\n", "a header has lines such as")
-        self.wrong(b"Content-Length: 99999999999\r\n\r\n{}", "at most", "a header has")
+        self.wrong(b"x" * 100_000 + b"\r\n", "not a header line: expected Content-Length")
+        self.wrong(b"Content-Length: 99999999999\r\n\r\n{}", "is too long: the limit is", "not a header line")
         body = json.dumps(REQUEST).encode()
         self.wrong(
-            b"Content-Length: %d\r\n\r\n%s" % (len(body) - 3, body), "no JSON", "a header has"
+            b"Content-Length: %d\r\n\r\n%s" % (len(body) - 3, body), "not JSON", "not a header line"
         )
 
     def test_a_type_beside_the_length_is_taken(self) -> None:
@@ -70,15 +70,15 @@ class Frames(Held):
 
     def test_messages(self) -> None:
         for body, text in (
-            (b"", "no JSON"),
-            (b"{", "no JSON"),
-            (b"\xff\xfe", "no JSON"),
-            (b"[" * 50_000, "no JSON"),
-            (b'{"seq": 1%s}' % (b"0" * 5_000), "no JSON"),
-            (b'{"seq": NaN}', "no JSON"),
-            (b"3", "no object"),
-            (b"{}", "its type is another"),
-            (b'{"type": "event", "event": "stopped"}', "its type is another"),
+            (b"", "not JSON"),
+            (b"{", "not JSON"),
+            (b"\xff\xfe", "not JSON"),
+            (b"[" * 50_000, "not JSON"),
+            (b'{"seq": 1%s}' % (b"0" * 5_000), "its seq is a number of more"),
+            (b'{"seq": NaN}', "not JSON"),
+            (b"3", "not a JSON object"),
+            (b"{}", "its type must be"),
+            (b'{"type": "event", "event": "stopped"}', "its type must be"),
             (b'{"type": "request", "command": "threads"}', "a number as seq"),
             (b'{"type": "request", "seq": "1", "command": "threads"}', "a number as seq"),
             (b'{"type": "request", "seq": true, "command": "threads"}', "a number as seq"),
@@ -206,7 +206,7 @@ class Arguments(Held):
                     asked = {"source": {}, "breakpoints": [{"line": 1}], "text": "", "column": 1}
                     answer = client.answer(client.send(command, asked, name="x", expression="x"))
                     self.assertNotIn("Traceback", json.dumps(answer))
-            self.assertIn("nothing is debugged", client.refused("evaluate", expression="tick"))
+            self.assertIn("no debug session yet", client.refused("evaluate", expression="tick"))
 
     def test_files_that_can_not_be_debugged(self) -> None:
         for program, text in (

@@ -61,13 +61,13 @@ class Attached(Held):
             told = client.event("capabilities")["capabilities"]
             off = {"supportsRestartRequest": False, "supportsTerminateRequest": False}
             self.assertEqual(told, off)
-            self.assertIn("at a port nothing is ended", client.refused("terminate"))
+            self.assertIn("cannot end a target at a port", client.refused("terminate"))
             client.stopped("configurationDone")
             other.tell("forward 5")
             arguments: List[Message] = [{}, {"arguments": {"program": str(LOST)}}]
             for more in arguments:
                 said = client.refused("restart", more)
-                self.assertIn("others have this target, too", said)
+                self.assertIn("because others share it", said)
                 self.assertIn("Reverse goes back to its start", said)
             self.assertEqual(other.tell("show moves"), "moves 5 undone 0 kept 5")
             self.assertEqual(other.tell("show wheel"), "wheel -")
@@ -128,7 +128,7 @@ class Attached(Held):
             process.wait()
             client.event("terminated")
             self.assertIn("has closed the connection", " ".join(client.output()))
-            self.assertIn("nothing is debugged", client.refused("next", threadId=2))
+            self.assertIn("no debug session yet", client.refused("next", threadId=2))
 
 
 class Ports(Held):

@@ -96,7 +96,7 @@ class Ends(InFile):
             client.ask("terminate")
             self.assertEqual(client.event("exited")["exitCode"], 0)
             client.event("terminated")
-            self.assertIn("nothing is debugged", client.refused("next", threadId=2))
+            self.assertIn("no debug session yet", client.refused("next", threadId=2))
             client.ask("disconnect")
 
     def test_terminate_ends_a_run(self) -> None:

@@ -98,7 +98,7 @@ class Users(unittest.TestCase):
     def test_many_of_another_take_no_place_of_a_page(self) -> None:
         with with_page() as here, page(here, "ada") as (raw, _):
             with connected(here.port, 100), page(here, "bo"):
-                raw.expect("notice", "bo comes")
+                raw.expect("notice", "bo joined")
 
     @IS_ROOT
     def test_one_after_the_other_of_another_keeps_nobody_waiting(self) -> None:
@@ -198,7 +198,7 @@ class Untold(unittest.TestCase):
         with room(head=before(UNTOLD)) as here:
             with Caller(here.port) as other:
                 other.send("tick", "forward 3")
-                self.assertIn("# token", other.expect("# say"))
+                self.assertIn("# token", other.expect("# send"))
                 self.assertIn("# token", other.expect("# no: the first line"))
                 self.assertEqual(other.rest(), [])
             self.assertEqual(here.listening, f"listening {here.port}\n")

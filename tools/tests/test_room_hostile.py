@@ -63,14 +63,14 @@ class Hostile(unittest.TestCase):
             # (byte 10 is among them, so that those lines are four)
             said = [other.expect("") for _ in range(6)]
             self.assertEqual(said[:5], ["no Syntax"] * 5)
-            self.assertEqual(said[5][:10], "# no: a li")
+            self.assertEqual(said[5][:15], "# no: unknown r")
             self.assertEqual(left.ask("tick"), "ok at 1")
 
     def test_one_that_never_reads(self) -> None:
         with mock.patch.object(client, "STUCK", 0.3), mock.patch.object(client, "SLOW", 999):
             with served() as (port, _), Caller(port, "left") as left, deaf(port) as other:
                 other.sendall(b"# name deaf\nwheel take\n" + b"show cores\n" * 20_000)
-                left.expect("# deaf comes")
+                left.expect("# deaf joined")
                 self.assertEqual(left.ask("tick"), "no Held 2")
                 word = "it does not read its replies"
                 left.expect(f"# deaf is away and still has the wheel (dropped: {word})")
@@ -81,7 +81,7 @@ class Hostile(unittest.TestCase):
         ):
             with served() as (port, room), Caller(port, "left") as left, deaf(port) as other:
                 other.sendall(b"# name late\n")
-                left.expect("# late comes")
+                left.expect("# late joined")
                 loud = room.join("loud", lambda _: None)
                 for _ in range(4_000):
                     loud.remark("# say " + "x" * 900)

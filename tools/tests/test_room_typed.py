@@ -121,11 +121,11 @@ class Reloaded(unittest.TestCase):
             for line in ("until count jobs > 0 50", "step 1", "back 1", "watch count jobs = 0"):
                 page.ask(line)
             self.assertEqual("", page.ask("reload"))
-            self.assertNotIn("anew", " ".join(heard))
+            self.assertNotIn("reloaded the file", " ".join(heard))
             page.ask("wheel take")
             self.edit('"data 41"', '"data 42"')
             page.ask("reload")
-            said = self.told(heard, "anew")
+            said = self.told(heard, "reloaded the file")
             self.assertEqual(
                 f"# ada reloaded the file: all 5 moves are the same on {self.path}, at 5", said
             )
@@ -148,7 +148,7 @@ class Reloaded(unittest.TestCase):
                 task["code"] = [it.replace("jobs", "work") for it in task["code"]]
             self.path.write_text(json.dumps(text))
             page.ask("reload")
-            said = self.told(heard, "anew")
+            said = self.told(heard, "reloaded the file")
             self.assertIn("reloaded the file: 0 of 4 moves are the same on", said)
             self.told(heard, "watch w0 of bo (count jobs > 0) was dropped: no NoSuch")
             self.assertEqual("moves 0 undone 0 kept 0", other.ask("show moves"))
@@ -167,7 +167,7 @@ class Reloaded(unittest.TestCase):
             said = self.told(own, "no: ")
             self.assertTrue(said.endswith("the target stays as it is"), said)
             self.assertTrue(page.ask("back 1").startswith("ok at 0"))
-            self.assertEqual([], [it for it in heard if "anew" in it])
+            self.assertEqual([], [it for it in heard if "reloaded the file" in it])
 
     def test_pages_are_loaded_anew(self) -> None:
         room = Room(load(str(self.path)), sessions=6)

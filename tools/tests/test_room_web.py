@@ -345,7 +345,7 @@ class Lines(unittest.TestCase):
             )
             self.assertEqual({}, said(here, "name", page=key, name="ada"))
             self.assertEqual("ada", raw.expect("who", "ada")["name"])
-            other.expect("notice", "web is ada now")
+            other.expect("notice", "web is now ada")
             with Raw(here) as late:
                 ask = f"GET /{here.token}/events?name=ada HTTP/1.1\r\n{host(here)}\r\n\r\n"
                 late.send(ask.encode())
@@ -539,7 +539,7 @@ class Hostile(unittest.TestCase):
             with page(here, "left") as (left, key), Raw(here) as slow:
                 slow.connection.setsockopt(socket.SOL_SOCKET, socket.SO_RCVBUF, 2_048)
                 slow.send(f"GET /{here.token}/events HTTP/1.1\r\n{host(here)}\r\n\r\n".encode())
-                left.expect("notice", "web comes")
+                left.expect("notice", "web joined")
                 end, told = time.monotonic() + PATIENCE, ""
                 # (the system takes some megabytes that it doesn't read)
                 while "web is away" not in told and time.monotonic() < end:

@@ -209,7 +209,7 @@ class Answers(Shown):
                 ("reach", str(LOST), "reg poller 0 = 1"),
                 "reach reg poller 0 = 1? Found: the run of",
             ),
-            (("hunt", str(LOST), "reg poller 0 = 1"), "hunt reg poller 0 = 1? Found: the run of"),
+            (("hunt", str(LOST), "reg poller 0 = 1"), "hunt reg poller 0 = 1? Found: the "),
             (("reach", str(STOLEN), "ended client", "--doomed"), "doomed ended client? Found: the"),
         ):
             with self.subTest(words):

@@ -1,4 +1,4 @@
-"""A connection to a room's port: lines come in, replies and notices go out, both within bounds."""
+"""A connection to a room's port, with bounds on what it may send and leave unread."""
 import contextlib
 import select
 import socket
@@ -11,34 +11,34 @@ from rdbg.door import drop
 from rdbg.rooms.member import Member
 from rdbg.rooms.seats import Refusal
 
-# So many bytes are read at a time, and so many are sent.
+# Bytes that are read, and sent, at a time.
 READ, PIECE = 65_536, 4_096
-# With so many bytes unread a connection's own lines wait, and with so many it misses notices.
+# Unread bytes above which the connection's own lines wait, and above which it misses notices.
 SLOW, MOST_UNREAD = 262_144, 1_048_576
-# One whose lines wait, and that reads nothing for so many seconds, is dropped.
+# A connection whose lines wait is dropped if it reads nothing for this many seconds.
 STUCK = 60.0
-# So many seconds a connection may wait before it is told to others as a guest, and before it is
-# closed, where there is no session for one more guest.
+# Seconds of silence after which a connection is announced as a guest, and after which it is closed
+# if there is no session for another guest.
 MOMENT, NAMELESS = 1.0, 5.0
-# A connection that ends has so many seconds to read on, and in all so many; of what it still sends
-# so many bytes are read, and none is answered. So often it is looked at meanwhile.
+# A connection that ends is closed after this many seconds without reading, and after this many in
+# all. The bytes that it still sends are discarded up to a limit. It is polled every TURN seconds.
 LAST_SECONDS, MOST_SECONDS, LAST_BYTES, TURN = 1.0, 30.0, 4_194_304, 0.05
 
 
 class Client:
-    """A connection, and who is there. What it is told is sent by a thread of its own: so nobody
-    waits for it."""
+    """A connection and its member. A thread of its own sends what it is told, so that nobody waits
+    for it."""
 
     def __init__(self, connection: socket.socket) -> None:
         self.connection = connection
         self.member: Optional[Member] = None
-        # Whether its first line has come.
+        # Whether its first line has arrived.
         self.has_spoken = False
         self._came = time.monotonic()
         with contextlib.suppress(OSError):
             connection.setsockopt(socket.IPPROTO_TCP, socket.TCP_NODELAY, 1)
             connection.setsockopt(socket.SOL_SOCKET, socket.SO_SNDBUF, READ)
-        # (what waits to be sent, which changes while this is held; and how much was sent)
+        # (the unsent bytes, which change only while this is held; and the number of sent bytes)
         self._changed = threading.Condition()
         self._out, self._missed, self._sent = bytearray(), 0, 0
         self._is_ending = False
@@ -47,16 +47,16 @@ class Client:
 
     @property
     def is_waiting(self) -> bool:
-        """Whether it has come, and has said nothing yet."""
+        """Whether it has connected, and has sent nothing yet."""
         return self.member is None or not self.member.is_told
 
     def _patience(self) -> Optional[float]:
-        """In how many seconds it has said nothing for too long; none where it has said something."""
+        """Returns the seconds until it has been silent for too long, or `None` if it has not."""
         late = self._came + (NAMELESS if self.member is None else MOMENT)
         return max(0.0, late - time.monotonic()) if self.is_waiting else None
 
     def hear(self, notice: str) -> None:
-        """Sends a notice. While too much is unread notices are left out, which is said then."""
+        """Sends a notice, or drops it if too much is unread. Dropped notices are counted."""
         with self._changed:
             if len(self._out) > MOST_UNREAD:
                 self._missed += 1
@@ -79,7 +79,7 @@ class Client:
             self._changed.notify_all()
 
     def _write(self) -> None:
-        """Sends what waits, up to its end."""
+        """Sends the unsent bytes until `finish` was called and all are sent."""
         with contextlib.suppress(OSError):
             piece = self._next()
             while piece:
@@ -95,13 +95,13 @@ class Client:
             self._out.clear()
 
     def _next(self) -> bytes:
-        """What is sent next, once there is something; none at the end."""
+        """Waits for the next bytes to send, and returns them; none at the end."""
         with self._changed:
             self._changed.wait_for(lambda: self._out or self._is_ending)
             return bytes(self._out[:PIECE])
 
     def wait(self) -> None:
-        """Waits while it reads too little. Raises `Refusal` where it reads nothing for too long."""
+        """Waits while too much is unread. Raises `Refusal` if it reads nothing for too long."""
         with self._changed:
             while len(self._out) > SLOW and not self._is_ending:
                 sent = self._sent
@@ -109,8 +109,8 @@ class Client:
                     raise Refusal("it does not read its replies")
 
     def lines(self) -> Iterator[Optional[bytes]]:
-        """The lines that come, up to the end, of one that is too long the beginning; none where for
-        too long nothing has come."""
+        """Yields the received lines, the beginning of one that is too long, and `None` each time
+        that nothing has arrived for too long."""
         tail = b""
         with contextlib.suppress(OSError):
             while len(tail) <= MOST_BYTES:
@@ -127,14 +127,14 @@ class Client:
             yield tail[: MOST_BYTES + 1]
 
     def finish(self) -> None:
-        """Nothing more is sent behind what waits."""
+        """Sends nothing more after what is unsent."""
         with self._changed:
             self._is_ending = True
             self._changed.notify_all()
 
     def end(self, word: str = "") -> None:
-        """Says why it is answered no more, and waits until it has read what was written, or has
-        read nothing for a while. Then it can be closed."""
+        """Sends the reason, if any, and waits until the connection has read everything, or nothing
+        for a while. It can be closed then."""
         if word:
             self.hear(f"# no: {word}")
         self.finish()

@@ -14,15 +14,15 @@ from rdbg.rooms.room import Room
 from rdbg.wording import counted
 
 FREE = "free"
-# So many seconds pass until a terminal is read again that is another program's for now.
+# Seconds until a terminal that belongs to another program for now is read again.
 AGAIN = 1.0
-# So many seconds it rests between two pieces of what comes.
+# Seconds between two reads.
 BREATH = 0.02
 
 
 def receive(number: int) -> bytes:
-    """The next bytes of standard input; none at its end, nor where it can't be read. A room in the
-    background waits until the terminal is its own again."""
+    """Returns the next bytes of standard input; none at its end, or if it cannot be read. A room in
+    the background waits until it is in the foreground again."""
     while True:
         try:
             return os.read(number, MOST_BYTES)
@@ -33,7 +33,7 @@ def receive(number: int) -> bytes:
 
 
 def lines_of(number: int) -> Iterator[str]:
-    """The lines of standard input, read slowly, up to its end or to one that is too long."""
+    """Yields the lines of standard input, read slowly, up to its end or a line that is too long."""
     content, tail = b"-", b""
     while content and len(tail) <= MOST_BYTES:
         content = receive(number)
@@ -51,24 +51,24 @@ def usage(room: Room) -> str:
 
 
 def hear(room: Room, number: int) -> None:
-    """Does what comes by standard input, up to its end. Only at a terminal it is said what a line
-    that is none could be: what else comes by a pipe is for somebody else."""
+    """Executes the lines of standard input. Lines other than `free` get the usage at a terminal,
+    and are ignored in a pipe, where they may be meant for another program."""
     for line in lines_of(number):
         is_free = line.lstrip("# ") == FREE
         if is_free or line and os.isatty(number):
             try:
                 print(f"# {room.free_wheel() if is_free else usage(room)}", flush=True)
             except (Failure, OSError):
-                return  # (the program has ended, or nobody reads what is said)
+                return  # (the program has ended, or nobody reads the output)
 
 
 def listen(room: Room) -> None:
-    """Begins to hear standard input, where there is one. At a terminal it says what for."""
+    """Starts to read standard input, if there is one. At a terminal, prints the usage."""
     if sys.stdin is None:
         return
     if sys.stdin.isatty() and sys.stdout.isatty():
         print(f"# {usage(room)}", flush=True)
-    # (who reads a terminal from the background would be stopped)
+    # (reading a terminal from the background would stop the process)
     signal.signal(signal.SIGTTIN, signal.SIG_IGN)
     words = (room, sys.stdin.fileno())
     threading.Thread(target=hear, args=words, daemon=True).start()

@@ -61,7 +61,7 @@ def help_on(room: "Room", member: "Member", rest: str) -> str:
     for form, (does, _) in FORMS.items():
         member.hear(f"# # {form.ljust(width)}  {does}")
     member.hear(
-        "# all other lines are commands of rdbg: `step 0`, `tick`, `back 1`, `show cores`, `wheel take`"
+        "# all other lines are commands of rdbg, for example `step 0`, `tick` or `wheel take`"
     )
     return room.tell_place(member)
 

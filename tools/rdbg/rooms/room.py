@@ -1,4 +1,4 @@
-"""Several, each by a name, at one program that serves: what each asks, and all are told."""
+"""A room: several named members share one program, and everybody is told what each of them does."""
 import collections
 import contextlib
 import threading
@@ -28,18 +28,18 @@ __all__ = ["Ended", "Member", "Refusal", "Room"]
 
 TOO_LONG, NO_COMMAND = "no LineTooLong", "no Syntax"
 HELD = "no Held"
-# Of a run the last so many moves are told; so many of the notices to all are kept.
+# The number of moves that are listed of a run, and of notices to everybody that are kept.
 FEW, MOST_HEARD = 5, 500
-# How long it takes until a talk that could not be written is tried again.
+# Seconds until a talk that could not be written is tried again.
 TRY_AGAIN_SECONDS = 1.0
-# So many seconds without a line make somebody idle, unless it is said otherwise.
+# Seconds without a line after which a member is idle, by default.
 IDLE = 60
-# It is said when so little of the history is left, one part of so many.
+# The room warns when less than one part in N of the history is left, for each N.
 NEARLY = (SCARCE, 100)
 
 
 class Room:
-    """One program, with a session for each name. What anyone does, all are told."""
+    """One program with a session for each name. Everybody is told what each member does."""
 
     def __init__(
         self,
@@ -48,29 +48,29 @@ class Room:
         sessions: int = MOST_SESSIONS,
         talk: Optional[Talk] = None,
     ) -> None:
-        """Starts the program. Raises `Failure` where that can't be."""
+        """Starts the program. Raises `Failure` if it cannot be started."""
         self.app_source = source
-        # Is called once the program has ended by itself. Nothing is answered then, nor at the end.
+        # Called once the program has ended by itself; no line is answered after that.
         self.when_over: Callable[[], None] = lambda: None
-        # Tells the user who started the room what cannot wait until its end.
+        # Prints an urgent message where the room was started.
         self.say: Callable[[str], None] = lambda text: None
-        # Is called once the room goes on with another source, and follows nothing any more.
+        # Called after a reload, when all followers have been removed.
         self.when_reloaded: Callable[[], None] = lambda: None
         self.is_over = self.is_reloading = False
-        # Who has said no line for so many seconds is idle.
+        # Seconds without a line after which a member is idle.
         self.idle = IDLE
         self._seats = Seats(sessions)
         self._program = Program(source, limits, self._seats.all)
         self._program.when_over, self._program.when_ended = self._is_over, self._has_ended
         self._talk, self.counts = talk, Counts()
-        # (what all were told last, for who comes late)
+        # (the latest notices to everybody, for members that join later)
         self._heard: Deque[Notice] = collections.deque(maxlen=MOST_HEARD)
         self._members: Dict[int, Member] = {}
         self._turns = Turns()
         self._followers: List[Callable[[str, str], None]] = []
-        # (the sessions that have asked for the wheel since anybody came or left)
+        # (the sessions that have asked for the wheel since a member joined or left)
         self._asked: Set[int] = set()
-        # (how often it was said that the history is nearly full, and whether why it stays so)
+        # (the number of warnings about the history, and whether the failed renewal was reported)
         self._warned, self._is_told_why = 0, False
         self._audits: List[Audit] = []
         self._keep("room", "#", f"opens {source.path}")
@@ -78,11 +78,11 @@ class Room:
 
     @property
     def place(self) -> int:
-        """How many moves are done, as last told."""
+        """Returns the number of moves made, as far as the room knows."""
         return self._program.place
 
     def join(self, name: Optional[str], hear: Hear, is_told: bool = True) -> Member:
-        """Somebody comes, by a name or as a guest, told now or by `announce`. Raises `Refusal`."""
+        """Adds a member by a name, or as a guest. Raises `Refusal` if there is no session for it."""
         with self._turns:
             if self.is_over:
                 raise Refusal("the room has ended")
@@ -100,13 +100,13 @@ class Room:
             return member
 
     def _greet(self, member: Member) -> None:
-        """Says to somebody who that is, and who is here."""
+        """Tells a member its name and session, and who else is here."""
         others = [it.name for it in self._seats.here() if it is not member.seat]
         here = ", ".join(others) or "nobody else"
         member.hear(f"# you are {member.name}, session {member.session}; here: {here}")
 
     def announce(self, member: Member) -> None:
-        """Tells the others who has come, once."""
+        """Announces a member to the others, once."""
         with self._turns:
             if member.is_here and not member.is_told:
                 self._announce(member)
@@ -117,7 +117,7 @@ class Room:
         self.tell(f"{member.name} joined, session {member.session}", but=member)
 
     def _hand_over(self, seat: Seat) -> None:
-        """Takes a session from who is away, for another one, with what was kept there."""
+        """Takes the session, its watches and the wheel from a name that is away."""
         has = self.holder is seat
         lines = [f"unwatch {number}" for number in sorted(seat.watches)]
         for line in lines + (["wheel give"] if has else []):
@@ -128,12 +128,12 @@ class Room:
         self._seats.clear(seat)
 
     def rename(self, member: Member, name: str) -> None:
-        """Somebody goes on by another name. Raises `Refusal`."""
+        """Renames a member. Raises `Refusal` if the name is not valid or taken."""
         with self._turns:
             self.rename_in_turn(member, name)
 
     def rename_in_turn(self, member: Member, name: str) -> None:
-        """The same in the room's turn. A name of nobody keeps the session, others have theirs."""
+        """Does the same within a turn. A name that is away has a session of its own."""
         check(name)
         old, seat = member.name, member.seat
         if name != old and name in self._seats.by_name():
@@ -155,7 +155,7 @@ class Room:
             self.tell(f"{old} is now {name}, session {member.session}", but=member)
 
     def leave(self, member: Member, why: str = "") -> None:
-        """Somebody is away."""
+        """Marks a member as away."""
         with self._turns:
             if not member.is_here or self.is_over:
                 return
@@ -164,7 +164,7 @@ class Room:
             self._seats.leave(member.seat)
             del self._members[member.session]
             self._asked.clear()
-            if not member.is_told:  # (nobody knows of it, and it has said nothing)
+            if not member.is_told:  # (it was never announced)
                 self._seats.clear(member.seat)
                 return
             has = " and still has the wheel" if self.holder is member.seat else ""
@@ -173,7 +173,7 @@ class Room:
             self.tell(f"{member.name} {text}")
 
     def ask(self, member: Member, line: str, answer: Hear) -> str:
-        """The reply to a line of somebody's, which is told before anybody else has a turn."""
+        """Returns the reply to a line, after passing it to `answer` within the member's turn."""
         with self._turns:
             if not member.is_here:
                 raise Refusal(f"{member.name} has left")
@@ -196,12 +196,12 @@ class Room:
             return reply
 
     def begin(self, member: Member, text: str) -> None:
-        """Somebody begins what takes several lines; without a text to look for itself."""
+        """Begins a command of several lines; without a text, views of the tool's own."""
         self.end(member, "")
         member.doing = Doing(text, self.place)
 
     def end(self, member: Member, came_to: str) -> None:
-        """What somebody was in the midst of has come to an end: that is told and kept."""
+        """Ends what `begin` began, announces it, and adds it to the talk."""
         doing = member.doing
         if doing is not None:
             self._tell_doing(member, came_to)
@@ -211,7 +211,7 @@ class Room:
                 self.counts.way(member.name, doing.moved)
 
     def _tell_doing(self, member: Member, came_to: str = "") -> None:
-        """Tells the others what somebody has done so far of what takes several lines."""
+        """Tells the others what a member has done so far by a command of several lines."""
         if member.doing is not None:
             for text in member.doing.take(member.name, came_to):
                 self.tell(text, but=member)
@@ -240,7 +240,7 @@ class Room:
         return reply
 
     def _change(self, member: Member, command: Command, line: str) -> str:
-        """The reply to a line that changes something, or is refused; all are told what it did."""
+        """Returns the reply to a line that is not a view, and tells everybody what it did."""
         seat, place = member.seat, self.place
         single = is_single(command) and self.holder in (None, seat)
         before = self._program.look(seat) if single else None
@@ -264,8 +264,8 @@ class Room:
         return reply
 
     def _tell_done(self, member: Member, command: Command, lines: List[str]) -> None:
-        """Tells all what somebody has done; the others later where it is but a part of something.
-        Where it moves the target, what they are in the midst of themselves was done before."""
+        """Tells everybody what a line did; others hear later of one that is part of a command. If it
+        moves the target, the unfinished commands of other members are announced before."""
         for other in self._members.values():
             if other is not member and TARGET in command.form.changes:
                 self._tell_doing(other)
@@ -279,7 +279,7 @@ class Room:
             self.tell(line)
 
     def tell(self, text: str, but: Optional[Member] = None) -> str:
-        """Tells all who are here, but for one, and answers it."""
+        """Tells everybody who is here, except one member, and returns the text."""
         self._heard.append(Notice(time.time(), printable(text)))
         # (others may come and go meanwhile)
         for member in list(self._members.values()):
@@ -295,8 +295,8 @@ class Room:
 
     @contextlib.contextmanager
     def _telling_of(self, talk: Talk) -> Iterator[None]:
-        """Tells everybody if the talk cannot be written any more after the block, or can again. In
-        the first case it is tried again in a thread of its own."""
+        """Warns everybody if the talk becomes unwritable, or writable again, within the block. In the
+        first case a thread keeps trying."""
         before, lost_before = talk.fault, talk.lost_count
         yield
         if talk.fault and not before:
@@ -318,12 +318,12 @@ class Room:
                         talk.flush()
 
     def warn(self, text: str) -> None:
-        """Tells everybody who is here, and the user who started the room."""
+        """Tells everybody who is here, and prints the text where the room was started."""
         self.tell(text)
         self.say(text)
 
     def _warn(self, member: Member, reply: str) -> None:
-        """Says when the history is nearly full, and when it is."""
+        """Warns if the history is nearly full, or full."""
         if reply == FULL:
             member.hear("# the history is full: only lines that were answered before get a reply")
         left, limit = self._program.left(), self._program.limits.history
@@ -335,7 +335,7 @@ class Room:
             self.tell(f"the history has room for {lines}; moves are no longer described")
 
     def _renew(self) -> bool:
-        """Goes on with a new program, and answers whether that could be had."""
+        """Tries to replace the program by a new one. Returns whether that succeeded."""
         try:
             if not self._program.renew():
                 return False
@@ -358,7 +358,7 @@ class Room:
             self.tell(f"audit of the previous rdbg: {audit.text()}")
 
     def remark(self, member: Member, line: str) -> None:
-        """Does a line that begins with `#`."""
+        """Executes a line that begins with `#`."""
         with self._turns:
             if not member.is_here or self.is_over:
                 return
@@ -367,22 +367,22 @@ class Room:
             if answer is not None:
                 member.says()
             if answer is not None and (was_told or not member.is_told):
-                self._keep(name, line, answer)  # (else it is kept that somebody comes)
+                self._keep(name, line, answer)  # (otherwise the talk says that the member joined)
 
     def follow(self, told: Callable[[str, str], None]) -> List[str]:
-        """From now on tells each line that has changed something, with its reply, in order; what is
-        called must not block, nor ask the room anything. Answers the lines that lead here."""
+        """Adds a callback for each line that changes something, with its reply, in order. It must
+        not block, or ask the room anything. Returns the lines that lead to the current state."""
         with self._turns:
             self._followers.append(told)
             return self._program.journal.lines()
 
     def lines(self) -> List[str]:
-        """The lines that lead to where the target stands."""
+        """Returns the lines that lead to the current state of the target."""
         with self._turns:
             return self._program.journal.lines()
 
     def begin_reload(self, member: Member) -> str:
-        """Begins to read the file anew, for who has the wheel. Raises `Refusal`."""
+        """Starts to reload the file, for the holder of the wheel. Raises `Refusal`."""
         if self.holder is not member.seat:
             raise Refusal("reloading the file needs the wheel: `wheel take`")
         if self.is_reloading:
@@ -392,7 +392,7 @@ class Room:
         return "begun"
 
     def _reload(self, member: Member) -> None:
-        """Reads the file anew behind the room's turn, and goes on with it; all are told then."""
+        """Reloads the file outside the room's turn, switches to it, and tells everybody."""
         try:
             was = self.lines()
             source, lines, said = quiet.made_again(self.app_source, was)
@@ -417,20 +417,20 @@ class Room:
 
     @property
     def holder(self) -> Optional[Seat]:
-        """Who has the wheel, here or away."""
+        """Returns the session that has the wheel, if any."""
         return self._program.holder
 
     def people(self) -> List[Seat]:
-        """Who has a session, here or away."""
+        """Returns the sessions that have a name, whether it is here or away."""
         return list(self._seats.by_name().values())
 
     def silence(self, seat: Seat) -> int:
-        """For how many seconds who has a session has said nothing; 0 of who is away."""
+        """Returns the seconds since a member's last line; 0 for one that is away."""
         member = self._members.get(seat.number)
         return member.silence() if member is not None else 0
 
     def who(self) -> str:
-        """Who is here and who of them is idle, who is away, and who has the wheel."""
+        """Lists who is here, idle or away, and who has the wheel."""
         texts: Dict[bool, List[str]] = {True: [], False: []}
         for it in self.people():
             has = ", has the wheel" if it is self.holder else ""
@@ -441,25 +441,25 @@ class Room:
         return f"here: {', '.join(texts[True])}{away}"
 
     def tell_moves(self, member: Member, count: int) -> str:
-        """Tells somebody the last moves. They are looked at with the session that may move."""
+        """Tells a member the latest moves, which the session with the wheel looks up."""
         for row in self._program.last_rows(self.holder or member.seat, count):
             member.hear(f"# {row}")
         return self.tell_place(member)
 
     def tell_place(self, member: Member) -> str:
-        """Tells somebody where the target stands."""
+        """Tells a member where the target is."""
         text = record.at(self.place, self._program.target.undone)
         member.hear(f"# {text}")
         return text
 
     def tell_talk(self, member: Member, count: int) -> str:
-        """Tells somebody the last that all were told."""
+        """Tells a member the latest notices to everybody."""
         for it in list(self._heard)[-count:]:
             member.hear(f"# {it.row()}")
         return self.tell_place(member)
 
     def tell_one(self, member: Member, name: str, text: str) -> None:
-        """Somebody has a word for another one. Raises `Refusal` where that one isn't here."""
+        """Passes a private message. Raises `Refusal` if its recipient is not here."""
         found = next((it for it in self._members.values() if it.name == name), None)
         if found is None:
             away = (
@@ -473,8 +473,8 @@ class Room:
             member.hear(f"# {member.name} to {name}: {printable(text)}")
 
     def wheel_wanted(self, member: Member) -> str:
-        """Somebody asks for the wheel. Who has it is told; where that one is away, it is given up
-        by who asks once more. Answers what all are told. Raises `Refusal`."""
+        """Asks for the wheel. If its holder is away, a member's second request frees it. Returns the
+        notice to everybody. Raises `Refusal` if the wheel is free, or the member's own."""
         seat = self.holder
         if seat is None:
             raise Refusal("the wheel is free: take it with `wheel take`")
@@ -490,7 +490,7 @@ class Room:
         return self.tell(text)
 
     def free_wheel(self) -> str:
-        """Has the wheel given back by who is away or idle. Answers what all are told, or why not."""
+        """Frees the wheel if its holder is away or idle. Returns the notice, or why not."""
         with self._turns:
             try:
                 text = self._freed()
@@ -515,21 +515,20 @@ class Room:
         return f"the room's owner gave back the wheel for {seat.name}, who is {why}: it is free"
 
     def _program_has_ended(self, host: Host) -> None:
-        """Tells everybody at once that a program has ended by itself, unless the room has gone on
-        with another one."""
+        """Tells everybody that a program has ended by itself, unless it has been replaced."""
         with self._turns:
             if self._program.host is host:
                 self._is_over(host.why_ended())
 
     def _is_over(self, why: str) -> None:
-        """The program has ended by itself: tells everybody, and ends the room."""
+        """Tells everybody why the program has ended, and ends the room."""
         if not self.is_over:
             self.is_over = True
             self.tell(why)
             self.when_over()
 
     def close(self) -> List[Audit]:
-        """Ends the program; all are told its audit. Answers that behind those of others before."""
+        """Ends the program, and tells everybody its audit. Returns the audits of all programs."""
         with self._turns:
             self.is_over = True
         self._program.wait()
@@ -552,5 +551,5 @@ class Room:
 
 
 def plain(line: str) -> str:
-    """A line as it goes to the program."""
+    """Returns a line as it is sent to the program."""
     return line.encode("ascii", "replace").decode()

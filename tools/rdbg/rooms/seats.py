@@ -1,4 +1,4 @@
-"""Who has which session of the program: names, guests, who is here and who is away."""
+"""The sessions of a room's program and the names that have them, here or away; guests."""
 import itertools
 import re
 from typing import Dict, Iterator, List, Optional
@@ -7,7 +7,7 @@ from rdbg.commands import is_name
 from rdbg.printable import printable
 
 GUEST = "guest"
-# Words that stand at the head of what a room says.
+# Words with which notices of a room begin.
 NOT_NAMES = ("no", "you", "here", "away", "rdbg", "room")
 NAMING = "a name has 1 to 16 of the characters a-z, 0-9 and _, and begins with a letter"
 
@@ -22,18 +22,18 @@ def all_of(count: int, what: str = "") -> str:
 
 
 class Seat:
-    """A session of the program, and the name that has it; an empty one while none does."""
+    """A session of the program, and the name that has it, or an empty name."""
 
     def __init__(self, number: int) -> None:
         self.number, self.name = number, ""
         self.is_here, self.is_guest = False, False
-        # (the watches that it keeps, by their numbers, and when who had it left)
+        # (its watches by number, and when its member left)
         self.watches: Dict[int, str] = {}
         self.left = 0
 
 
 def check(name: str) -> None:
-    """Raises `Refusal` where a name can be nobody's."""
+    """Raises `Refusal` if a name is not valid."""
     if not is_name(name):
         raise Refusal(f"'{printable(name[:16])}' is not a valid name: {NAMING}")
     if name in NOT_NAMES:
@@ -41,26 +41,26 @@ def check(name: str) -> None:
 
 
 class Seats:
-    """All sessions of a program, by names. A name keeps its session while it is away, until all
-    are taken and somebody new comes by a name: then who was away longest loses it, guests first.
-    Guests have half of the sessions at the most, and nobody's who is away, so that however many
-    connections come, names get in."""
+    """All sessions of a program. A name keeps its session while it is away. If all sessions are
+    taken when a new name joins, the name that has been away longest loses its session, guests
+    first. Guests get at most half of the sessions, and never that of a name that is away, so that
+    names can join however many connections there are."""
 
     def __init__(self, count: int) -> None:
         self.all: List[Seat] = [Seat(number) for number in range(1, count + 1)]
         self._times = itertools.count(1)
 
     def by_name(self) -> Dict[str, Seat]:
-        """The sessions that somebody has, here or away."""
+        """Returns the sessions that have a name, by name."""
         return {it.name: it for it in self.all if it.name}
 
     def here(self) -> Iterator[Seat]:
-        """The sessions of those who are here."""
+        """Returns the sessions of members who are here."""
         return (it for it in self.all if it.is_here)
 
     def find(self, name: Optional[str]) -> Seat:
-        """The session of who comes by a name, or as a guest; who is away with it loses it, once it
-        is taken. Raises `Refusal` where that name is here, or all are."""
+        """Returns the session for a name, or for a guest; it may belong to a name that is away.
+        Raises `Refusal` if that name is already here, or no session is free."""
         names = self.by_name()
         if name is None:
             return names.get(self.guest_name()) or self._for_guest()
@@ -70,7 +70,7 @@ class Seats:
         return names[name] if name in names else self._free(self.all)
 
     def _for_guest(self) -> Seat:
-        """The session of a guest who hasn't one yet. Raises `Refusal` where there is none."""
+        """Returns a session for a new guest. Raises `Refusal` if there is none."""
         most = max(1, len(self.all) // 2)
         if sum(it.is_guest for it in self.here()) >= most:
             raise Refusal(f"{all_of(most, ' for guests')} in use")
@@ -81,27 +81,27 @@ class Seats:
         return self._free(seats)
 
     def guest_name(self) -> str:
-        """The name of the next guest."""
+        """Returns the name of the next guest."""
         here = {it.name for it in self.here()}
         return next(it for it in map(f"{GUEST}{{}}".format, itertools.count(1)) if it not in here)
 
     def _free(self, seats: List[Seat]) -> Seat:
-        """That which nobody has, or whose name was away longest. Raises `Refusal` for none."""
+        """Returns an unused session, or the one left first. Raises `Refusal` if all are in use."""
         away = [it for it in seats if not it.is_here]
         if not away:
             raise Refusal(f"{all_of(len(self.all))} in use")
         return min(away, key=lambda it: (bool(it.name), not it.is_guest, it.left, it.number))
 
     def sit(self, seat: Seat, name: str) -> None:
-        """Somebody comes, or goes on by another name."""
+        """Gives a session to a name."""
         seat.name, seat.is_here = name, True
         seat.is_guest = re.fullmatch(rf"{GUEST}\d+", name) is not None
 
     def leave(self, seat: Seat) -> None:
-        """Who has a session is away."""
+        """Marks the name of a session as away."""
         seat.is_here, seat.left = False, next(self._times)
 
     def clear(self, seat: Seat) -> None:
-        """Nobody has a session any more."""
+        """Takes a session from its name."""
         seat.name, seat.is_here, seat.is_guest = "", False, False
         seat.watches.clear()
