@@ -48,7 +48,11 @@ class Frames(Held):
         self.wrong(b"hello\r\n", "not a header line: expected Content-Length")
         self.wrong(b"\r\n\r\n\n")
         self.wrong(b"x" * 100_000 + b"\r\n", "not a header line: expected Content-Length")
-        self.wrong(b"Content-Length: 99999999999\r\n\r\n{}", "is too long: the limit is", "not a header line")
+        self.wrong(
+            b"Content-Length: 99999999999\r\n\r\n{}",
+            "is too long: the limit is",
+            "not a header line",
+        )
         body = json.dumps(REQUEST).encode()
         self.wrong(
             b"Content-Length: %d\r\n\r\n%s" % (len(body) - 3, body), "not JSON", "not a header line"
