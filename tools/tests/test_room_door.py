@@ -235,7 +235,7 @@ class Untold(unittest.TestCase):
     def test_who_says_nothing_is_closed(self) -> None:
         with mock.patch.object(client, "NAMELESS", 0.3), served() as (port, _):
             with Caller(port) as other:
-                self.assertEqual(other.rest()[1:], ["# no: it sent no token in time"])
+                self.assertEqual(other.rest()[1:], ["# no: no token was sent in time"])
 
 
 if __name__ == "__main__":

@@ -12,8 +12,8 @@ from tests.rooms import LOST, Caller, Process, free_port, room, rows, talk
 from tests.shell_terminal import Terminal
 from tests.strangers import Clock, before
 
-IDLE = "the room's owner gave back the wheel for ada, who is idle for {}: it is free"
-AWAY = "the room's owner gave back the wheel for ada, who is away: it is free"
+IDLE = "the room's owner freed the wheel: ada has been idle for {}"
+AWAY = "the room's owner freed the wheel: ada is away"
 
 
 # The module of a room that tells who is idle.
@@ -164,7 +164,7 @@ class AtATerminal(unittest.TestCase):
             clock.move(1.1)
             terminal.type("free\n")
             terminal.expect(f"# {IDLE.format('1 second')}\n")
-            ada.expect("# the room's owner gave back the wheel for ada")
+            ada.expect("# the room's owner freed the wheel: ada")
             terminal.type("\x04")
             self.assertEqual(ada.ask("tick"), "ok at 1")
             terminal.type("\x03")

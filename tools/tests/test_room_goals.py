@@ -72,7 +72,7 @@ class Goals(unittest.TestCase):
             ("back until count jobs == 0", "no Syntax: word 3, '==': .*; `count jobs = 0` would"),
             ("until! asleap", "no Syntax: word 1, 'asleap': .*; `asleep` would be right"),
             ("rc! sleeps nobody", "no Syntax: word 2, 'nobody': the name of a task is wanted"),
-            ("rc", "no Syntax: to what. a goal, as `rc asleep`"),
+            ("rc", "no Syntax: expected a goal, for example `rc asleep`"),
             ("fly", "no Syntax: .fly. is no word"),
         ):
             with self.subTest(line):

@@ -80,7 +80,7 @@ class Wheel(unittest.TestCase):
             right.send("# wheel")
             right.expect("# left is away: send `# wheel` again to free the wheel")
             right.send("# wheel")
-            right.expect("# right gave back the wheel for left, who is away: it is free")
+            right.expect("# right freed the wheel: left is away")
             self.assertEqual(right.ask("step 0"), "ok at 1")
 
     def test_a_lost_terminal_has_its_wheel_again(self) -> None:

@@ -339,7 +339,7 @@ class Lines(unittest.TestCase):
     def test_names(self) -> None:
         with served(6) as here, page(here) as (raw, key), page(here) as (other, _):
             self.assertEqual("web2", other.expect("who")["name"])
-            self.assertIn("here already", said(here, "name", page=key, name="web2")["refused"])
+            self.assertIn("already here", said(here, "name", page=key, name="web2")["refused"])
             self.assertIn(
                 "is not a valid name", said(here, "name", page=key, name="<b>")["refused"]
             )
@@ -578,7 +578,7 @@ class Hostile(unittest.TestCase):
                 told = [pool.submit(said, here, "line", page=key, line="tick") for _ in range(120)]
                 answers = [it.result() for it in told]
             done = [it for it in answers if it.get("reply", "").startswith("ok at ")]
-            refused = [it for it in answers if "lines wait" in it.get("refused", "")]
+            refused = [it for it in answers if "lines are already waiting" in it.get("refused", "")]
             self.assertEqual(120, len(done) + len(refused))
             self.assertEqual(len(done), here.room.place)
             self.assertGreater(len(done), 0)

@@ -100,7 +100,7 @@ def arrival(spot: Spot) -> Stop:
 
 
 def named(shell: Shell, text: Text, name: str) -> List[Stop]:
-    """Returns the stops of a name: a goal, `lost GOAL`, a task's instruction, or a FreeRTOS call."""
+    """Returns the stops of a name: a goal, `lost GOAL`, an instruction, or a FreeRTOS call."""
     words = name.replace(":", " ").split()
     if not words:
         raise Wrong(

@@ -83,81 +83,81 @@ class Debugger:
         self.references, self.breakpoints = References(), Breakpoints()
         self.begins = {goal.text: Begins(goal) for goal in (SomeFailed(), ASLEEP)}
         self._shell: Optional[Shell] = None
-        # What waits for what a room says while an editor stands.
+        # Waits for notices of a room while the target does not run.
         self._listening = contextlib.ExitStack()
-        # Whether a run has the wheel, and what is told once it is given back.
+        # Whether a run holds the wheel, and the events to send once it is given back.
         self.is_held = False
         self.waiting: List[Values] = []
-        # What others have done, as long as the editor doesn't stand where that has led.
+        # The last move of another member that the editor does not show yet.
         self.others = ""
-        # What is done once a request was answered.
+        # Actions to take after the response to the current request.
         self.later: List[Callable[[], None]] = []
-        # Serves what the editor asks meanwhile, while something long goes on.
+        # Serves requests of the editor during a long operation.
         self.serve: Callable[[], None] = lambda: None
-        # Is called, from any thread, where something has come from a room that isn't heard yet.
+        # Called from any thread when a notice of a room has arrived.
         self.came: Callable[[], None] = lambda: None
         self.is_attached = self.is_configured = self.is_running = self.is_done = False
         self.shows_invalidated = False
-        # The thread that stopped last, and how, where a failure is told.
+        # The thread that stopped last, and the failure that stopped it, if any.
         self.focus = TIME
         self.failure = ""
         self.limit = LIMIT
-        # What `gotoTargets` named last.
+        # The last result of `gotoTargets`.
         self.gotos: List[Tuple[Spot, Optional[int]]] = []
-        # The last move, behind a run.
+        # The last move of a run.
         self._last: Optional[Move] = None
         self._seen: Optional[Look] = None
         self._watches: Dict[str, Stop] = {}
 
     @property
     def shell(self) -> Shell:
-        """The shell that drives the target. Raises `Wrong` before there is one."""
+        """Returns the shell that drives the target. Raises `Wrong` if there is none yet."""
         if self._shell is None:
             raise Wrong("no debug session yet: send launch or attach first")
         return self._shell
 
     @property
     def has_shell(self) -> bool:
-        """Whether something is debugged."""
+        """Whether there is a target."""
         return self._shell is not None
 
     @property
     def own_name(self) -> Optional[str]:
-        """The name by which a room knows this session; none where it is at no room."""
+        """Returns the name of this session in a room, or `None` outside a room."""
         return self._shell.target.session.name if self._shell else None
 
     def standing(self) -> None:
-        """Raises `Wrong` while the target runs, or before there is one."""
+        """Raises `Wrong` if the target is running, or if there is none yet."""
         if self.shell and self.is_running:
             raise Wrong("the target is running: pause it first")
 
     def take(self, shell: Shell) -> None:
-        """Goes on with this shell and its file."""
+        """Switches to a shell and its source."""
         self._shell = shell
-        Facts.of(shell.walk)  # (which hears of all moves from here on)
+        Facts.of(shell.walk)  # (which records all moves from here on)
         self.text = Text(shell.source, self.text.first_line, self.text.first_column)
         self.threads.learn(shell.target.names.tasks)
         self._seen = None
 
     @contextlib.contextmanager
     def wheel(self) -> Iterator[None]:
-        """As long as nobody else may move the target."""
+        """Holds the wheel during the block."""
         with self.shell.target.wheel():
             self.notice()
             yield
 
     def notice(self) -> None:
-        """Says where others have moved the target since that was last told."""
+        """Reports if another session has moved the target since the last report."""
         target = self.shell.target
         drift, target.drift = target.drift, None
         if drift is not None:
             self._seen = None
-            # (in a room, what moved it was told)
+            # (a room has announced each move)
             if self.own_name is None and drift[0] != drift[1]:
                 self.say(f"another session moved the target from {drift[0]} to {drift[1]}")
 
     def look(self) -> Look:
-        """What there is, looked at once as long as nothing moves."""
+        """Returns the current state, which is cached until the target moves."""
         if self._seen is None:
             target = self.shell.target
             look = self.shell.look() if target.is_own else target.look()
@@ -167,11 +167,11 @@ class Debugger:
         return self._seen
 
     def shown(self, is_hex: bool = False) -> Shown:
-        """What there is, to be shown as variables."""
+        """Returns the current state for display as variables."""
         return Shown(self.look(), self.shell.target.undone, is_hex)
 
     def changed(self) -> None:
-        """Takes note that the target isn't as it was looked at."""
+        """Drops the cached state."""
         self._seen = None
 
     def say(
@@ -181,7 +181,7 @@ class Debugger:
         category: str = "stdout",
         spot: Optional[Spot] = None,
     ) -> None:
-        """A line of output, with the instruction that it is of, or that a move is of."""
+        """Sends a line of output, with the position of an instruction or a move."""
         if move is not None and move.task and move.pc is not None:
             spot = self.text.of(move.task, move.pc)
         body: Values = {"category": category, "output": f"{text}\n"}
@@ -192,24 +192,24 @@ class Debugger:
 
     @contextlib.contextmanager
     def asking(self, line: str) -> Iterator[None]:
-        """As long as this line is asked: where rdbg refuses it, `Wrong` says why."""
+        """Turns a refusal of `line` within the block into `Wrong`."""
         try:
             yield
         except Refused as refused:
             raise wrong_line(self.shell, line, refused) from None
 
     def stops(self) -> List[Stop]:
-        """All at which a run stops, or says something."""
+        """Returns all stops, log points included."""
         return [*self.halts(), *(stop for it in self.breakpoints.logs() for stop in it.stops)]
 
     def halts(self) -> List[Stop]:
-        """All at which a run stops."""
+        """Returns all stops that end a run."""
         found = [stop for it in self.breakpoints.all() if not it.log for stop in it.stops]
         found += self._watched()
         return found + [self.begins[name] for name in self.breakpoints.failures]
 
     def _watched(self) -> List[Stop]:
-        """The session's watches, which were made by typing."""
+        """Returns stops for the session's watches, which were set in the console."""
         found: List[Stop] = []
         for number, text in sorted(self.shell.target.watches.items()):
             key = f"w{number}, {text}"
@@ -219,18 +219,18 @@ class Debugger:
         return found
 
     def runner(self, stops: Callable[[], List[Stop]]) -> Runner:
-        """What runs to some stops."""
+        """Returns a runner to some stops."""
         return Runner(self.shell.walk, stops, self.between)
 
     def between(self) -> None:
-        """Serves what the editor asks, and looks whether it asks for a pause."""
+        """Serves requests of the editor, among which may be a pause."""
         self.progress.show(f"at {self.shell.target.place}")
         self.serve()
         self.pause.check()
 
     def make(self, line: str) -> Move:
-        """Makes one move: again, where it is the one that was taken back last, so that those behind
-        it stay; else anew. Raises `Wrong` where rdbg refuses it."""
+        """Makes one move. If it is the one that was undone last, redoes it, so that the undone
+        moves after it are kept. Raises `Wrong` if rdbg refuses it."""
         target = self.shell.target
         before = target.look()
         with self.asking(line):
@@ -246,7 +246,7 @@ class Debugger:
         return self._made(trail.between(target, before, after), after)
 
     def edit(self, line: str) -> None:
-        """Makes an edit. Raises `Wrong` where rdbg refuses it."""
+        """Makes an edit. Raises `Wrong` if rdbg refuses it."""
         target = self.shell.target
         with self.asking(line), self.wheel():
             moved = target.ask(line, replies.Moved)
@@ -259,7 +259,7 @@ class Debugger:
         return move
 
     def last_moves(self, count: int) -> Sequence[Move]:
-        """The last moves, so many at the most."""
+        """Returns the last moves, at most `count`."""
         walk = self.shell.walk
         first = max(self.shell.target.base, walk.place - count) + 1
         if walk.place < first:
@@ -268,12 +268,12 @@ class Debugger:
         return found
 
     def tell_run(self, start: int) -> None:
-        """Says what the moves since a place did, the last few of many."""
+        """Lists what the moves since a place did; only the last few if there are many."""
         here = self.shell.target.place
         if here < start:
             self.say(f"back at {here}, next: {self.shell.next_moves()}")
         elif here > start:
-            # (in a room, each move was told already)
+            # (a room has announced each move already)
             most, few = (MANY, FEW) if self.own_name is None else (1, 1)
             shown = here - start if here - start <= most else few
             if shown < here - start:
@@ -283,7 +283,7 @@ class Debugger:
                 self._last = move
 
     def mover(self) -> int:
-        """The thread that made the last move; the one that stopped last where no task did."""
+        """Returns the thread that made the last move, or the one that stopped last."""
         is_known = self._last is not None and self._last.place == self.shell.target.place
         last = self._last if is_known else next(iter(self.last_moves(1)), None)
         return self.threads.number(last.task) if last and last.task else self.focus
@@ -291,7 +291,7 @@ class Debugger:
     def stopped(
         self, reason: str, description: str, thread: int, hit: Sequence[Breakpoint] = ()
     ) -> None:
-        """Tells the editor that the target stands, and why."""
+        """Sends the event that the target has stopped, with the reason."""
         self.focus = thread
         body: Values = {"reason": reason, "description": description, "threadId": thread}
         body.update(text=description, allThreadsStopped=True, preserveFocusHint=False)
@@ -302,34 +302,34 @@ class Debugger:
             self.tell_waiting()
 
     def tell_waiting(self) -> None:
-        """Tells that the target stands, once the wheel is given back."""
+        """Sends the events that waited until the wheel was given back."""
         while self.waiting:
             self.send(self.waiting.pop(0))
 
     def went(self) -> None:
-        """Tells the editor that the target went on, so that it follows to where it stops."""
+        """Sends the event that the target has continued, so that the editor follows it."""
         self.send(event("continued", {"threadId": self.focus, "allThreadsContinued": True}))
 
     def restarted(self, where: str) -> None:
-        """Says what has become of the breakpoints in the file as it is now, and stops."""
+        """Sets the breakpoints again in the reloaded file, reports them, and stops."""
         for value in self.breakpoints.again(self.shell, self.text):
             self.send(event("breakpoint", {"reason": "changed", "breakpoint": value}))
         self.went()
         self.stopped("entry", where, self.focus)
 
     def hear(self, notice: str) -> None:
-        """Takes what a room says besides: what others do, the editor is told."""
+        """Passes a notice of a room to the editor, and records a move of another member."""
         text = notice.lstrip("# ")
         self.say(text)
         self.others = self.others or (text if MOVED.match(notice) else "")
 
     def listen(self) -> None:
-        """From now on `came` is called once a room says something, until that is heard."""
+        """Starts to wait for notices of a room; `came` is called when one arrives."""
         self._listening.enter_context(self.shell.notices.listening(self.came))
 
     def heard(self) -> None:
-        """Hears what a room has said since, and goes where others have moved the target to. Raises
-        `Failure` where it has ended."""
+        """Handles the notices of a room, and shows where other members have moved the target.
+        Raises `Failure` if the room has ended."""
         if self._shell is None:
             return
         self._listening.close()
@@ -346,12 +346,12 @@ class Debugger:
             self.stopped("pause", others, self.focus)
 
     def still(self) -> None:
-        """Tells an editor that has asked for a move that the target stands where it stood."""
+        """Reports that the target has not moved, after a refused request to move it."""
         if self.is_configured and self.has_shell and not self.is_running and not self.is_done:
             self.stopped("pause", f"still at {self.shell.target.place}", self.focus)
 
     def failed_here(self, before: Optional[Look], after: Look) -> str:
-        """What has failed by a move: `failed`, `asleep`, or nothing that the editor asks for."""
+        """Returns the failure that a move caused, if the editor wants to stop at it."""
         for name in self.breakpoints.failures:
             goal = self.begins[name].goal
             if goal.is_so(after) and not (before and goal.is_so(before)):
@@ -367,7 +367,7 @@ class Debugger:
         self.stopped(FAILURE, f"at {self.shell.target.place}: {self.why(name)}", thread)
 
     def why(self, name: str) -> str:
-        """What a failure is, in a sentence."""
+        """Describes a failure."""
         told = self._failed() if name == "failed" else self.look().tasks.values()
         texts = "; ".join(f"{it.name} {phase_text(it)}" for it in told)
         return texts if name == "failed" else f"{ASLEEP.text}: {texts}"
@@ -376,7 +376,7 @@ class Debugger:
         return [it for it in self.look().tasks.values() if it.phase.word == "failed"]
 
     def tell_outcome(self, outcome: Outcome, start: int) -> None:
-        """Stops behind a run, and says why."""
+        """Stops after a run, and says why."""
         self.changed()
         self._last = None
         self.tell_run(start)
@@ -395,7 +395,7 @@ class Debugger:
         self.stopped(reason, f"at {here}: {texts[outcome.how]}", self.mover())
 
     def _ending(self) -> str:
-        """Why nothing goes on, where that is so, and the goal that this is."""
+        """Describes why nothing can continue, with the goal that holds."""
         look = self.look()
         if Finished().is_so(look):
             return f"{Finished().text}: all tasks have ended"
@@ -424,18 +424,18 @@ class Debugger:
         self.shell.drop_temporary([it for it, goal in watches if f"w{it}, {goal}" in texts])
 
     def end(self) -> None:
-        """Ends the program, and tells the editor so."""
+        """Ends the program, and sends the events for that."""
         status = self.close()
         self.is_running = False
         self.send(event("exited", {"exitCode": status or 0}))
         self.send(event("terminated", {}))
 
     def close(self) -> Optional[int]:
-        """Ends the session; the status of its program."""
+        """Ends the session, and returns the exit status of its program."""
         shell, self._shell = self._shell, None
         self._listening.close()
         return shell.target.session.close() if shell else None
 
 
-# What a request does; its answer has the values, if any.
+# The function of a request, which returns the body of the response, if any.
 Request = Callable[[Debugger, Arguments], Optional[Values]]

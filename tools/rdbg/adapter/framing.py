@@ -7,26 +7,26 @@ from typing import IO, Any, Dict, Optional
 from rdbg.adapter.messages import Unreadable
 from rdbg.door import is_of_a_browser
 
-# A line of a header, and a message, have at most so many bytes.
+# The most bytes of a header line, and of a message.
 MOST_LINE, MOST_BODY = 4_096, 1 << 20
 LENGTH = re.compile(rb"Content-Length:[ \t]*([0-9]{1,18})[ \t]*$", re.IGNORECASE)
-# Of a line that is longer it is known how it begins, and so many bytes at its end.
+# The bytes that are kept of the end of a longer line.
 MOST_END = 64
-# What a browser says besides, on whichever page's behalf: it is never answered.
+# Header fields of a browser, whose requests are never answered.
 OF_A_BROWSER = re.compile(rb"(Host|Origin|Referer|Cookie):", re.IGNORECASE)
 
 
 class Frames:
-    """The frames of a stream, one after the other."""
+    """Reads the frames of a stream."""
 
     def __init__(self, stream: IO[bytes]) -> None:
         self._stream = stream
-        # The length of a frame whose header was read behind something that was none.
+        # The length of a frame whose header was read after a malformed one.
         self._length: Optional[int] = None
 
     def read(self) -> Optional[bytes]:
-        """The next message, or none at the end. Raises `Unreadable` for bytes that are no frame,
-        and goes on behind them when it is called again."""
+        """Returns the next message, or `None` at the end. Raises `Unreadable` for bytes that are
+        not a frame; the next call continues after them."""
         try:
             length, self._length = self._length, None
             length = self._header() if length is None else length
@@ -36,7 +36,7 @@ class Frames:
         return body if len(body) == length else None
 
     def _header(self) -> Optional[int]:
-        """The length that the next header says."""
+        """Reads a header, and returns its length."""
         length: Optional[int] = None
         wrong = ""
         while True:
@@ -62,7 +62,7 @@ class Frames:
         return length
 
     def _line(self) -> bytes:
-        """The next line, of a long one how it begins and how it ends."""
+        """Reads a line, and returns it; of a long one, only its beginning and end."""
         line = piece = self._stream.readline(MOST_LINE)
         end = b""
         while piece and not piece.endswith(b"\n"):
@@ -72,7 +72,7 @@ class Frames:
 
 
 def of_line(text: bytes) -> str:
-    """What is wrong with a line of a header, if something is."""
+    """Returns what is wrong with a header line, or an empty text."""
     if text[:15].lower() == b"content-length:":
         return "Content-Length is not a number of bytes"
     if re.match(rb"[A-Za-z-]{1,64}:", text):
@@ -81,15 +81,15 @@ def of_line(text: bytes) -> str:
 
 
 class Sender:
-    """Sends messages, each with a number of its own, from any thread."""
+    """Sends messages with sequence numbers, from any thread."""
 
     def __init__(self, stream: IO[bytes]) -> None:
         self._stream, self._lock, self._sent = stream, threading.Lock(), 0
-        # Whether nobody reads any more.
+        # Whether the editor has closed the connection.
         self.is_closed = False
 
     def send(self, message: Dict[str, Any]) -> None:
-        """Sends a message. Where nobody reads any more nothing happens."""
+        """Sends a message. Does nothing if the connection is closed."""
         with self._lock:
             self._sent += 1
             body = json.dumps({"seq": self._sent, **message}).encode("ascii")

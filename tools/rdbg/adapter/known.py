@@ -1,5 +1,5 @@
-"""What is known of the moves of a target: where stops are met among them, and which of them a run
-would make the same again. It is kept for as long as these moves are what they were."""
+"""A cache of facts about the moves of a target: where stops are hit, and which moves a run would
+make again. Facts about moves are dropped when those moves are replaced."""
 import bisect
 import weakref
 from typing import Dict, Hashable, List, Sequence, Tuple

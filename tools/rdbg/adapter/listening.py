@@ -1,4 +1,4 @@
-"""A port at which editors connect, each with a session of its own."""
+"""A port for editors, each of which gets a session of its own."""
 import contextlib
 import socket
 import sys
@@ -18,8 +18,8 @@ ASKED = "`launch` and `attach` need as `token` the contents of"
 
 
 def listen(port: int, door: Door) -> None:
-    """Serves whoever connects and is let in, for ever. Raises `Failure` where the port can't be
-    had, or a token is asked for and can't be written."""
+    """Serves editors for ever. Raises `Failure` if the port is not available, or if a token is
+    needed and cannot be written."""
     with Editors(port, door) as editors, contextlib.ExitStack() as ends:
         if door.token:
             path = ends.enter_context(temporary_file("token", f"{door.token}\n", "the token"))
@@ -29,7 +29,7 @@ def listen(port: int, door: Door) -> None:
 
 
 class Editors(Entrance):
-    """Those who have connected: the silent, who haven't said anything yet, and the served."""
+    """The connections of editors: those that have sent nothing yet, and those being served."""
 
     what = "this adapter"
 
@@ -40,7 +40,7 @@ class Editors(Entrance):
         self._has_said = False
 
     def refusal(self, why: str) -> bytes:
-        """Nothing, but it is said here the first time."""
+        """Returns no bytes. The first refusal is reported on standard error."""
         if not self._has_said:
             self._has_said = True
             print(f"rdbg dap: a connection was closed: {why}", file=sys.stderr, flush=True)
@@ -55,12 +55,12 @@ class Editors(Entrance):
                 finally:
                     with self._guard:
                         self._served.discard(request)
-                    drop(request)  # (while another thread reads it, it can't be closed)
+                    drop(request)  # (a connection cannot be closed while another thread reads it)
         except OSError as error:
             print(f"rdbg dap: lost the connection to an editor: {error.strerror}", file=sys.stderr)
 
     def _comes(self, connection: socket.socket) -> str:
-        """An editor has said something; why it isn't served, if so."""
+        """Registers an editor at its first request. Returns why it is refused, if it is."""
         self.unread.remove(connection)
         with self._guard:
             if len(self._served) >= MOST:

@@ -1,5 +1,5 @@
-"""Requests that look: threads, frames, variables, the text, expressions; and those that set a
-variable or breakpoints, and say where there can be some."""
+"""Requests for threads, frames, variables, sources and expressions, and those that set variables
+and breakpoints."""
 import functools
 from typing import Dict, Optional
 
@@ -29,7 +29,7 @@ def threads(it: Debugger, given: Arguments) -> Optional[Values]:
 
 
 def stack(it: Debugger, given: Arguments) -> Optional[Values]:
-    """`stackTrace`: the instruction that a task stands at."""
+    """`stackTrace`: the instruction of a task."""
     number = given.number("threadId")
     name = it.threads.task(number)
     look = it.look()
@@ -42,17 +42,17 @@ def stack(it: Debugger, given: Arguments) -> Optional[Values]:
 
 
 def scopes(it: Debugger, given: Arguments) -> Optional[Values]:
-    """`scopes` of a frame, which has the number of its thread."""
+    """`scopes` of a frame, whose number is that of its thread."""
     return {"scopes": it.references.scopes(it.threads.task(given.number("frameId")), it.look())}
 
 
 def is_hex(given: Arguments) -> bool:
-    """Whether numbers are asked for in hexadecimal."""
+    """Whether the request asks for hexadecimal numbers."""
     return given.part("format").flag("hex")
 
 
 def variables(it: Debugger, given: Arguments) -> Optional[Values]:
-    """`variables`: what stands in something, or a part of it."""
+    """`variables`: the children of a variable, or some of them."""
     shown = it.shown(is_hex(given))
     found = within(shown, it.references.path(given.number("variablesReference")))
     only = given.text("filter", "")
@@ -64,7 +64,7 @@ def variables(it: Debugger, given: Arguments) -> Optional[Values]:
 
 
 def put(it: Debugger, variable: Variable, value: str) -> None:
-    """Sets a variable, by an edit. Raises `Wrong` where there is none."""
+    """Sets a variable by an edit. Raises `Wrong` if it is read-only."""
     if variable.put is None:
         raise Wrong(f"{variable.name} is read-only")
     it.edit(variable.put(value))
@@ -90,7 +90,7 @@ def set_expression(it: Debugger, given: Arguments) -> Optional[Values]:
 
 
 def expressed(shown: Shown, task: Optional[str], text: str) -> Variable:
-    """The variable that an expression names."""
+    """Returns the variable that an expression names. Raises `Wrong` if there is none."""
     found = names.found(shown, task, text.strip())
     if found is None:
         raise Wrong(f"'{text[:100]}' is not a register, a part of a task, an object or a condition")
@@ -98,7 +98,7 @@ def expressed(shown: Shown, task: Optional[str], text: str) -> Variable:
 
 
 def value_of(it: Debugger, given: Arguments) -> Values:
-    """What an expression says, that changes nothing."""
+    """Evaluates an expression that changes nothing."""
     text = given.text("expression").strip()
     said = names.view(it.shell, text)
     if said is not None:
@@ -111,7 +111,7 @@ def value_of(it: Debugger, given: Arguments) -> Values:
 
 
 def source(it: Debugger, given: Arguments) -> Optional[Values]:
-    """`source`: the text of an application that is in no file."""
+    """`source`: the text of the built-in model, which is not in a file."""
     asked = given.part("source")
     number = asked.number("sourceReference", 0) or given.number("sourceReference", 0)
     text = it.text.source
@@ -126,7 +126,7 @@ def sources(it: Debugger, given: Arguments) -> Optional[Values]:
 
 
 def exception(it: Debugger, given: Arguments) -> Optional[Values]:
-    """`exceptionInfo`: why a task has failed, or what nothing goes on for."""
+    """`exceptionInfo`: why a task has failed, or why nothing can continue."""
     name = it.threads.task(given.number("threadId", TIME))
     task = it.look().tasks.get(name) if name else None
     if task and task.phase.word == "failed":
@@ -139,7 +139,7 @@ def exception(it: Debugger, given: Arguments) -> Optional[Values]:
 
 
 def completions(it: Debugger, given: Arguments) -> Optional[Values]:
-    """`completions` of a line that is typed."""
+    """`completions` of a line in the console."""
     lines = given.text("text").split("\n")
     at = given.number("line", it.text.first_line) - it.text.first_line
     text = lines[at] if 0 <= at < len(lines) else lines[-1]
@@ -150,7 +150,7 @@ def completions(it: Debugger, given: Arguments) -> Optional[Values]:
     return {"targets": found}
 
 
-# What is looked at where the target stands.
+# Requests that need a stopped target.
 LOOKING: Dict[str, Request] = {
     "stackTrace": stack,
     "scopes": scopes,
@@ -163,7 +163,7 @@ LOOKING: Dict[str, Request] = {
 
 
 def all_of(kind: str, it: Debugger, given: Arguments) -> Optional[Values]:
-    """`setFunctionBreakpoints`, by names, and `setDataBreakpoints`."""
+    """`setFunctionBreakpoints` and `setDataBreakpoints`."""
     return {"breakpoints": it.breakpoints.put(kind, it.shell, it.text, given.parts("breakpoints"))}
 
 
@@ -208,7 +208,7 @@ def data_info(it: Debugger, given: Arguments) -> Optional[Values]:
     }
 
 
-# What is told and set at any time.
+# Requests that are possible at any time.
 SETTING: Dict[str, Request] = {
     "threads": threads,
     "source": source,

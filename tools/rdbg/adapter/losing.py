@@ -1,5 +1,5 @@
-"""A stop where a goal is lost for good: no order of moves leads there any more. It is asked of the
-program that searches, at few places, since what was lost stays so."""
+"""A stop where a goal is lost: no run can reach it any more. The search program decides this at few
+places, because a lost goal stays lost."""
 import time
 from typing import Dict, Hashable, List, Optional, Sequence, Tuple
 
@@ -15,7 +15,7 @@ from rdbg.reaching.asking import LOST, REACH, Asker, Question, ask_behind
 from rdbg.reaching.said import Answer, Kind
 from rdbg.shell.shell import Shell
 
-# A search ends after so many seconds.
+# The time limit of a search, in seconds.
 SECONDS = 20.0
 AT_A_PORT = (
     "a `lost` breakpoint needs a launched target; at a port, type `lost GOAL` in the debug console"
@@ -28,8 +28,8 @@ def lines_to(target: Target) -> Tuple[str, ...]:
 
 
 class Loses(Begins):
-    """A goal is lost: from the place before a move some order led there, and behind it none does.
-    `way` says how one goes before that move, once it was met."""
+    """The move that loses a goal: a run from the place before it can reach the goal, and none from
+    the place after it. `way` says how to go back before that move, once it was hit."""
 
     def __init__(self, shell: Shell, goal: Goal) -> None:
         super().__init__(goal, f"{LOST.word} {goal.text}")
@@ -50,7 +50,7 @@ class Loses(Begins):
         return "lost", self.goal
 
     def views(self, target: Target) -> List[str]:
-        raise AssertionError("it is seen by no view")
+        raise AssertionError("no view shows it")
 
     def look(self, target: Target) -> bool:
         lines = lines_to(target)
@@ -68,7 +68,7 @@ class Loses(Begins):
         return loss.place
 
     def _answer(self, question: Question, lines: Sequence[str]) -> Answer:
-        """What is answered behind these lines. Raises `Wrong` where that can't be told."""
+        """Returns the answer after these lines. Raises `Wrong` if the question is undecided."""
         shell, source = self._shell, self._shell.source
         assert source is not None
         pace = [f"pace {shell.pace.text}"] if shell.pace is not None else []

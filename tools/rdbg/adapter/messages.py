@@ -1,23 +1,23 @@
-"""Requests as values, their arguments with the kinds that they must have, and the answers."""
+"""Requests with typed arguments, responses and events."""
 import dataclasses
 import json
 from typing import Any, Dict, List, Mapping, Optional, Type, TypeVar
 
 Values = Dict[str, Any]
 Kind = TypeVar("Kind")
-# A number of more digits isn't read.
+# The most digits of a number, and characters of a string.
 MOST_DIGITS = 1_000
 MOST_TEXT = 65_536
 KINDS = {str: "a string", int: "a number", bool: "true or false", dict: "an object", list: "a list"}
 
 
 class Wrong(Exception):
-    """Why a request isn't done, as a sentence for who made it. Nothing has changed."""
+    """A refused request, with the reason as a sentence for the user. Nothing has changed."""
 
 
 class Unreadable(Exception):
-    """Bytes that are no message, behind which others can still be read, or a message that is no
-    request; with its number and command where these can be read."""
+    """Bytes that are not a message, or a message that is not a request, with its number and command
+    if these can be read. Later messages can still be read."""
 
     def __init__(self, message: str, seq: int = 0, command: str = "") -> None:
         super().__init__(message)
@@ -25,11 +25,11 @@ class Unreadable(Exception):
 
 
 class Long:
-    """A number of too many digits, which stands where it stood and is none that anything takes."""
+    """Stands for a number of too many digits, which no argument accepts."""
 
 
 def kind_of(value: Any) -> str:
-    """What a value is, in a few words."""
+    """Describes the type of a value."""
     if value is None or isinstance(value, bool):
         return {None: "null", True: "true", False: "false"}[value]
     if isinstance(value, float):
@@ -40,13 +40,13 @@ def kind_of(value: Any) -> str:
 
 
 def unlike(kind: type, value: Any) -> str:
-    """What a value had to be, and is instead."""
+    """Describes the expected and the actual type of a value."""
     whole = "a whole number" if kind is int and isinstance(value, float) else KINDS[kind]
     return f"{whole}, not {kind_of(value)}"
 
 
 def clean(value: Any) -> Any:
-    """A value whose texts can be written as UTF-8."""
+    """Returns a value whose strings can be encoded as UTF-8."""
     if isinstance(value, str):
         return value.encode("utf-8", "replace").decode()
     if isinstance(value, list):
@@ -57,13 +57,13 @@ def clean(value: Any) -> Any:
 
 
 class Arguments:
-    """The arguments of a request. `null` counts as absent, where `not_null` doesn't refuse it."""
+    """The arguments of a request. `null` counts as absent unless `not_null` refuses it."""
 
     def __init__(self, values: Mapping[str, Any], of: str) -> None:
         self._values, self._of = values, of
 
     def has(self, key: str) -> bool:
-        """Whether it is there."""
+        """Whether an argument is present."""
         return self._values.get(key) is not None
 
     def _get(self, key: str, kind: Type[Kind], absent: Optional[Kind]) -> Kind:
@@ -78,49 +78,49 @@ class Arguments:
         return value
 
     def not_null(self, key: str, kind: type) -> None:
-        """Raises `Wrong` where it is there, and is `null`."""
+        """Raises `Wrong` if an argument is present and `null`."""
         if key in self._values and self._values[key] is None:
             raise Wrong(f"{self._of}: {key} must be {unlike(kind, None)}")
 
     def text(self, key: str, absent: Optional[str] = None) -> str:
-        """A text."""
+        """Returns a string argument."""
         value = self._get(key, str, absent)
         if len(value) > MOST_TEXT:
             raise Wrong(f"{self._of}: {key} has more than {MOST_TEXT} characters")
         return value
 
     def number(self, key: str, absent: Optional[int] = None) -> int:
-        """A number."""
+        """Returns a number argument."""
         return self._get(key, int, absent)
 
     def flag(self, key: str, absent: bool = False) -> bool:
-        """True or false."""
+        """Returns a boolean argument."""
         return self._get(key, bool, absent)
 
     def part(self, key: str) -> "Arguments":
-        """An object; an empty one where it is absent."""
+        """Returns an object argument; an empty one if it is absent."""
         return Arguments(self._get(key, dict, {}), f"{self._of}.{key}")
 
     def parts(self, key: str) -> List["Arguments"]:
-        """A list of objects; an empty one where it is absent."""
+        """Returns a list of objects; an empty one if it is absent."""
         values = enumerate(self.all(key, dict, "objects"))
         return [Arguments(each, f"{self._of}.{key}[{at}]") for at, each in values]
 
     def all(self, key: str, kind: type = object, kinds: str = "") -> List[Any]:
-        """A list of what is of a kind, which is called so; an empty one where it is absent."""
+        """Returns a list of elements of a type; an empty one if it is absent."""
         values = self._get(key, list, [])
         if not all(isinstance(each, kind) for each in values):
             raise Wrong(f"{self._of}: {key} must be a list of {kinds}")
         return values
 
     def texts(self, key: str) -> List[str]:
-        """A list of texts; an empty one where it is absent."""
+        """Returns a list of strings; an empty one if it is absent."""
         return self.all(key, str, "strings")
 
 
 @dataclasses.dataclass(frozen=True)
 class Request:
-    """A request: its number, what it asks for, and with what."""
+    """A request: its sequence number, command and arguments."""
 
     seq: int
     command: str
@@ -128,14 +128,14 @@ class Request:
 
 
 def whole(text: str) -> Any:
-    """A whole number, where it isn't too long to be read."""
+    """Parses a whole number, or returns `Long` if it has too many digits."""
     return int(text) if len(text) <= MOST_DIGITS else Long()
 
 
 def read(body: bytes) -> Request:
-    """The request that a message is. Raises `Unreadable` where it is none."""
+    """Parses a request. Raises `Unreadable` if the message is not one."""
     try:
-        # (NaN and its kin, which JSON doesn't have, are no whole numbers either)
+        # (NaN and infinities, which are not JSON, are refused by `int`)
         value = clean(json.loads(body.decode("utf-8"), parse_int=whole, parse_constant=int))
     except (ValueError, RecursionError):
         raise Unreadable("the message is not JSON") from None
@@ -160,19 +160,19 @@ def read(body: bytes) -> Request:
 
 
 def event(name: str, body: Values) -> Values:
-    """An event."""
+    """Returns an event."""
     return {"type": "event", "event": name, "body": body}
 
 
 def done(request: Request, body: Optional[Values]) -> Values:
-    """The answer to a request that was done."""
+    """Returns the response to a successful request."""
     found: Values = {"type": "response", "request_seq": request.seq, "success": True}
     return {**found, "command": request.command, **({} if body is None else {"body": body})}
 
 
 def failed(seq: int, command: str, why: str) -> Values:
-    """The answer to a request that wasn't done, which an editor shows."""
-    # (in a format braces would stand for variables)
+    """Returns the response to a failed request, with a message for the user."""
+    # (braces in a format are placeholders)
     error = {"id": 1, "format": why.replace("{", "(").replace("}", ")"), "showUser": True}
     found: Values = {"type": "response", "request_seq": seq, "success": False, "command": command}
     return {**found, "message": why, "body": {"error": error}}

@@ -1,5 +1,5 @@
-"""Requests that move the target, both ways, a move or to where something is met; what log points
-say where they are met, and `evaluate`, by which lines are typed."""
+"""Requests that move the target in both directions, the output of log points, and `evaluate`, which
+executes lines of the console."""
 import contextlib
 import re
 from typing import Callable, Dict, Iterator, List, Optional, Sequence
@@ -21,7 +21,7 @@ from rdbg.shell.steps import why_on_none
 
 
 def told(it: Debugger, text: str, task: str) -> str:
-    """The text of a log point that this task has come to."""
+    """Returns the text of a log point that a task has reached, with its values filled in."""
 
     def value(found: "re.Match[str]") -> str:
         try:
@@ -33,7 +33,7 @@ def told(it: Debugger, text: str, task: str) -> str:
 
 
 def tell(it: Debugger, met: Sequence[Stop]) -> bool:
-    """Says what log points say of which these stops are. Answers whether they all are such."""
+    """Prints the log points among some stops. Returns whether all stops are log points."""
     told_of: List[Stop] = []
     it.changed()
     for point in it.breakpoints.logs():
@@ -44,14 +44,14 @@ def tell(it: Debugger, met: Sequence[Stop]) -> bool:
     return bool(told_of) and all(stop in told_of for stop in met)
 
 
-# How a run goes, and at what it stops.
+# The direction of a run, and its stops.
 Run = Callable[[Runner], Outcome]
 Stops = Callable[[], List[Stop]]
 
 
 def begin_run(it: Debugger, run: Run, stops: Stops, thread: Optional[int] = None) -> None:
-    """Takes the wheel, and lets the target run once the request was answered; where nothing is met
-    it may be said in which thread it stops."""
+    """Takes the wheel, and starts the run after the response. `thread` is the thread that stops if
+    the run fails."""
     held = contextlib.ExitStack()
     with it.asking("wheel take"):
         held.enter_context(it.wheel())
@@ -73,7 +73,7 @@ def begin_run(it: Debugger, run: Run, stops: Stops, thread: Optional[int] = None
 
 
 def run_held(it: Debugger, run: Run, stops: Stops, thread: Optional[int]) -> None:
-    """Runs, while nobody else may move the target."""
+    """Runs while it holds the wheel."""
     start = it.shell.target.place
     end = start + it.shell.target.places().undone
     try:
@@ -110,7 +110,7 @@ def go_back(it: Debugger, given: Arguments) -> None:
 
 
 def step(it: Debugger, given: Arguments) -> None:
-    """`next` and `stepIn`: one instruction of a task; a tick, of the time."""
+    """`next` and `stepIn`: one instruction of a task, or a tick for the thread `time`."""
     thread = given.number("threadId")
     task = it.threads.task(thread)
     with it.asking("step 0"), it.wheel():
@@ -129,7 +129,7 @@ def step(it: Debugger, given: Arguments) -> None:
 
 
 def core_of(it: Debugger, name: str) -> int:
-    """The core that a task is on. Raises `Wrong` where it is on none."""
+    """Returns the core that a task is on. Raises `Wrong` if it is on none."""
     task = it.shell.target.ask(f"show task {name}", replies.Task)
     if task.core is None:
         why = why_on_none(it.shell, task)
@@ -141,7 +141,7 @@ def core_of(it: Debugger, name: str) -> int:
 
 
 def step_out(it: Debugger, given: Arguments) -> None:
-    """`stepOut`: the others run, too, until a task has done its instruction."""
+    """`stepOut`: runs all tasks until this one has completed its instruction."""
     thread = given.number("threadId")
     task = it.threads.task(thread)
     if task is None:
@@ -156,14 +156,16 @@ def step_out(it: Debugger, given: Arguments) -> None:
 
 
 def step_back(it: Debugger, given: Arguments) -> None:
-    """`stepBack`: takes the last move back, whosever it is."""
+    """`stepBack`: undoes the last move, whichever task made it."""
     it.threads.task(given.number("threadId", TIME))
     target = it.shell.target
     it.failure = ""
     with it.asking(record.back(1)), it.wheel():
         places = target.places()
         if not places.kept:
-            start = "the start" if not places.done else record.given_up("what was before")
+            start = (
+                "the start" if not places.done else record.given_up("the records of earlier moves")
+            )
             it.later.append(lambda: it.stopped("entry", f"at {places.done}: {start}", it.focus))
             return
         after = target.look()
@@ -179,7 +181,7 @@ def step_back(it: Debugger, given: Arguments) -> None:
 
 
 def goto_targets(it: Debugger, given: Arguments) -> Optional[Values]:
-    """`gotoTargets`: where the task of each instruction at a line was last there, or an edit."""
+    """`gotoTargets`: for each instruction at a line, its last execution, and an edit of the pc."""
     if not it.text.is_named(given.part("source")):
         return {"targets": []}
     it.gotos = []
@@ -197,7 +199,7 @@ def goto_targets(it: Debugger, given: Arguments) -> Optional[Values]:
 
 
 def goto(it: Debugger, given: Arguments) -> None:
-    """`goto`: to the target that was chosen."""
+    """`goto`: goes to the chosen target."""
     number = given.number("targetId")
     if not 0 < number <= len(it.gotos):
         raise Wrong(f"there is no target {number}: gotoTargets lists them")
@@ -214,13 +216,13 @@ def goto(it: Debugger, given: Arguments) -> None:
 
 
 def pause(it: Debugger, given: Arguments) -> None:
-    """`pause`: what runs ends soon."""
+    """`pause`: asks the run to end."""
     if it.is_running:
         it.pause.ask()
 
 
 def cancel(it: Debugger, given: Arguments) -> None:
-    """`cancel`: what it names was told to end as the request came."""
+    """`cancel`: checks its arguments; the reader has already cancelled what it names."""
     given.number("requestId", 0)
     given.text("progressId", "")
 
@@ -236,9 +238,9 @@ MOVING: Dict[str, Request] = {
 }
 # Contexts in which an expression changes nothing.
 LOOKS = ("watch", "hover", "variables", "clipboard")
-# So many lines at once are done.
+# The most lines of one request.
 MOST_LINES = 1_000
-# Words by which the editor's own breakpoints are gone to, as by its buttons.
+# Commands that run to the editor's breakpoints, like its buttons.
 BUTTONS: Dict[str, Request] = {
     **dict.fromkeys(("continue", "c", "cont"), go_on),
     **dict.fromkeys(("rc", "reverse-continue"), go_back),
@@ -264,8 +266,8 @@ def evaluate(it: Debugger, given: Arguments) -> Optional[Values]:
 
 @contextlib.contextmanager
 def new_moves(target: Target) -> Iterator[List[str]]:
-    """Yields a list that gets the lines which make new moves, as long as the block lasts. A word
-    that looks back makes none: it goes back and forth by the record of those that there are."""
+    """Yields a list of the lines within the block that make new moves. Commands that look back only
+    undo and redo recorded moves, which do not count."""
     made: List[str] = []
 
     def hear(line: str, reply: str, before: int) -> None:
@@ -280,7 +282,7 @@ def new_moves(target: Target) -> Iterator[List[str]]:
 
 
 def typed(it: Debugger, lines: List[str]) -> str:
-    """What the lines say. Where they have moved the target, the editor is told."""
+    """Executes lines, and returns their output. Sends events if they moved the target."""
     shell = it.shell
     target, place = shell.target, shell.target.place
     it.pause.forget()
@@ -302,7 +304,7 @@ def typed(it: Debugger, lines: List[str]) -> str:
 
 
 def moved(it: Debugger) -> None:
-    """Tells the editor that the target stands elsewhere."""
+    """Sends the events that the target is at another place."""
     try:
         with it.wheel():
             thread = it.mover()

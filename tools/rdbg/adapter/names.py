@@ -1,4 +1,4 @@
-"""What an expression names: a register, a part of a task, an object, a condition."""
+"""Expressions: registers, parts of tasks, objects, goals and computed values."""
 import re
 from typing import Callable, Iterator, List, Optional
 

@@ -1,4 +1,4 @@
-"""What `launch` and `attach` begin: a program of one's own, or one more session at a port."""
+"""`launch` starts a program; `attach` opens another session at a port."""
 import argparse
 import os
 import signal

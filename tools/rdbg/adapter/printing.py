@@ -1,4 +1,4 @@
-"""What the words of sh print, gathered by their thread: the streams are the protocol's."""
+"""Captures the output of `sh` commands per thread, because standard output carries the protocol."""
 import contextlib
 import io
 import sys

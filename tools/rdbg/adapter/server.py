@@ -1,4 +1,4 @@
-"""A session with an editor: its requests in order, those that can't wait while something runs."""
+"""A session with an editor: serves its requests in order, and some of them during a run."""
 import contextlib
 import hmac
 import queue
@@ -19,31 +19,30 @@ from rdbg.failure import Failure
 from rdbg.replies import Refused
 
 REQUESTS: Dict[str, Request] = {**SETUP, **LOOKING, **SETTING, **MOVING, **OTHERS}
-# What is done where the target stands.
+# Requests that need a stopped target.
 STANDING = (*MOVING, *LOOKING)
-# What is answered while the target runs; all else waits for its stop.
+# Requests that are served while the target runs; all others wait until it stops.
 MEANWHILE = (
     *"threads stackTrace scopes variables pause cancel source loadedSources".split(),
     "breakpointLocations",
     *(name for name in SETTING if name.startswith("set")),
 )
-# What ends what runs; and what ends what it names, be it a run, or a request that is at work or
-# waits.
+# Requests that end the current run, and the one that cancels a run or a request.
 ENDING, CANCEL = ("pause", "terminate", "disconnect"), "cancel"
 CANCELLED = "cancelled"
-# What says a token, where one is asked for, and what is answered before.
+# The requests that may pass a token, and the one that is served before it.
 TELLING, BEFORE = ("launch", "attach"), "initialize"
 NO_TOKEN = "`launch` or `attach` must pass the `token` that `rdbg dap` named when it started"
-# No request: something has come from a room.
+# Stands for a notice of a room in the queue of requests.
 HEARD = Asked(0, "", Arguments({}, ""))
-# So many requests may wait.
+# The most requests that may wait.
 MOST_WAITING = 1_000
-# Why an editor that comes isn't served, if so.
+# Returns why a new editor is refused, or an empty text.
 Comes = Callable[[], str]
 
 
 def said_of(error: Exception) -> str:
-    """What is said of an error; of a fault of this program that it is one."""
+    """Returns the message of an error; an unexpected exception is called an internal error."""
     if isinstance(error, (Failure, Interrupted, Refused, Unable, Wrong)):
         return str(error)
     return f"internal error in rdbg dap: {type(error).__name__}: {error}"

@@ -1,4 +1,4 @@
-"""Requests that begin and end: `initialize`, `launch`, `attach`, `restart`, `disconnect`."""
+"""Requests that begin and end a session, from `initialize` to `disconnect`."""
 from typing import Dict, Optional
 
 from rdbg.adapter import opening

@@ -1,4 +1,4 @@
-"""The text with the tasks' scripts, as the editor sees it: which line has which instruction."""
+"""The source with the tasks' scripts, as the editor sees it: which line has which instruction."""
 import dataclasses
 import os
 from typing import Any, Dict, Iterator, List, Optional, Sequence

@@ -1,7 +1,7 @@
-"""At what a run stops: each is met by a move, and found by runs and ways back of rdbg's own.
+"""Stops of a run. A move hits a stop; rdbg's own `until` and `back until` find the move.
 
-`next` and `last` say the place of the very move. They may leave the target anywhere that a run from
-where they began came through, or behind it."""
+`next` and `last` return the place of that move. They may leave the target at any place that a run
+from the starting place passed, or after it."""
 import dataclasses
 from typing import Any, Hashable, List, Optional, Sequence, Tuple
 

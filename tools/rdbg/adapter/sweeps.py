@@ -1,4 +1,4 @@
-"""All places of a stretch at which a condition becomes so, found by many lines at a time."""
+"""Finds all places of a range at which a condition turns true, with many lines per request."""
 from typing import Callable, List, Optional
 
 from rdbg import replies

@@ -1,4 +1,4 @@
-"""Tasks as threads, and one thread more, whose steps are ticks."""
+"""Tasks as threads, and the thread `time`, whose steps are ticks."""
 from typing import List, Optional, Sequence
 
 from rdbg import replies

@@ -1,4 +1,4 @@
-"""What there is, as variables: registers and parts of a task, objects, the time and the cores."""
+"""The state as variables: registers and parts of tasks, objects, the time and the cores."""
 import dataclasses
 import re
 from typing import Callable, Dict, Iterable, List, Mapping, Optional, Sequence, Tuple

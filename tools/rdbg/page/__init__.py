@@ -1,1 +1,1 @@
-"""What pages of runs have in common: a run as values, and the files that show it."""
+"""The common part of pages that show a run: the run as JSON values, and the files that show it."""

@@ -1,7 +1,7 @@
-// How lanes are arranged: which are pinned above the others, which are folded away or left out, and
-// in which order they stand.
+// The arrangement of lanes: which are pinned above the others, folded or filtered out, and in which
+// order they stand.
 
-// Orders of a group's lanes, by name, each by what is compared.
+// The orders of a group's lanes by name, each with its comparison.
 const ORDERS = {
   "as in the file": () => 0,
   "by name": (one, other) => (one.label < other.label ? -1 : Number(one.label > other.label)),
@@ -19,19 +19,19 @@ class Arrangement {
     this.moved = new Map();
   }
 
-  // Pins a lane, or lets it go.
+  // Pins or unpins a lane.
   pin(key) {
     const at = this.pinned.indexOf(key);
     if (at < 0) this.pinned.push(key);
     else this.pinned.splice(at, 1);
   }
 
-  // Folds a group away, or shows it again.
+  // Folds or unfolds a group.
   fold(group) {
     if (!this.folded.delete(group)) this.folded.add(group);
   }
 
-  // Leaves out all lanes but those whose names have one of these words.
+  // Shows only the lanes whose names contain one of these words.
   filter(text) {
     this.words = text.toLowerCase().split(/[\s,]+/).filter(Boolean);
   }
@@ -64,8 +64,7 @@ class Arrangement {
     return keys.flatMap((key) => own.filter((it) => it.key === key));
   }
 
-  // The lanes that are pinned, and behind them all others that are to be seen. Of a group that is
-  // folded its head is there.
+  // Returns the pinned lanes, and the other visible ones. A folded group shows only its head.
   arranged(lanes) {
     const pinned = this.pinned.flatMap((key) => lanes.filter((it) => it.key === key));
     const groups = [...new Set(lanes.map(({ group }) => group))];

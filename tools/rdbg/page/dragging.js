@@ -1,7 +1,7 @@
-// What a pointer does over lanes: a click goes to a place, a drag moves the lanes along, over the
-// ruler or with Shift it marks a range; a wheel over the ruler or with Ctrl zooms.
+// The pointer over the lanes: a click goes to a place, and a drag scrolls. Over the ruler, or with
+// Shift, a drag marks a range. The wheel zooms over the ruler, or with Ctrl.
 
-// So far a pointer goes before it drags.
+// The least distance of a drag, in pixels.
 const LEAST_DRAG = 4;
 const WHEEL_ZOOM = 1.0015;
 
@@ -9,7 +9,7 @@ class Dragging {
   constructor(viewer, canvas, lanes, over = viewer.timeline) {
     this.viewer = viewer;
     this.timeline = viewer.timeline;
-    // The lanes that are clicked at: these, or those beside them.
+    // The lanes that clicks are for: these, or those of the other run.
     this.over = over;
     this.canvas = canvas;
     this.from = null;

@@ -1,9 +1,8 @@
-// What is folded away where a window is small, and what is fetched out of it; texts as files.
+// Parts of a page that are folded in a small window; downloads of texts as files.
 
 const SMALL = "(max-width: 1200px), (max-height: 700px)";
 
-// Folds parts away in a small window, and opens them in one that isn't; anew where it gets another
-// size.
+// Folds parts of the page in a small window, and unfolds them in a larger one, also on a resize.
 function foldAway() {
   const small = matchMedia(SMALL);
   const fold = () => {
@@ -13,7 +12,7 @@ function foldAway() {
   fold();
 }
 
-// A field that somebody is to type in, out of where it may be folded away.
+// Returns an input field, after unfolding the part of the page that contains it.
 function unfolded(id) {
   const field = byId(id);
   const fold = field.closest("details");

@@ -1,4 +1,4 @@
-// What arranges lanes: a choice of one, and what is done with it.
+// The controls that arrange lanes: choose one, pin, move or fold it.
 
 class LanePanel {
   constructor(timeline, again) {

@@ -1,4 +1,4 @@
-// The panels beside and below the lanes: the state, the moves around, a script.
+// The panels beside and below the lanes: the state, the moves around the place, and a script.
 
 class StatePanel {
   constructor(run) {

@@ -1,4 +1,4 @@
-// A run as the page has it: what stays, a track for each thing that changes, and the moves.
+// A run on the page: its constant parts, a track for each value that changes, and the moves.
 
 const STEP = 0;
 const TICK = 1;

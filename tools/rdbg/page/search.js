@@ -1,4 +1,4 @@
-// Search through the rows of all moves.
+// Searches the rows of all moves.
 
 class Search {
   constructor(run) {

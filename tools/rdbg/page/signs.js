@@ -1,5 +1,5 @@
-// How tasks are told apart where their names have no room: each has a letter of its own, and bands of
-// its own, which the narrowest stroke has, too.
+// Signs that distinguish tasks where their names do not fit: each has its own letter, and its own
+// bands, which even the narrowest stroke shows.
 
 const LETTERS = "ABCDEFGHIJKLMNOPQRSTUVWXYZ234567";
 const BANDS = 5;

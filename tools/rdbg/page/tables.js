@@ -1,4 +1,4 @@
-// Tables of which a cell is written only where it becomes another.
+// Tables that write a cell only if its text changes.
 
 const byId = (id) => document.getElementById(id);
 

@@ -1,5 +1,5 @@
-// The lanes over the moves: which part of them is seen, and how it is drawn. Only what is seen is
-// drawn, and of what is narrower than a point, one.
+// The lanes over time: which part of them is visible, and how it is drawn. Only visible elements are
+// drawn, and only one of those that share a pixel.
 
 const GUTTER = 128;
 const RULER = 36;

@@ -1,4 +1,4 @@
-// What there is in words, as rdbg's other companions have it.
+// The state in words, as in rdbg's other tools.
 
 const NOBODY = "-";
 const PLAIN_NO_LIMIT = "with no limit of time";

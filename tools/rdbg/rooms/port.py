@@ -155,7 +155,7 @@ class Port(Entrance):
         """Announces a silent connection as a guest, or ends it if it is none."""
         if guest.member is None:
             lacks_token = self.door.token and not guest.has_spoken
-            raise Refusal(f"it sent no {'token' if lacks_token else 'name'} in time")
+            raise Refusal(f"no {'token' if lacks_token else 'name'} was sent in time")
         guest.member.announce()
 
     def _goes_on_behind(self, guest: Client, line: bytes) -> bool:

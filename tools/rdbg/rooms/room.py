@@ -483,7 +483,7 @@ class Room:
         text = f"{member.name} asks for the wheel"
         if not seat.is_here and member.session in self._asked:
             self._program.ask(seat, "wheel give")
-            text = f"{member.name} gave back the wheel for {seat.name}, who is away: it is free"
+            text = f"{member.name} freed the wheel: {seat.name} is away"
         elif not seat.is_here:
             self._asked.add(member.session)
             member.hear(f"# {seat.name} is away: send `# wheel` again to free the wheel")
@@ -511,8 +511,8 @@ class Room:
             why = f"its last line came {waited} ago, and the limit is {limit}"
             raise Refusal(f"{seat.name} has the wheel and is not idle: {why}")
         self._program.ask(seat, "wheel give")
-        why = f"idle for {counted(silence, 'second')}" if member else "away"
-        return f"the room's owner gave back the wheel for {seat.name}, who is {why}: it is free"
+        why = f"has been idle for {counted(silence, 'second')}" if member else "is away"
+        return f"the room's owner freed the wheel: {seat.name} {why}"
 
     def _program_has_ended(self, host: Host) -> None:
         """Tells everybody that a program has ended by itself, unless it has been replaced."""

@@ -1,4 +1,4 @@
-// What is done at the target: buttons and fields, each of which makes a line of rdbg's.
+// The controls that move or edit the target. Each of them makes a line for rdbg.
 
 // The kinds of edits and interrupts: what stands in the line, and of what sort each word is.
 const EDITS = {
@@ -18,7 +18,7 @@ const INTERRUPTS = {
 const FEW_CORES = 4;
 const ACTIONS = ["none", "bits", "inc", "set", "setif"];
 
-// What can be chosen for a word of a line; none where it is typed.
+// Returns the choices for a word of a line, or null if it is typed.
 function choicesOf(room, sort) {
   if (sort === "task") return room.tasks;
   if (sort === "action") return ACTIONS;
@@ -64,7 +64,7 @@ class LineForm {
   }
 }
 
-// The line that is typed, with those that were typed before.
+// The field for a typed line, with a history.
 class TypedLine {
   constructor(form, tell) {
     this.input = form.querySelector("input");
@@ -89,7 +89,7 @@ class TypedLine {
   }
 }
 
-// A button for each core: who is there, and what it does next.
+// A button for each core with its task and the next instruction.
 class StepButtons {
   constructor(element, count, tell) {
     element.classList.toggle("many", count > FEW_CORES);

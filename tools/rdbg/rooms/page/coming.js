@@ -1,4 +1,4 @@
-// Who comes to a room, by which name, and the line between the page and the room.
+// Joining a room under a name, and the connection between the page and the room.
 
 const AGAIN_AFTER = 1000;
 const MOST_PATIENCE = 30000;
@@ -27,7 +27,7 @@ function keepName(name) {
   }
 }
 
-// Asks who comes.
+// The dialog that asks for a name.
 class Coming {
   constructor(dialog, come) {
     this.dialog = dialog;
@@ -42,7 +42,7 @@ class Coming {
     dialog.addEventListener("close", () => this.isAsking && dialog.showModal());
   }
 
-  // Asks, and says why the last name isn't let in, if one was said.
+  // Asks for a name, and shows why the last one was refused, if it was.
   ask(why) {
     this.dialog.querySelector(".why").textContent = why;
     this.isAsking = true;
@@ -57,7 +57,7 @@ class Coming {
   }
 }
 
-// The room as it is served: what comes, and what is said there.
+// The connection: events of the room, and lines to it.
 class Line {
   constructor(way, hear) {
     this.way = way;

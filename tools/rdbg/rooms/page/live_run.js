@@ -1,4 +1,4 @@
-// How much of what was taken back the paper covers.
+// The opacity of the veil over undone moves.
 const PALE = 0.6;
 
 // A run that grows: it begins as the moves around the target, and each move comes behind them; what

@@ -1,4 +1,4 @@
-// What was said: lines and replies, what others did, who is here, and who has the wheel.
+// The talk: lines and replies, notices, who is here, and who has the wheel.
 
 const MOST_SAID = 500;
 const MOST_KEPT = 10000;
@@ -64,7 +64,7 @@ function wheelWords(me, holder) {
   return `${holder.name} has the wheel${away}: your moves are refused.`;
 }
 
-// For how many minutes somebody has said nothing.
+// Describes how long a member has been idle.
 function idleWords(minutes) {
   return minutes ? `idle for ${minutes} min` : "idle";
 }
@@ -74,7 +74,7 @@ function breakWords({ task, number }) {
   return `pc ${task} = ${number}`;
 }
 
-// Who is here and away, and who has the wheel.
+// The list of members, here and away, and the state of the wheel.
 class People {
   constructor(element, wheel, whom) {
     this.element = element;
@@ -93,7 +93,7 @@ class People {
     this.offer(["", ...people.filter((it) => it.isHere && it.name !== me).map((it) => it.name)]);
   }
 
-  // Offers to whom something can be said.
+  // Fills the list of recipients.
   offer(names) {
     const chosen = this.whom.value;
     const options = names.map((name) => made("option", name || "all"));

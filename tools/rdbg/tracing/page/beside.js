@@ -1,4 +1,5 @@
-// Another run of the same application, beside this one: where they first differ, and its lanes below.
+// Another run of the same model: the first place where the two runs differ, and the lanes of the
+// other one.
 
 // The first place at which two runs differ: the move to it isn't the same, one of them has none, or
 // what there is at the first place; none where they are the same.

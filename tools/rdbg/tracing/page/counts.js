@@ -1,5 +1,5 @@
-// What there is to count in a run between two places: how long something was so, how full objects
-// were, and how many waited. What lasts from one place to another takes the moves behind the first.
+// Statistics of a run between two places: how long tasks and cores did what, how full objects were,
+// and how many tasks waited. A stretch from one place to another has the moves after the first one.
 
 // How long it is from one place to another.
 function lengthOf(run, from, to) {

@@ -1,4 +1,4 @@
-"""The page of a run: a file of HTML with style, scripts and values, which needs nothing else."""
+"""The page of a run: one HTML file that contains its style, scripts and values."""
 import pathlib
 from typing import Mapping, Optional
 
@@ -23,8 +23,8 @@ def page(
     at: Optional[int] = None,
     other: Optional[Mapping[str, object]] = None,
 ) -> str:
-    """The whole page of a run's values, of what leads to its places, and of what is said beside it;
-    it opens at a place, or at the first. Another run stands below it where one is given."""
+    """Returns the page of a run, with the commands that lead to its places and its report. It opens
+    at a place, or at the first one. Another run is shown below if one is given."""
     title = f"{printable(str(way['file'] or 'rdbg'))}: places {run['first']} to {run['last']}"
     values = {"title": title, "way": way, "run": run, "report": report.values(at), "other": other}
     parts = {"run": json_of(values), "note": as_html(report.note)}

@@ -1,5 +1,4 @@
-// What led to a wait: the last moves that touched its object, and who could still end it, as far as
-// the page knows.
+// Explains a wait: the last moves that touched its object, and the tasks that could still end it.
 
 // What ends a wait, by the word of its phase: the track of its object on which those stand who wait
 // so, and words of instructions. (Who waits for a mutex waits to send: `give` ends that, too.)

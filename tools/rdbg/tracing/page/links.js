@@ -1,5 +1,5 @@
-// What the address of a page names: a place, bookmarks with a word each, a range, pinned lanes. So it
-// is handed on by a link.
+// The address of a page names a place, bookmarks with labels, a range and pinned lanes, so that a
+// link can pass them on.
 
 const MOST_WORD = 40;
 const MOST_BOOKMARKS = 50;

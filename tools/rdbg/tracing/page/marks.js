@@ -1,4 +1,4 @@
-// What somebody marks in a run: bookmarks, each with a word, and a range of places.
+// The marks of a user in a run: bookmarks with labels, and a range of places.
 
 class BookmarkPanel {
   constructor(go, change) {

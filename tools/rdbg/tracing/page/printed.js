@@ -1,5 +1,5 @@
-// The page as it is printed: what it says, its tables and texts, and the state at the places that are
-// marked, in place of the lanes.
+// The printed page: its report, tables and texts, and the state at each marked place in place of the
+// lanes.
 
 const PRINTED = [
   ["Cores", ["core", "task", "pc", "next instruction"], coreRows],

@@ -1,4 +1,4 @@
-// What the page says beside its run: the question that it answers, and what it was made of.
+// The report of the page: the question that it answers, and how it was made.
 
 // Shows a text below its summary, once somebody looks; nothing where there is none.
 function offerText(details, what, it) {

@@ -1,4 +1,4 @@
-"""What a page says beside its run: who made it of what, and where it opens."""
+"""The report of a page: its title and note, the question, how it was made, and where it opens."""
 import dataclasses
 import pathlib
 import time
@@ -17,7 +17,7 @@ DAY = "%Y-%m-%d"
 
 @dataclasses.dataclass(frozen=True)
 class Text:
-    """A text that a page has, with the name of its file."""
+    """A text on a page, with the name of its file."""
 
     name: str
     text: str
@@ -56,7 +56,7 @@ class Report:
         }
 
     def seen_in(self, part: Part) -> Optional[int]:
-        """The first place of a part where the goal holds at which the page opens, if any."""
+        """Returns the first place of a part where the goal of `at` holds, if any."""
         if not isinstance(self.at, Goal):
             return None
         return next((it.place for it in (part.before, *part.looks) if self.at.is_so(it)), None)
@@ -80,5 +80,5 @@ class Report:
 
 
 def named(it: Text, otherwise: str = "") -> Dict[str, str]:
-    """A text as values, with the name that a file of it can have."""
+    """Returns a text as JSON values, with a file name for its download."""
     return {"name": pathlib.PurePath(it.name).name or otherwise, "text": it.text}

@@ -1,5 +1,5 @@
-// The page of a run: it has all of it, says what to type to come to a place, and its address names
-// what is marked.
+// The page of a run: contains the whole run, shows the commands that lead to a place, and keeps the
+// marks in its address.
 
 const QUIET = 150;
 

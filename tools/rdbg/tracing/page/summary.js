@@ -1,4 +1,4 @@
-// Tables over a part of the run: how long tasks waited, how full objects were, how busy cores.
+// Tables for a part of the run: waiting times of tasks, fill levels of objects, load of cores.
 
 function lengthWords({ ticks, moves }) {
   return `${counted(ticks, "tick")}, ${counted(moves, "move")}`;

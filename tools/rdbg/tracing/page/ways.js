@@ -1,4 +1,4 @@
-// What to type to come to a place.
+// The commands that lead to a place.
 
 const LINES_SHOWN = 200;
 
@@ -56,7 +56,7 @@ function shownLines(lines) {
   return [`(${left} earlier lines not shown; Copy copies all)`, ...lines.slice(left)].join("\n");
 }
 
-// What to type to come here.
+// Shows the commands that lead to the current place.
 class WayPanel {
   constructor(run, way) {
     this.run = run;

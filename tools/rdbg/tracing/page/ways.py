@@ -1,4 +1,4 @@
-"""What to type to come to a place of a run: its lines, up to where the place is made to stay."""
+"""The commands that lead to a place of a run."""
 import itertools
 import pathlib
 import shlex
