@@ -80,7 +80,7 @@ class Lines(OnPage):
         )
         with web_room(str(path)) as room:
             self.visit(room)
-            self.assertEqual("app.fw: a room", self.value("document.title"))
+            self.assertEqual("app.fw (room)", self.value("document.title"))
             self.assertEqual(
                 ["step 0: one 0 send(q, portMAX_DELAY)"], self.browser.texts("#steps button")
             )

@@ -64,9 +64,8 @@ class Opening(unittest.TestCase):
         said = errors.getvalue().splitlines()
         self.assertEqual(5, len(said))
         for line in said:
-            # (who has closed it is nobody any more)
-            came = r"somebody else connected to port \d+ first, from port \d+ of a user who is not known"
-            came += " any more"
+            # (the other connection is closed, so its user is unknown)
+            came = r"somebody else connected to port \d+ first, from port \d+ of an unknown user"
             self.assertRegex(line, rf"^rdbg room: {came}: .* \(trying again\)$")
 
     @strangers.IS_ROOT

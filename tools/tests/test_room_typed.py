@@ -68,7 +68,7 @@ class Typed(unittest.TestCase):
                     "save moves.commands",
                     "no: a page writes no files; `save` alone downloads the moves",
                 ),
-                ("source /etc/passwd", "no: a page reads and writes no files"),
+                ("source /etc/passwd", "no: a page cannot read or write files"),
                 ("quit", "no: close the page to leave the room"),
             ):
                 with self.subTest(line):

@@ -42,4 +42,4 @@ def of_room(source: Source) -> Dict[str, object]:
 
 def page() -> str:
     """The page of every room."""
-    return document("a room", body_of(HERE / "room.html", {}), SCRIPTS, STYLES, SPEAKS)
+    return document("rdbg room", body_of(HERE / "room.html", {}), SCRIPTS, STYLES, SPEAKS)

@@ -223,7 +223,7 @@ class RoomPage extends Viewer {
 class RoomOnPage {
   constructor(way, values) {
     Object.assign(this, values);
-    document.title = `${this.file}: a room`;
+    document.title = `${this.file} (room)`;
     byId("title").textContent = document.title;
     this.talk = new Talk(byId("talk"), byId("unread"));
     this.people = new People(byId("people"), byId("wheel"), byId("whom"));
