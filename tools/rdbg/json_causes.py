@@ -1,4 +1,4 @@
-"""The usual causes of a text that is no JSON: what stands there, and what would be right."""
+"""Messages for the usual mistakes in JSON, with what would be right."""
 import contextlib
 import re
 from typing import Optional, Tuple
@@ -7,7 +7,7 @@ from rdbg import wording
 from rdbg.digits import is_digits
 
 CLOSES = {"[": "]", "{": "}"}
-COMMA = "a comma too many: none stands before a closing bracket or another comma"
+COMMA = "extra comma"
 WORD = re.compile(r"[A-Za-z_][A-Za-z0-9_]*")
 NUMBER_LIKE = re.compile(r"[+-]?[0-9A-Za-z_.]+(?:(?<=[eE])[+-][0-9]*)?")
 QUOTES = "\u2018\u2019\u201a\u201b\u201c\u201d\u201e\u201f\u00ab\u00bb\u0060\u00b4"
@@ -26,15 +26,15 @@ def nowhere(text: str, at: int) -> Optional[str]:
     """What stands nowhere in JSON outside of texts."""
     sign = text[at]
     if text.startswith(("//", "/*"), at) or sign == "#":
-        return "a comment: JSON has none (a text in lines, .fw, has)"
+        return "JSON has no comments (.fw files do)"
     if sign == "\ufeff":
-        return "a byte order mark stands here: save the file as UTF-8 without one"
+        return "unexpected byte order mark (save the file as UTF-8 without one)"
     if sign == "'":
-        return "a text stands between double quotes, and not single ones"
+        return "strings need double quotes, not single quotes"
     if sign in QUOTES:
-        return f'{sign} is no quote of JSON: a text stands between two "'
+        return f'{sign} is not a JSON quote (use ")'
     if sign.isspace() or not sign.isprintable():
-        return f"{shown(sign)} is no white space of JSON: spaces, tabs and line ends alone are"
+        return f"{shown(sign)} is not white space in JSON (use spaces, tabs or line breaks)"
     return None
 
 
@@ -42,16 +42,16 @@ def no_value(text: str, at: int) -> str:
     """Why no value begins here."""
     sign = text[at]
     if sign in ",]}":
-        return f"a value is missing before {sign}"
+        return f"missing value before {sign}"
     if sign in "+-.":
         return number(text, at)
     found = WORD.match(text, at)
     if found:
         word = wording.shown(found.group())
         meant = VALUES.get(word.lower())
-        hint = f": {meant}?" if meant else f'; a text stands between quotes: "{word}"'
-        return f"{word} is no value of JSON{hint}"
-    return f"{shown(sign)} begins no value"
+        hint = f"did you mean {meant}?" if meant else f'write "{word}" for a string'
+        return f"'{word}' is not a JSON value ({hint})"
+    return f"expected a value, found {shown(sign)}"
 
 
 def number(text: str, at: int) -> str:
@@ -59,20 +59,20 @@ def number(text: str, at: int) -> str:
     found = NUMBER_LIKE.match(text, at)
     word = wording.shown(found.group() if found else text[at])
     if re.fullmatch(r"[+-]", word):
-        return f"{word} is no number"
+        return f"'{word}' is not a number"
     if word.startswith("+"):
-        return f"{word}: a number has no plus sign"
+        return f"'{word}': JSON numbers have no plus sign"
     if re.match(r"-?0[xXbBoO]", word):
         with contextlib.suppress(ValueError):
-            return f"{word}: a number is decimal, {int(word, 0)}"
-        return f"{word}: a number is decimal"
+            return f"'{word}': JSON numbers are decimal (write {int(word, 0)})"
+        return f"'{word}': JSON numbers are decimal"
     if re.match(r"-?0[0-9]", word):
         plain = word.lstrip("-0") or "0"
-        hint = f": {plain}" if is_digits(plain) and word[0] != "-" else ""
-        return f"{word}: a number has no zero in front{hint}"
+        hint = f" (write {plain})" if is_digits(plain) and word[0] != "-" else ""
+        return f"'{word}': JSON numbers have no leading zeros{hint}"
     if re.match(r"-?\.", word) or re.fullmatch(r"-?[0-9]+\.", word):
-        return f"{word}: digits stand before a point and behind it"
-    return f"{word} is no number of JSON: it has digits alone"
+        return f"'{word}': a decimal point needs digits on both sides"
+    return f"'{word}' is not a JSON number (use digits only)"
 
 
 def begins_value(text: str, at: int) -> bool:
@@ -84,16 +84,16 @@ def no_comma(text: str, behind: int, at: int, bracket: str) -> Tuple[int, str]:
     """What is wrong behind a value, which ended at `behind`, and where, but for a comma."""
     sign = text[at]
     if sign == ":" and bracket == "]":
-        return at, "a key stands in an object, { .. }, and this is a list"
+        return at, "unexpected colon in a list (keys belong in an object, { .. })"
     if sign == ":":
-        return at, "a colon stands behind a key, and this is a value"
+        return at, "unexpected colon after a value"
     if sign == ";":
-        return at, "a comma stands here, and no semicolon"
+        return at, "expected a comma, found a semicolon"
     if text[behind - 1] == '"' and behind == at and WORD.match(text, at):
-        return behind, "a quote too many, or a comma is missing here"
+        return behind, "extra quote or missing comma"
     if begins_value(text, at):
-        return behind, "a comma is missing here"
-    return at, f"{shown(sign)} stands where a comma or {bracket} is to be"
+        return behind, "missing comma"
+    return at, f"expected a comma or {bracket}, found {shown(sign)}"
 
 
 def no_key(text: str, at: int) -> str:
@@ -103,38 +103,38 @@ def no_key(text: str, at: int) -> str:
         return COMMA
     word = WORD.match(text, at)
     if word:
-        return f"a key stands between double quotes: {wording.quoted(word.group())}"
+        return f"keys need double quotes (write {wording.quoted(word.group())})"
     if begins_value(text, at):
-        return "a key stands here, between double quotes, and then a colon and its value"
-    return f"{shown(sign)} stands where a key is to be"
+        return "expected a key in double quotes, a colon and a value"
+    return f"expected a key, found {shown(sign)}"
 
 
 def no_colon(text: str, at: int) -> str:
     """Why there is no colon behind a key."""
     if text[at] in ",}":
-        return "a key has a value: a colon and the value are missing"
+        return "missing colon and value after the key"
     if text[at] in "=;":
-        return f"a colon stands behind a key, and no {text[at]}"
+        return f"expected a colon after the key, found {text[at]}"
     if text[at - 1] == '"' and WORD.match(text, at):
-        return "a colon is missing here, or the key before isn't closed where it ends"
-    return "a colon is missing here, behind the key"
+        return "missing colon, or the key before it ends at the wrong quote"
+    return "missing colon after the key"
 
 
 def behind_end(text: str, at: int) -> str:
     """What stands behind the end of the one value."""
     if text[at] in "]}":
-        return f"{text[at]} is one too many: nothing is open here"
-    return nowhere(text, at) or "more text stands behind the end of the application"
+        return f"unmatched {text[at]}"
+    return nowhere(text, at) or "unexpected text after the end of the application"
 
 
 def in_text(text: str, start: int, at: int) -> Tuple[int, str]:
     """What is wrong with a text that ends at no quote, or with a character in it; and where."""
     if at >= len(text) or text[at] in "\r\n":
-        return start, "the text that begins here isn't closed by \" on its line"
+        return start, 'the string that begins here has no closing " on its line'
     if text[at] == "\\":
         return at, escape(text, at)
     sign = "a tab" if text[at] == "\t" else shown(text[at])
-    return at, f"{sign} stands within a text; it has no control characters"
+    return at, f"a string cannot contain {sign} (escape control characters)"
 
 
 def escape(text: str, at: int) -> str:
@@ -142,9 +142,9 @@ def escape(text: str, at: int) -> str:
     sign = text[at + 1 : at + 2]
     half = re.compile(r"\\u[0-9A-Fa-f]{4}").match(text, at)
     if half:
-        return f"{half.group()} is half of a pair, and has no other half"
+        return f"{half.group()} is half of a surrogate pair, and the other half is missing"
     if sign == "u":
-        return "\\u is followed by four hexadecimal digits"
+        return "\\u must be followed by four hexadecimal digits"
     if not sign or sign in "\r\n":
-        return "a \\ stands at the end of a line, within a text"
-    return f"\\{shown(sign)} is no escape of JSON; a \\ is written \\\\"
+        return "the string ends with a \\ at the end of its line"
+    return f"\\{shown(sign)} is not a JSON escape (write \\\\ for a backslash)"

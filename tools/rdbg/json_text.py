@@ -61,7 +61,7 @@ class Reader:
         """The one value of the text."""
         at = self.after_space(0)
         if at == len(self.text):
-            raise NotJson(0, "the file is empty; an application is one JSON object, { .. }")
+            raise NotJson(0, "the file is empty (an application is one JSON object, { .. })")
         node, end = self.value(at)
         at = self.after_space(end)
         if at != len(self.text):
@@ -76,7 +76,7 @@ class Reader:
             return self.string(at)
         if sign == "{" or sign == "[":
             if len(self.open) == MOST_DEPTH:
-                raise NotJson(at, f"more than {MOST_DEPTH} brackets stand within each other")
+                raise NotJson(at, f"brackets are nested more than {MOST_DEPTH} deep")
             self.open.append(at)
             if sign == "{":
                 members, end = self.parts(at, "}", self.member)
@@ -145,19 +145,19 @@ class Reader:
     def cause(self, at: int) -> Optional[str]:
         """What can be wrong at any place: an end, a bracket of the other kind, what is no JSON."""
         if at == len(self.text):
-            return self.still_open("the file ends here, and ")
+            return self.still_open("unexpected end of file: ")
         sign = self.text[at]
         if sign in "]}" and self.open and causes.CLOSES[self.text[self.open[-1]]] != sign:
-            return self.still_open(f"{sign} stands here, and ")
+            return self.still_open(f"unexpected {sign}: ")
         return causes.nowhere(self.text, at)
 
     def still_open(self, before: str) -> str:
         """Which bracket isn't closed."""
         if not self.open:
-            return f"{before}a value is missing"
+            return f"{before}missing value"
         bracket = self.text[self.open[-1]]
         closing = causes.CLOSES[bracket]
-        return f"{before}the {bracket} of {self.place(self.open[-1])} isn't closed by {closing}"
+        return f"{before}the {bracket} at {self.place(self.open[-1])} needs a closing {closing}"
 
     def string(self, at: int) -> Tuple[Node, int]:
         """A text, with the places of its words."""

@@ -4,14 +4,14 @@ from typing import Dict, Mapping, NamedTuple, Optional, Sequence, Tuple
 
 from rdbg import kinds
 from rdbg.digits import is_digits
-from rdbg.wording import nearest, quoted, with_article
+from rdbg.wording import did_you_mean, nearest, shown, with_article
 
 MOST_NUMBER = 4_294_967_295
 NAME = r"[a-z][a-z0-9_]{0,15}"
 DIGITS = r"[0-9]{1,10}"
 REGISTER = r"r[0-7]"
 BYTES = r"-|([0-9A-Fa-f]{2}){1,256}"
-# So many names are told where there are more.
+# A message lists at most this many names.
 MOST_NAMED = 3
 
 
@@ -32,12 +32,12 @@ class OperandKind(NamedTuple):
 KINDS: Tuple[OperandKind, ...] = (
     OperandKind("R", "register", "r0 to r7", REGISTER),
     OperandKind("N", "number", f"0 to {MOST_NUMBER}", DIGITS),
-    OperandKind("V", "value", "a number, or r0 to r7", f"{REGISTER}|{DIGITS}"),
+    OperandKind("V", "value", "a number or r0 to r7", f"{REGISTER}|{DIGITS}"),
     OperandKind("T", "block time", "max, a number, or r0 to r7", f"max|{REGISTER}|{DIGITS}"),
-    OperandKind("L", "target", "the number of an instruction", DIGITS),
+    OperandKind("L", "target", "an instruction number", DIGITS),
     OperandKind("I", "index of a notification entry", "a number below notes", DIGITS),
-    OperandKind("ROOM", "room", "1 to 256, the bytes that are read at the most", DIGITS),
-    OperandKind("HEX", "bytes", "1 to 256, as pairs of hexadecimal digits, or -", BYTES),
+    OperandKind("ROOM", "room", "1 to 256, the most bytes to read", DIGITS),
+    OperandKind("HEX", "bytes", "1 to 256 pairs of hexadecimal digits, or -", BYTES),
     OperandKind("ACTION", "action", "none, bits, inc, set or setif", "none|bits|inc|set|setif"),
     OperandKind("WISH", "wish", "any or all", "any|all"),
     OperandKind("CLR", "word for clearing", "keep or clear", "keep|clear"),
@@ -72,11 +72,11 @@ class Scope(NamedTuple):
         return (0, self.entries - 1) if symbol == "I" else None
 
     def choices(self, symbol: str) -> str:
-        """What can stand there, in words: `0 to 4, the number of an instruction`."""
+        """What can stand there, in words: `an instruction number, 0 to 4`."""
         if symbol == "L" and self.in_lines:
-            return f"a label, or {to_text(0, self.length - 1)}, the number of an instruction"
+            return f"a label or an instruction number, {to_text(0, self.length - 1)}"
         if symbol == "L":
-            return f"{to_text(0, self.length - 1)}, the number of an instruction"
+            return f"an instruction number, {to_text(0, self.length - 1)}"
         if symbol == "I":
             return to_text(0, self.entries - 1)
         return KIND_OF[symbol].choices
@@ -91,26 +91,26 @@ class Scope(NamedTuple):
         return limits[0] <= int(word) <= limits[1]
 
     def missing(self, symbol: str, word: str) -> str:
-        """That the thing or the entry that a word stands for isn't there, and what is near to it;
-        empty where it is there, or the word stands for neither."""
+        """Returns that a word names an object, a task or an entry that is not defined, with a
+        suggestion; an empty text if it is defined, or if the word names none of these."""
         if symbol == "I" and not self.fits(symbol, word):
             has = so_many(self.entries)
-            return f"there is no entry {word}: each task has {has}, counted from 0"
+            return f"there is no notification entry {word} (each task has {has}, counted from 0)"
         names = self.names.get(symbol, ())
         if symbol not in NAMED or word in names:
             return ""
         noun = KIND_OF[symbol].noun
-        said = f"{noun} {word if is_name(word) else quoted(word)} isn't there"
+        said = f"{noun} '{shown(word)}' is not defined"
         near = nearest(word, names)
         if near:
-            return f"{said}; {near} is near"
+            return f"{said}{did_you_mean(near)}"
         for other in NAMED:
             if word in self.names.get(other, ()):
-                return f"{said}; {word} is the name of {with_article(KIND_OF[other].noun)}"
+                return f"{said} ('{word}' is {with_article(KIND_OF[other].noun)})"
         if not names:
-            return f"{said}; there is no {noun}"
+            return f"{said} (the model has no {noun}s)"
         few = ", ".join(names[:MOST_NAMED]) + (", .." if len(names) > MOST_NAMED else "")
-        return f"{said}; there {'is' if len(names) == 1 else 'are'} {few}"
+        return f"{said} (defined: {few})"
 
 
 def to_text(least: int, most: int) -> str:

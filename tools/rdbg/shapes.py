@@ -1,4 +1,4 @@
-"""The shape of an application file: one table of the keys of each of its objects."""
+"""The keys of an application file: one table for each kind of object."""
 from typing import Dict, NamedTuple, Optional, Tuple
 
 from rdbg import kinds
@@ -46,7 +46,7 @@ class Shape(NamedTuple):
 
 def of_kind(kind: kinds.Kind, freertos: str, *keys: Key) -> Shape:
     """The object that stands for a thing of a kind: its name, and its other keys."""
-    text = f"the name by which instructions and commands know the {kind.noun}"
+    text = f"the name of the {kind.noun} in instructions and commands"
     name = Key("name", text, "name")
     return Shape(kind.noun, f"{kind.noun}s", kind.symbol, (name, *keys), freertos)
 
@@ -63,28 +63,28 @@ def objects(of: Shape, least: int = 0) -> Key:
     return Key(name, text, "objects", least, 32, least > 0, of, freertos=of.freertos)
 
 
-# Keys that are left out where they have this value.
+# The optional keys and their default values.
 DEFAULTS: Dict[str, int] = {"notes": 1, "tick": 0}
-BOOT = "the tick at boot; 0 if it is left out"
-MEMBERS = "the names of the queues that are its members at boot"
-BYTES = "how many bytes there is room for"
-BYTES_OF_MESSAGES = f"{BYTES}; each message takes four more than it has"
-TRIGGER = "how many bytes wake a reader that waits; 0 is taken as 1"
-CODE = "the script: instructions, counted from 0, the last one end or jump"
-ENTRIES = "how many notification entries each task has; 1 if it is left out"
-CORES = "how many cores there are; more than 8 in profile 2 alone"
+BOOT = "the tick count at boot; 0 if omitted"
+MEMBERS = "the names of the queues that are members at boot"
+BYTES = "the capacity in bytes"
+BYTES_OF_MESSAGES = f"{BYTES}; each message takes four bytes more than its length"
+TRIGGER = "the number of bytes that wakes a waiting reader; 0 means 1"
+CODE = "the script: instructions, counted from 0, the last of which is end or jump"
+ENTRIES = "the number of notification entries of each task; 1 if omitted"
+CORES = "the number of cores; more than 8 needs profile 2"
 CORES_OF_C = "configNUMBER_OF_CORES"
 
 QUEUE = of_kind(
     kinds.QUEUE,
     "xQueueCreate",
-    number("length", "how many items there is room for", 1, 64, "uxQueueLength"),
-    number("item", "how many bytes an item has", 1, 64, "uxItemSize"),
+    number("length", "the number of items that the queue can hold", 1, 64, "uxQueueLength"),
+    number("item", "the size of an item in bytes", 1, 64, "uxItemSize"),
 )
 QUEUE_SET = of_kind(
     kinds.QUEUE_SET,
     "xQueueCreateSet",
-    number("length", "how many handles there is room for", 1, 2048, "uxEventQueueLength"),
+    number("length", "the number of handles that the set can hold", 1, 2048, "uxEventQueueLength"),
     Key("members", MEMBERS, "members", freertos="xQueueAddToSet"),
 )
 STREAM = of_kind(
@@ -102,7 +102,7 @@ GROUP = of_kind(kinds.GROUP, "xEventGroupCreate")
 TASK = of_kind(
     kinds.TASK,
     "xTaskCreate",
-    number("priority", "the priority; a higher number is a higher one", 0, 31, "uxPriority"),
+    number("priority", "the priority; a higher number is a higher priority", 0, 31, "uxPriority"),
     Key("code", CODE, "code", 1, MOST_INSTRUCTIONS, freertos="pxTaskCode"),
 )
 FILE = Shape(
@@ -110,7 +110,7 @@ FILE = Shape(
     "applications",
     "",
     (
-        number("profile", "the profile, which says what an application may have", 1, 2),
+        number("profile", "the profile, which sets what an application may contain", 1, 2),
         Key("cores", CORES, "number", 1, 16, most_by_profile=(8, 16), freertos=CORES_OF_C),
         number("notes", ENTRIES, 1, 4, "configTASK_NOTIFICATION_ARRAY_ENTRIES"),
         number("tick", BOOT, 0, MOST_TICK, "configINITIAL_TICK_COUNT"),
@@ -119,7 +119,7 @@ FILE = Shape(
     ),
 )
 
-# What else a key is called, in small letters, and the key that it is here if it has such a one.
+# Other names for keys, in lower case. The object that has the unknown key may lack the right one.
 OTHER_NAMES = by_word(
     {
         "priority": "prio",
@@ -135,16 +135,16 @@ OTHER_NAMES = by_word(
         "notes": "notifications",
     }
 )
-# Why there is no such key.
+# Why there is no such key, and what to do instead.
 NOT_THERE = {
-    "$schema": "tell your editor of the schema in its settings",
-    "semaphores": "a queue stands for a semaphore (docs/guides/from-c.md)",
-    "mutexes": "a queue stands for a mutex (docs/guides/from-c.md)",
-    "timers": "there are no software timers",
-    "stack": "no stack is modelled",
-    "affinity": "every task can go to every core",
-    "core": "every task can go to every core",
-    "comment": "a text in lines (.fw) has comments",
-    "_comment": "a text in lines (.fw) has comments",
-    "//": "a text in lines (.fw) has comments",
+    "$schema": "name the schema in your editor's settings instead",
+    "semaphores": "use a queue for a semaphore, see docs/guides/from-c.md",
+    "mutexes": "use a queue for a mutex, see docs/guides/from-c.md",
+    "timers": "software timers are not modelled",
+    "stack": "stacks are not modelled",
+    "affinity": "every task can run on every core",
+    "core": "every task can run on every core",
+    "comment": "for comments, use a .fw file",
+    "_comment": "for comments, use a .fw file",
+    "//": "for comments, use a .fw file",
 }

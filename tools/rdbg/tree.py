@@ -38,7 +38,7 @@ class Lines:
 
 
 class NotText(Exception):
-    """A file is no text: where that is seen, and why."""
+    """A file is not UTF-8 text; `place` is the first byte that shows it."""
 
     def __init__(self, place: Place, message: str) -> None:
         super().__init__(message)
@@ -48,15 +48,16 @@ class NotText(Exception):
 def decoded(content: bytes) -> str:
     """The text of a file. Raises `NotText` where it isn't UTF-8, `Failure` where it is too long."""
     if len(content) > MOST_BYTES:
-        most = f"rdbg reads {MOST_BYTES:,} at the most"
-        raise Failure(f"the file has {len(content):,} bytes, and {most}", 2)
+        raise Failure(
+            f"the file has {len(content):,} bytes (at most {MOST_BYTES:,} are allowed)", 2
+        )
     try:
         return content.decode("utf-8")
     except UnicodeDecodeError as error:
         good = content[: error.start].decode("utf-8")
-        message = f"the byte 0x{content[error.start]:02x} is no UTF-8; save the file as UTF-8"
+        message = f"byte 0x{content[error.start]:02x} is not UTF-8 (save the file as UTF-8)"
         if content[:2] in (b"\xff\xfe", b"\xfe\xff"):
-            message = "the file is UTF-16; rdbg reads UTF-8"
+            message = "the file is UTF-16 (save it as UTF-8)"
         raise NotText(Lines(good).place(len(good)), message) from None
 
 
@@ -135,7 +136,7 @@ def kind_of(value: Value) -> str:
     if isinstance(value, Number):
         return f"the number {value.text}"
     if isinstance(value, str):
-        return "a text"
+        return "a string"
     return "a list" if isinstance(value, tuple) else "an object"
 
 

@@ -58,6 +58,11 @@ def nearest(word: str, others: Iterable[str]) -> Optional[str]:
     return found[0] if found else None
 
 
+def did_you_mean(near: Optional[str]) -> str:
+    """Returns ` (did you mean 'jobs'?)`, or nothing if no word is near."""
+    return f" (did you mean '{near}'?)" if near else ""
+
+
 def rows(table: str) -> List[List[str]]:
     """The rows of a table, a line each of cells between `|`; one that is indented goes on."""
     lines = re.sub(r"\n +", " ", table.strip()).split("\n")

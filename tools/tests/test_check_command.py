@@ -16,9 +16,9 @@ from tests.paths import COMPANION, EXAMPLES
 
 LOST = (EXAMPLES / "lost_item.json").read_text()
 WRONG = LOST.replace("recv jobs max", "recv jobs").replace('"cores": 2', '"cores": 9')
-FIRST = "wrong.json:3:12: cores is 9, and is to be 1 to 8 in profile 1; profile 2 allows 16"
+FIRST = "wrong.json:3:12: cores must be 1 to 8 in profile 1, found 9 (profile 2 allows 16)"
 SECOND = (
-    'wrong.json:6:48: task worker, instruction 0: "recv jobs": recv Q T lacks its block time'
+    'wrong.json:6:48: task worker, instruction 0: "recv jobs": recv Q T: missing block time'
     " (max, a number, or r0 to r7)"
 )
 FILES: Dict[str, str] = {"right.json": LOST, "wrong.json": WRONG, "long.json": " " * 1_048_577}
@@ -66,7 +66,7 @@ class Command(unittest.TestCase):
         self.assertEqual(wrong["verdict"], "refused as L3 Limit; 2 faults")
         self.assertEqual((wrong["accepted"], accepted["accepted"]), (False, True))
         self.assertEqual([it["severity"] for it in accepted["faults"]], ["note"])
-        self.assertTrue(accepted["faults"][0]["message"].startswith('the key "cores"'))
+        self.assertTrue(accepted["faults"][0]["message"].startswith('duplicate key "cores"'))
         _, output, _ = self.run_on("--json", "--name", "a.fw", "-", given="cores 0\n")
         self.assertEqual(json.loads("\n".join(output))["files"][0]["file"], "a.fw")
 
@@ -81,7 +81,7 @@ class Command(unittest.TestCase):
     def test_a_key_that_stands_twice_is_no_fault_and_is_told(self) -> None:
         status, lines, _ = self.run_on("-", given=LOST.replace("{", '{"cores": 1,', 1))
         self.assertEqual((0, 2), (status, len(lines)))
-        self.assertTrue(lines[0].startswith('-:3:3: note: the key "cores" stands here again'))
+        self.assertTrue(lines[0].startswith('-:3:3: note: duplicate key "cores"'))
 
     def test_a_file_that_cannot_be_read(self) -> None:
         status, lines, errors = self.run_on("none.json", "right.json", ".", "long.json")
@@ -89,8 +89,7 @@ class Command(unittest.TestCase):
         expected = [
             "rdbg check: cannot read none.json: No such file or directory",
             "rdbg check: cannot read .: Is a directory",
-            "rdbg check: long.json: the file has 1,048,577 bytes, and rdbg reads 1,048,576 at the"
-            " most",
+            "rdbg check: long.json: the file has 1,048,577 bytes (at most 1,048,576 are allowed)",
         ]
         self.assertEqual(expected, errors)
 

@@ -125,7 +125,7 @@ class Reading(unittest.TestCase):
             self.assertEqual(1, len(faults(" ".join([*words, "r0"]))), words)
             for at in range(1, len(words)):
                 found = faults(" ".join(words[:at] + words[at + 1 :]))
-                self.assertTrue(found and " lacks its " in found[0], found)
+                self.assertTrue(found and ": missing " in found[0], found)
 
     def test_says_which_operand_is_missing(self) -> None:
         cases = {
@@ -137,19 +137,19 @@ class Reading(unittest.TestCase):
             "jumpz 4": "register",
         }
         for text, noun in cases.items():
-            self.assertIn(f" lacks its {noun} (", faults(text)[0])
+            self.assertIn(f": missing {noun} (", faults(text)[0])
 
     def test_says_which_word_is_one_too_many(self) -> None:
         cases = {"recv jobs now 10": "now", "set r1 r8 5": "r8", "end end": "end"}
         for text, word in cases.items():
-            self.assertTrue(faults(text)[0].endswith(f" has a word too many: {word}"), faults(text))
+            self.assertTrue(faults(text)[0].endswith(f": unexpected word '{word}'"), faults(text))
 
     def test_operands_have_places(self) -> None:
         reading = read(Node("recv jobs 10", Place(3, 5), (6, 11, 16)), SCOPE)
         self.assertEqual([Place(3, 11), Place(3, 16)], [it.place for it in reading.operands])
 
     def test_numbers_that_only_break_a_limit_are_no_matter_of_order(self) -> None:
-        self.assertIn("2 can't be its index", faults("vclear worker 2 1")[0])
+        self.assertIn("must be 0 to 1, found '2'", faults("vclear worker 2 1")[0])
 
 
 if __name__ == "__main__":

@@ -33,21 +33,26 @@ class Statements(unittest.TestCase):
         for line, expected in cases.items():
             for in_lines, instruction in zip((True, False), expected):
                 found = statement(line.split(" "), in_lines)
-                self.assertEqual(instruction, (found or "").split(" is written ")[-1], line)
+                self.assertEqual(instruction, (found or "").split(" (use ")[-1][:-1], line)
 
     def test_names_stay_in_lines_and_have_no_number_in_a_json(self) -> None:
         for line, expected in (("sub r1 LEN", "add r1 -LEN"), ("goto again", "jump again")):
-            self.assertIn(f"is written {expected}", statement(line.split(" "), True) or "")
+            self.assertIn(
+                f"is not an instruction (use {expected})", statement(line.split(" "), True) or ""
+            )
             self.assertIsNone(statement(line.split(" "), False))
 
     def test_what_no_instruction_does(self) -> None:
         for line in ("sub r1 r2", "if (r0) goto 3", "jobs", "r9++", "recv jobs 0", "r1 = 1 << 40"):
-            self.assertNotIn("is written", statement(line.split(" "), False) or "")
+            self.assertNotIn("(use", statement(line.split(" "), False) or "")
 
     def test_one_in_a_json(self) -> None:
-        self.assertEqual(["sub r1 4 is written add r1 4294967292"], said("sub r1 4"))
         self.assertEqual(
-            ["sub is written add R N, with N 2^32 less what is to be taken away"], said("sub")
+            ["'sub r1 4' is not an instruction (use add r1 4294967292)"], said("sub r1 4")
+        )
+        self.assertEqual(
+            ["'sub' is not an instruction (use add R N, where N is 2^32 minus the amount)"],
+            said("sub"),
         )
 
 
@@ -55,30 +60,32 @@ class Orders(unittest.TestCase):
     """Words in another order, of which some are missing."""
 
     def test_the_order_is_told_with_what_is_missing(self) -> None:
-        lacks = "gwait G V WISH CLR T lacks its block time (max, a number, or r0 to r7)"
-        expected = f"{lacks}, and its words stand in another order; write gwait g0 7 all clear T"
+        lacks = "gwait G V WISH CLR T: missing block time (max, a number, or r0 to r7)"
+        expected = (
+            f"{lacks}, and the operands are in the wrong order (write gwait g0 7 all clear T)"
+        )
         self.assertEqual([expected], said("gwait g0 7 clear all"))
 
     def test_what_is_missing_alone_stays_so(self) -> None:
         for line in ("gwait g0 7 all clear", "take 0 max", "recv max", "notify gateway inc"):
             found = said(line)
-            self.assertTrue("lacks its" in found[0] and "order" not in found[0], found)
+            self.assertTrue(": missing " in found[0] and "order" not in found[0], found)
 
     def test_a_constant_of_c_is_the_operand_that_it_is_meant_to_be(self) -> None:
         found = said("take pdTRUE max")
-        self.assertIn("lacks its index", found[0])
-        self.assertTrue(found[1].endswith("write clear"), found)
+        self.assertIn(": missing index", found[0])
+        self.assertTrue(found[1].endswith("(write clear)"), found)
 
 
 class Words(unittest.TestCase):
     """Other slips."""
 
     def test_a_text_for_bytes(self) -> None:
-        rule = "data HEX: a text is written as hexadecimal digits: data "
+        rule = "data HEX takes hexadecimal digits, not text"
         cases = {"data 'A'": "41", "data 'A B'": "412042", "data 'AB": "4142"}
         for line, digits in cases.items():
-            self.assertEqual([rule + digits], said(line))
-        self.assertEqual([rule[:-7]], said("data '" + "x" * 30 + "'"))
+            self.assertEqual([f"{rule} (write data {digits})"], said(line))
+        self.assertEqual([rule], said("data '" + "x" * 30 + "'"))
 
     def test_an_instruction_that_has_such_an_operand(self) -> None:
         cases = {
@@ -88,15 +95,15 @@ class Words(unittest.TestCase):
             "data 0x4": "write 04",
         }
         for line, expected in cases.items():
-            self.assertTrue(said(line)[0].endswith(f"; {expected}"), said(line))
+            self.assertTrue(said(line)[0].endswith(f" ({expected})"), said(line))
 
     def test_what_has_no_place_in_a_script(self) -> None:
-        variable = "what a task sends is its data (data HEX), and what it receives becomes it"
-        self.assertEqual([f"send Q T has no &x: {variable}"], said("send jobs &x 0"))
+        variable = "a task sends its own data, which data HEX sets and each receive replaces"
+        self.assertEqual([f"send Q T: unexpected '&x' ({variable})"], said("send jobs &x 0"))
         self.assertEqual(
-            ["words are separated by spaces alone; write send jobs 0"], said("send(jobs, 0);")
+            ["words must be separated by spaces (write send jobs 0)"], said("send(jobs, 0);")
         )
-        self.assertEqual(["a script has no braces: jump and jumpz stand for them"], said("}"))
+        self.assertEqual(["scripts have no braces (use jump and jumpz)"], said("}"))
 
 
 class Stems(unittest.TestCase):

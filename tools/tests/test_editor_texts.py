@@ -155,7 +155,7 @@ class VsCode(unittest.TestCase):
         first = said[0]
         place = [first[pattern[key]] for key in ("file", "line", "column", "severity")]
         self.assertEqual(place, [str(file), "10", "14", None])
-        self.assertIn("queue jbos isn't there", first[pattern["message"]])
+        self.assertIn("queue 'jbos' is not defined", first[pattern["message"]])
         self.assertIn(f"${matcher['name']}", (DOCS / "guides/editors.md").read_text())
 
 
@@ -224,7 +224,7 @@ class Emacs(unittest.TestCase):
         said = self.faults("a.fw", wrong)
         places = [it.split(" ")[:2] for it in said]
         self.assertEqual(places, [[":error", "10:14"], [":note", "11:9"], [":error", "16:18"]])
-        self.assertIn("queue jbos isn't there; jobs is near", said[0])
+        self.assertIn("queue 'jbos' is not defined (did you mean 'jobs'?)", said[0])
         noted = self.faults("a.fw", TEXT)
         self.assertEqual([it.split(" ")[:2] for it in noted], [[":note", "11:9"]])
 

@@ -75,7 +75,7 @@ class Trees(unittest.TestCase):
     def test_brackets_stand_within_each_other_up_to_the_limit(self) -> None:
         tree("[" * MOST_DEPTH + "]" * MOST_DEPTH)
         deep = ("[" * (MOST_DEPTH + 1)).encode()
-        self.assertEqual("1:128: more than 127 brackets stand within each other", said(deep))
+        self.assertEqual("1:128: brackets are nested more than 127 deep", said(deep))
 
     def test_only_what_a_float_holds_is_a_number(self) -> None:
         for text in ("1e308", "-0", "0e99999", "1e-999", "1" + "0" * 308):
@@ -85,7 +85,7 @@ class Trees(unittest.TestCase):
 
     def test_a_file_that_rdbg_cannot_read_is_a_failure(self) -> None:
         tree(" " * (MOST_BYTES - 2) + "{}")
-        with self.assertRaisesRegex(Failure, "1,048,577 bytes, and rdbg reads 1,048,576"):
+        with self.assertRaisesRegex(Failure, "1,048,577 bytes .at most 1,048,576 are allowed"):
             read(b" " * (MOST_BYTES - 1) + b"{}")
 
 
@@ -96,81 +96,81 @@ class Causes(unittest.TestCase):
         self.assertEqual(list(cases.values()), [said(content) for content in cases])
 
     def test_commas(self) -> None:
-        many = "a comma too many: none stands before a closing bracket or another comma"
+        many = "extra comma"
         cases = {b"[1,\n]": f"1:3: {many}", b'{"a": 1,}': f"1:8: {many}", b"[1,,2]": f"1:4: {many}"}
         cases[b"{,}"] = f"1:2: {many}"
-        cases[b"[,1]"] = "1:2: a value is missing before ,"
-        cases[b'{"a": 1\n "b": 2}'] = "1:8: a comma is missing here"
-        cases[b'["a"\n "b"]'] = "1:5: a comma is missing here"
-        cases[b'{"a": 1; "b": 2}'] = "1:8: a comma stands here, and no semicolon"
+        cases[b"[,1]"] = "1:2: missing value before ,"
+        cases[b'{"a": 1\n "b": 2}'] = "1:8: missing comma"
+        cases[b'["a"\n "b"]'] = "1:5: missing comma"
+        cases[b'{"a": 1; "b": 2}'] = "1:8: expected a comma, found a semicolon"
         self.expect(cases)
 
     def test_comments(self) -> None:
-        comment = "a comment: JSON has none (a text in lines, .fw, has)"
+        comment = "JSON has no comments (.fw files do)"
         cases = {b"{\n // x\n}": f"2:2: {comment}", b"[1, # x\n 2]": f"1:5: {comment}"}
         cases[b"{} /* x */"] = f"1:4: {comment}"
         cases[b'{"a": 1 // x\n}'] = f"1:9: {comment}"
         self.expect(cases)
 
     def test_numbers(self) -> None:
-        cases = {b'{"a": +5}': "1:7: +5: a number has no plus sign"}
-        cases[b"[007]"] = "1:2: 007: a number has no zero in front: 7"
-        cases[b"[0x1F]"] = "1:2: 0x1F: a number is decimal, 31"
-        cases[b"[.5]"] = "1:2: .5: digits stand before a point and behind it"
-        cases[b"[5.]"] = "1:2: 5.: digits stand before a point and behind it"
-        cases[b"[-]"] = "1:2: - is no number"
-        cases[b"[10u]"] = "1:2: 10u is no number of JSON: it has digits alone"
-        cases[b"[NaN]"] = "1:2: NaN is no value of JSON: a number?"
+        cases = {b'{"a": +5}': "1:7: '+5': JSON numbers have no plus sign"}
+        cases[b"[007]"] = "1:2: '007': JSON numbers have no leading zeros (write 7)"
+        cases[b"[0x1F]"] = "1:2: '0x1F': JSON numbers are decimal (write 31)"
+        cases[b"[.5]"] = "1:2: '.5': a decimal point needs digits on both sides"
+        cases[b"[5.]"] = "1:2: '5.': a decimal point needs digits on both sides"
+        cases[b"[-]"] = "1:2: '-' is not a number"
+        cases[b"[10u]"] = "1:2: '10u' is not a JSON number (use digits only)"
+        cases[b"[NaN]"] = "1:2: 'NaN' is not a JSON value (did you mean a number?)"
         self.expect(cases)
 
     def test_quotes(self) -> None:
-        cases = {b"{'a': 1}": "1:2: a text stands between double quotes, and not single ones"}
-        cases[b"{a: 1}"] = '1:2: a key stands between double quotes: "a"'
-        cases[b"[recv]"] = '1:2: recv is no value of JSON; a text stands between quotes: "recv"'
-        cases[
-            '["a", \u201cb\u201d]'.encode()
-        ] = '1:7: \u201c is no quote of JSON: a text stands between two "'
-        cases[b'["a,\n "b"]'] = "1:2: the text that begins here isn't closed by \" on its line"
-        cases[b'["a'] = "1:2: the text that begins here isn't closed by \" on its line"
-        cases[b'["a", "b"c"]'] = "1:10: a quote too many, or a comma is missing here"
+        cases = {b"{'a': 1}": "1:2: strings need double quotes, not single quotes"}
+        cases[b"{a: 1}"] = '1:2: keys need double quotes (write "a")'
+        cases[b"[recv]"] = "1:2: 'recv' is not a JSON value (write \"recv\" for a string)"
+        cases['["a", \u201cb\u201d]'.encode()] = '1:7: \u201c is not a JSON quote (use ")'
+        cases[b'["a,\n "b"]'] = '1:2: the string that begins here has no closing " on its line'
+        cases[b'["a'] = '1:2: the string that begins here has no closing " on its line'
+        cases[b'["a", "b"c"]'] = "1:10: extra quote or missing comma"
         self.expect(cases)
 
     def test_brackets(self) -> None:
-        cases = {b'{"a": [1': "1:9: the file ends here, and the [ of 1:7 isn't closed by ]"}
-        cases[b'{"a": 1\n'] = "2:1: the file ends here, and the { of 1:1 isn't closed by }"
-        cases[b'{"a": [1}'] = "1:9: } stands here, and the [ of 1:7 isn't closed by ]"
-        cases[b'[{"a": 1]'] = "1:9: ] stands here, and the { of 1:2 isn't closed by }"
-        cases[b"{}}"] = "1:3: } is one too many: nothing is open here"
+        cases = {b'{"a": [1': "1:9: unexpected end of file: the [ at 1:7 needs a closing ]"}
+        cases[b'{"a": 1\n'] = "2:1: unexpected end of file: the { at 1:1 needs a closing }"
+        cases[b'{"a": [1}'] = "1:9: unexpected }: the [ at 1:7 needs a closing ]"
+        cases[b'[{"a": 1]'] = "1:9: unexpected ]: the { at 1:2 needs a closing }"
+        cases[b"{}}"] = "1:3: unmatched }"
         self.expect(cases)
 
     def test_colons(self) -> None:
-        cases = {b'{"a" = 1}': "1:6: a colon stands behind a key, and no ="}
-        cases[b'{"a" 1}'] = "1:6: a colon is missing here, behind the key"
-        cases[b'{"a"}'] = "1:5: a key has a value: a colon and the value are missing"
-        cases[b'{"a":}'] = "1:6: a value is missing before }"
-        cases[b'["a": 1]'] = "1:5: a key stands in an object, { .. }, and this is a list"
+        cases = {b'{"a" = 1}': "1:6: expected a colon after the key, found ="}
+        cases[b'{"a" 1}'] = "1:6: missing colon after the key"
+        cases[b'{"a"}'] = "1:5: missing colon and value after the key"
+        cases[b'{"a":}'] = "1:6: missing value before }"
+        cases[b'["a": 1]'] = "1:5: unexpected colon in a list (keys belong in an object, { .. })"
         self.expect(cases)
 
     def test_characters(self) -> None:
-        cases = {b'["a\tb"]': "1:4: a tab stands within a text; it has no control characters"}
-        cases[b'["\x01"]'] = "1:3: U+0001 stands within a text; it has no control characters"
-        cases[b'["\\x"]'] = "1:3: \\x is no escape of JSON; a \\ is written \\\\"
-        cases[b'["\\u12"]'] = "1:3: \\u is followed by four hexadecimal digits"
-        cases[b'["\\ud800"]'] = "1:3: \\ud800 is half of a pair, and has no other half"
+        cases = {b'["a\tb"]': "1:4: a string cannot contain a tab (escape control characters)"}
+        cases[b'["\x01"]'] = "1:3: a string cannot contain U+0001 (escape control characters)"
+        cases[b'["\\x"]'] = "1:3: \\x is not a JSON escape (write \\\\ for a backslash)"
+        cases[b'["\\u12"]'] = "1:3: \\u must be followed by four hexadecimal digits"
+        cases[
+            b'["\\ud800"]'
+        ] = "1:3: \\ud800 is half of a surrogate pair, and the other half is missing"
         cases[
             b"[\xc2\xa01]"
-        ] = "1:2: U+00A0 is no white space of JSON: spaces, tabs and line ends alone are"
+        ] = "1:2: U+00A0 is not white space in JSON (use spaces, tabs or line breaks)"
         self.expect(cases)
 
     def test_files(self) -> None:
-        empty = "1:1: the file is empty; an application is one JSON object, { .. }"
+        empty = "1:1: the file is empty (an application is one JSON object, { .. })"
         cases = {b"": empty, b" \n": empty}
-        cases[b"{}\n{}"] = "2:1: more text stands behind the end of the application"
+        cases[b"{}\n{}"] = "2:1: unexpected text after the end of the application"
         cases[
             b"\xef\xbb\xbf{}"
-        ] = "1:1: a byte order mark stands here: save the file as UTF-8 without one"
-        cases[b"\xff\xfe{\0}\0"] = "1:1: the file is UTF-16; rdbg reads UTF-8"
-        cases[b'{\n"\xc3\xa9\xe9"}'] = "2:3: the byte 0xe9 is no UTF-8; save the file as UTF-8"
+        ] = "1:1: unexpected byte order mark (save the file as UTF-8 without one)"
+        cases[b"\xff\xfe{\0}\0"] = "1:1: the file is UTF-16 (save it as UTF-8)"
+        cases[b'{\n"\xc3\xa9\xe9"}'] = "2:3: byte 0xe9 is not UTF-8 (save the file as UTF-8)"
         self.expect(cases)
 
 

@@ -1,7 +1,7 @@
-"""All faults of an application file, in the order in which rdbg looks for them.
+"""Finds all faults of an application file, in the order in which the program checks for them.
 
-rdbg says the kind of the first one. Those that only stem from an earlier one are left out: an
-instruction that names a queue whose name was refused, or an operand that a refused number bounds.
+The program reports the kind of the first one. Follow-on faults are left out, such as an instruction
+that names a queue whose name was refused, or an operand whose bound was refused.
 """
 import contextlib
 import re
@@ -14,17 +14,17 @@ from rdbg.instructions import FINAL, FORM_OF
 from rdbg.operands import NAMED, PATTERN_OF, Scope, is_name, to_text
 from rdbg.shapes import FILE, NOT_THERE, OTHER_NAMES, Key, Shape
 from rdbg.tree import Fault, Node, Number, Object, Place, kind_of, objects
-from rdbg.wording import nearest, quoted, shown
+from rdbg.wording import did_you_mean, nearest, quoted, shown
 
 SHAPE, LIMIT, NAME, INSTR = "L2 Shape", "L3 Limit", "L4 Name", "L5 Instr"
 OVERWRITE = "L6 OverwriteLength"
 MOST_ENTRIES = 4
-# So many are found at the most.
+# The search for faults stops after this many.
 MOST_FAULTS = 1000
 
 
 class Enough(Exception):
-    """There are as many faults as are looked for."""
+    """`MOST_FAULTS` faults have been found."""
 
 
 def faults_of(root: Node) -> List[Fault]:
@@ -35,18 +35,21 @@ def faults_of(root: Node) -> List[Fault]:
     return finder.faults
 
 
-def bound_by(key: Key, value: int, most: int) -> str:
-    """What bounds a number that is too large, where it isn't the key alone: ` (its size)`."""
+def explain_bound(key: Key, value: int, most: int) -> Tuple[str, str]:
+    """Returns what sets the bound of a number that is too large, and a remedy; both may be empty.
+
+    The bound comes from another key (` (its size)`) or from the profile.
+    """
     if key.most_key and most < value <= key.most:
-        return f" (its {key.most_key})"
+        return f" (its {key.most_key})", ""
     if most < value and most < key.most and key.most_by_profile:
         own, more = (key.most_by_profile.index(it) + 1 for it in (most, key.most))
-        return f" in profile {own}; profile {more} allows {key.most}"
-    return ""
+        return f" in profile {own}", f" (profile {more} allows {key.most})"
+    return "", ""
 
 
 class Finder:
-    """Goes through a file as rdbg does, and goes on behind a fault."""
+    """Checks a file in the order of the program, and continues after a fault."""
 
     def __init__(self) -> None:
         self.faults: List[Fault] = []
@@ -66,9 +69,9 @@ class Finder:
             raise Enough
 
     def other(self, node: Node, subject: str, what: str) -> None:
-        """Keeps the fault of a value that is something else than it is to be."""
-        is_what = f"{subject} is {shown(kind_of(node.value))}, and is to be {what}"
-        self.fault(SHAPE, node.place, is_what)
+        """Reports a value of the wrong type; `what` is the type that it must have."""
+        message = f"{subject} must be {what}, found {shown(kind_of(node.value))}"
+        self.fault(SHAPE, node.place, message)
 
     def file(self, root: Node) -> None:
         """The file: its keys in their order, then its scripts."""
@@ -91,10 +94,10 @@ class Finder:
             self.other(node, key.name, f"a list of {shape.plural}")
             return
         if len(node.value) < key.least:
-            message = f"{key.name} is empty; an application has a {shape.noun} at least"
+            message = f"{key.name} is empty (an application needs at least one {shape.noun})"
             self.fault(LIMIT, node.place, message)
         if len(node.value) > key.most:
-            message = f"there are {len(node.value)} {shape.plural}; {key.most} is the most"
+            message = f"{len(node.value)} {shape.plural} (at most {key.most} are allowed)"
             self.fault(LIMIT, node.value[key.most].place, message)
         for index, each in enumerate(node.value):
             self.object(shape, each, index)
@@ -132,7 +135,7 @@ class Finder:
         found = {key: given[key].node for key in shape.names() if key in given}
         for member in (it for it in given.values() if it.key not in shape.names()):
             meant, said = self.meant(shape, member.key)
-            said = f"{label}: {quoted(member.key)} is none of its keys{said}"
+            said = f"{label}: unknown key {quoted(member.key)} ({said})"
             self.fault(SHAPE, member.place, said)
             if meant and meant not in found:
                 found[meant] = member.node
@@ -140,7 +143,7 @@ class Finder:
                 self.refuse_names(member.node)
         for key in (it for it in shape.keys if it.is_needed and it.name not in found):
             limits = f", {to_text(key.least, key.most)}" if key.holds == "number" else ""
-            message = f"{label} lacks its key {key.name} ({key.text}{limits})"
+            message = f"{label}: missing key {quoted(key.name)} ({key.text}{limits})"
             self.fault(SHAPE, node.place, message)
         return found
 
@@ -158,24 +161,25 @@ class Finder:
         calls = {each.freertos.lower(): each.name for each in shape.keys if each.freertos}
         other = calls.get(small, OTHER_NAMES.get(small, ""))
         near = other if other in names else nearest(key, names)
-        why = f"; {NOT_THERE[small]}" if small in NOT_THERE else f" ({', '.join(names)})"
-        return near or "", f": {near}?" if near else why
+        why = NOT_THERE.get(small, f"known keys: {', '.join(names)}")
+        return near or "", f"did you mean {quoted(near)}?" if near else why
 
     def number(self, key: Key, node: Node, label: str, most: int) -> Optional[int]:
         """A number within its limits, or none after a fault."""
-        subject, limits = f"{label}{key.name}", to_text(key.least, most)
+        must_be = f"{label}{key.name} must be"
+        limits = to_text(key.least, most)
         if not isinstance(node.value, Number):
             is_quoted = isinstance(node.value, str) and is_digits(node.value)
-            hint = "; a number has no quotes" if is_quoted else ""
-            self.other(node, subject, f"a number, {limits}{hint}")
+            found = shown(kind_of(node.value)) + (" (remove the quotes)" if is_quoted else "")
+            self.fault(SHAPE, node.place, f"{must_be} a whole number, {limits}, found {found}")
             return None
         value = node.value.natural()
         if value is None:
-            message = f"{subject} is {shown(node.value.text)}, and is to be {limits}, digits alone"
-            self.fault(SHAPE, node.place, message)
+            found = shown(node.value.text)
+            self.fault(SHAPE, node.place, f"{must_be} a whole number, {limits}, found {found}")
         elif not key.least <= value <= most:
-            message = f"{subject} is {value}, and is to be {limits}{bound_by(key, value, most)}"
-            self.fault(LIMIT, node.place, message)
+            bound, remedy = explain_bound(key, value, most)
+            self.fault(LIMIT, node.place, f"{must_be} {limits}{bound}, found {value}{remedy}")
             value = None
         return value
 
@@ -183,7 +187,7 @@ class Finder:
         """A name, which is the first of its kind."""
         if not isinstance(node.value, str):
             self.unsure.add(shape.symbol)
-            self.other(node, f"{label}: name", "a text")
+            self.other(node, f"{label}: name", "a string")
             return
         first = self.names[shape.symbol].get(node.value)
         if not is_name(node.value):
@@ -191,9 +195,9 @@ class Finder:
             plain = re.sub(r"[^a-z0-9_]", "_", small).strip("_")[:16]
             near = plain if is_name(plain) else ""
             self.refused[shape.symbol] |= {node.value, near}
-            self.fault(NAME, node.place, f"{label}: {NAME_RULE}" + (f": {near}?" if near else ""))
+            self.fault(NAME, node.place, f"{label}: {NAME_RULE}{did_you_mean(near)}")
         elif first is not None:
-            self.fault(NAME, node.place, f"{label} stands twice; the first is at {first}")
+            self.fault(NAME, node.place, f"{label} is defined twice (first at {first})")
         else:
             self.names[shape.symbol][node.value] = node.place
 
@@ -207,7 +211,7 @@ class Finder:
             if not isinstance(name, str):
                 self.other(member, f"{label}: a member", "a queue's name")
             elif name in self.members:
-                message = f"{label}: queue {name} is a member of {self.members[name]} already"
+                message = f"{label}: queue '{name}' is already a member of {self.members[name]}"
                 self.fault(NAME, member.place, message)
             elif name in self.names["Q"]:
                 self.members[name] = label
@@ -222,14 +226,14 @@ class Finder:
             return
         count = len(node.value)
         if not count:
-            message = f"{label}: code is empty; a script has an instruction at least"
+            message = f"{label}: code is empty (a script needs at least one instruction)"
             self.fault(LIMIT, node.place, message)
         if count > key.most:
-            message = f"{label}: code has {count} instructions; {key.most} is the most"
+            message = f"{label}: code has {count} instructions (at most {key.most} are allowed)"
             self.fault(LIMIT, node.value[key.most].place, message)
         for index, each in enumerate(node.value):
             if not isinstance(each.value, str):
-                self.other(each, f"{label}, instruction {index}", "a text")
+                self.other(each, f"{label}, instruction {index}", "a string")
         self.scripts.append((label, node.value))
 
     def script(self, label: str, code: Tuple[Node, ...], scope: Scope) -> None:
@@ -240,7 +244,7 @@ class Finder:
         word = next((word for word, _ in code[-1].words()), "") if code else ""
         if word in FORM_OF and word not in FINAL:
             what = f"{label}, instruction {len(code) - 1}: {written(code[-1])}"
-            message = f"{what}: the script goes on behind it; its last instruction is end or jump"
+            message = f"{what}: a script must end with end or jump"
             self.fault(INSTR, code[-1].place, message)
 
     def instruction(self, label: str, node: Node, scope: Scope) -> None:
@@ -255,7 +259,7 @@ class Finder:
             lengths = self.lengths.get(queue.word, {None})
             if not lengths & {1, None}:
                 has = ", ".join(str(length) for length in sorted(filter(None, lengths)))
-                message = f"over Q is for a queue of length 1, and {queue.word} has {has}"
+                message = f"over Q needs a queue of length 1, but {queue.word} has length {has}"
                 self.fault(OVERWRITE, queue.place, f"{label}: {message}")
 
 
@@ -271,12 +275,12 @@ def binary(node: Node) -> Iterator[Fault]:
         return
     word, place = words[1]
     if is_binary(word) and PATTERN_OF["HEX"].fullmatch(word):
-        said = f"the first of these bytes is 0b; the number {shown(word)}"
-        yield Fault(place, "", f"note: {said} is written data {shown(as_bytes(word))}")
+        remedy = f"for the binary number {shown(word)} write data {shown(as_bytes(word))}"
+        yield Fault(place, "", f"note: these hexadecimal digits begin with the byte 0b ({remedy})")
 
 
 def remarks_of(root: Node) -> List[Fault]:
-    """What is no fault to rdbg, but likely one: a key that stands twice, bytes like a number."""
+    """Returns notes on what is accepted but likely wrong: duplicate keys, bytes like a number."""
     found: List[Fault] = []
     values = [root]
     while values:
@@ -288,8 +292,8 @@ def remarks_of(root: Node) -> List[Fault]:
             places: Dict[str, Place] = {}
             for member in value.members:
                 if member.key in places:
-                    first = f"the first, at {places[member.key]}, counts for nothing"
-                    message = f"note: the key {quoted(member.key)} stands here again; {first}"
+                    first = f"the value at {places[member.key]} is ignored"
+                    message = f"note: duplicate key {quoted(member.key)}; {first}"
                     found.append(Fault(member.place, "", message))
                 places[member.key] = member.place
                 values.append(member.node)

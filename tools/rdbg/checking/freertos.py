@@ -1,4 +1,4 @@
-"""What FreeRTOS and C call things, and what stands for them in a script."""
+"""Names of FreeRTOS and C, and what a script uses in their place."""
 import re
 from typing import Dict, Optional
 
@@ -11,30 +11,30 @@ WRITTEN: Dict[str, str] = {
     "ulTaskNotifyTake": "take 0 clear T or take 0 dec T",
     "vTaskNotifyGive": "notify K 0 0 inc",
     "vTaskNotifyGiveIndexed": "notify K I 0 inc",
-    "vTaskDelay": "recv never T, with a queue never that nobody fills",
-    "xSemaphoreTake": "recv Q T, with a queue in which an item is what can be taken",
-    "xSemaphoreGive": "send Q 0, with a queue in which an item is what can be taken",
-    "uxSemaphoreGetCount": "count Q, with a queue in which an item is what can be taken",
-    "xQueueCreate": 'a queue under the key "queues": it is there from the start',
-    "xQueueCreateSet": 'a set under the key "sets": it is there from the start',
-    "xStreamBufferCreate": 'a stream buffer under the key "streams": it is there from the start',
-    "xMessageBufferCreate": 'a message buffer under the key "messages": it is there from the start',
-    "xEventGroupCreate": 'an event group under the key "groups": it is there from the start',
-    "xTaskCreate": 'a task under the key "tasks": it is there from the start',
+    "vTaskDelay": "recv never T, where never is a queue that nobody fills",
+    "xSemaphoreTake": "recv Q T on a queue whose items stand for the count",
+    "xSemaphoreGive": "send Q 0 on a queue whose items stand for the count",
+    "uxSemaphoreGetCount": "count Q on a queue whose items stand for the count",
+    "xQueueCreate": 'a queue under the key "queues", which exists from boot',
+    "xQueueCreateSet": 'a set under the key "sets", which exists from boot',
+    "xStreamBufferCreate": 'a stream buffer under the key "streams", which exists from boot',
+    "xMessageBufferCreate": 'a message buffer under the key "messages", which exists from boot',
+    "xEventGroupCreate": 'an event group under the key "groups", which exists from boot',
+    "xTaskCreate": 'a task under the key "tasks", which exists from boot',
 }
 # What no instruction stands for, by a pattern of its name, and why.
 MISSING: Dict[str, str] = {
-    "xSemaphoreCreate.*|vSemaphoreCreate.*": "a queue stands for a semaphore, a mutex too",
-    ".Semaphore(Take|Give)Recursive": "there is no recursive mutex",
-    "[vx]TaskDelayUntil": "recv never T counts from the tick at which it is made",
-    ".*Semaphore.*|.*Mutex.*": "a queue stands for some of the uses of a semaphore",
-    "[vx]Task(Suspend|Resume).*": "a task can't be stopped",
-    ".*TaskPriority(Set|Get)": "tasks keep their priority",
-    "[uvx]*Timer.*": "there are no software timers; a task that delays stands for one",
-    "(vPort|taskENTER_|taskEXIT_|portENTER_|portEXIT_).*": "a call is one move, and needs no guard",
-    ".*YIELD.*": "the scheduler runs at each move; time slices end at a tick",
-    "vTaskStartScheduler": "the tasks run from the start",
-    "xTaskGetTickCount": "no instruction reads the tick",
+    "xSemaphoreCreate.*|vSemaphoreCreate.*": "use a queue for a semaphore or a mutex",
+    ".Semaphore(Take|Give)Recursive": "there are no recursive mutexes",
+    "[vx]TaskDelayUntil": "recv never T delays from the tick of the call",
+    ".*Semaphore.*|.*Mutex.*": "a queue can model some uses of a semaphore",
+    "[vx]Task(Suspend|Resume).*": "tasks cannot be suspended",
+    ".*TaskPriority(Set|Get)": "task priorities are fixed",
+    "[uvx]*Timer.*": "use a task that delays in place of a software timer",
+    "(vPort|taskENTER_|taskEXIT_|portENTER_|portEXIT_).*": "each call is one move and needs no critical section",
+    ".*YIELD.*": "the scheduler runs at each move, and time slices end at a tick",
+    "vTaskStartScheduler": "all tasks exist from boot",
+    "xTaskGetTickCount": "no instruction reads the tick count",
 }
 # Words of C and of assemblers, and the instruction that a script has for them.
 WORDS = by_word(
@@ -45,14 +45,14 @@ WORDS = by_word(
         "move R R": "mov",
         "add R 1": "inc",
         "add R 4294967295": "dec",
-        "add R N, with N 2^32 less what is to be taken away": "sub",
-        "recv never T, with a queue never that nobody fills": "delay sleep",
+        "add R N, where N is 2^32 minus the amount": "sub",
+        "recv never T, where never is a queue that nobody fills": "delay sleep",
         "recv Q T": "receive",
         "over Q": "overwrite",
         "end": "halt exit return",
-        "jumpz R L, which looks at a register alone": "cmp",
-        "jumpz R L, which jumps over a jump L": "bne jnz",
-        "send Q 0 of a queue that stands for a semaphore, or notify K I 0 inc": "give",
+        "jumpz R L, which tests a register for 0": "cmp",
+        "jumpz R L to skip a jump L": "bne jnz",
+        "send Q 0 on a queue that models a semaphore, or notify K I 0 inc": "give",
         "gwait G V WISH CLR T, nwait I V V T or take I clear T": "wait",
     }
 )
@@ -67,12 +67,12 @@ IN_LINES = by_word(
     {
         "add R -1": "dec",
         "add R -N": "sub",
-        "loop, or set R N and while R with add R -1 in it": "for",
-        "loop, with if TEST break in it": "do until",
-        "if R = N goto L, a line for each N": "switch",
+        "loop, or set R N and while R with add R -1 inside": "for",
+        "loop with if TEST break inside": "do until",
+        "if R = N goto L, one line for each N": "switch",
         "if R = N goto L": "cmp",
         "if R goto L": "bne jnz",
-        "else, and an if below it, with an end of its own": "elif elseif",
+        "else, then an if on the next line with its own end": "elif elseif",
         "end": "endif endloop endwhile done fi",
         "wait T": "delay sleep",
     }
@@ -92,9 +92,7 @@ FROM_ISR = by_word(
     }
 )
 # What is said of the others.
-INTERRUPT = (
-    "; of an interrupt it is a call of a task with a core of its own (docs/guides/from-c.md)"
-)
+INTERRUPT = "; model the interrupt as a task with a core of its own, see docs/guides/from-c.md"
 
 
 def called(word: str) -> str:
@@ -104,21 +102,22 @@ def called(word: str) -> str:
 
 
 def sentence(word: str, in_lines: bool = False) -> Optional[str]:
-    """What to write in place of a word that is a name of FreeRTOS or of C: `xQueueReceive is
-    written recv Q T`, or which command it is. None where it is no such name."""
+    """Returns the message about a name of FreeRTOS or C in place of an instruction, with the
+    instruction or command to use: `'xQueueReceive' is not an instruction (use recv Q T)`. Returns
+    None for other words."""
     name = called(word)
     plain = re.sub(r"(?i)FromISR$", "", name)
     end = "" if plain == name else INTERRUPT
+    not_one = f"'{name}' is not an instruction"
     if end and plain.lower() in FROM_ISR:
-        return (
-            f"{name} is the command {FROM_ISR[plain.lower()]}, in profile 2 (docs/guides/from-c.md)"
-        )
+        command = f"the command {FROM_ISR[plain.lower()]} in profile 2"
+        return f"{not_one} (use {command}, see docs/guides/from-c.md)"
     by_name = {**BY_NAME, **(CALLS_IN_LINES if in_lines else {})}
     if plain.lower() in by_name:
-        return f"{name} is written {by_name[plain.lower()]}{end}"
+        return f"{not_one} (use {by_name[plain.lower()]}{end})"
     words = {**WORDS, **(IN_LINES if in_lines else {})}
     if name.lower() in words:
-        return f"{name} is written {words[name.lower()]}"
+        return f"{not_one} (use {words[name.lower()]})"
     missing = (it for pattern, it in MISSING.items() if re.fullmatch(f"(?i){pattern}", plain))
     why = next(missing, None)
-    return f"nothing stands for {name}: {why}" if why else None
+    return f"'{name}' is not modelled ({why})" if why else None

@@ -1,4 +1,4 @@
-"""Reads an instruction: its form and operands, or what is wrong with it and what would be right."""
+"""Reads an instruction: its form and operands, or its faults with suggestions."""
 import itertools
 import re
 from typing import Dict, Iterator, List, NamedTuple, Optional, Sequence, Tuple
@@ -8,16 +8,17 @@ from rdbg.checking.slips import CONSTANTS, slip, statement
 from rdbg.instructions import FORM_OF, InstructionForm
 from rdbg.operands import KIND_OF, NAMED, PATTERN_OF, Scope
 from rdbg.tree import Node, Place
-from rdbg.wording import nearest, shown, with_article
+from rdbg.wording import did_you_mean, nearest, shown, with_article
 
 # So many words at the most are too many for a look at which of them they are.
 FEW = 3
 Word = Tuple[str, Place]
 INSTR, NAME = "L5 Instr", "L4 Name"
-NAME_RULE = "a name is 1 to 16 characters of a to z, 0 to 9 and _, the first a letter"
+NAME_FORM = "1 to 16 characters of a to z, 0 to 9 and _, starting with a letter"
+NAME_RULE = f"a name must have {NAME_FORM}"
 COMMENTS = ("//", "/*", "#", ";", "--")
-NO_BRACES = "a script has no braces: jump and jumpz stand for them"
-NO_VARIABLES = "what a task sends is its data (data HEX), and what it receives becomes it"
+NO_BRACES = "scripts have no braces (use jump and jumpz)"
+NO_VARIABLES = "a task sends its own data, which data HEX sets and each receive replaces"
 # So many digits of bytes are proposed.
 MOST_DIGITS = 40
 # What an operand of an instruction is that another instruction has, by its form.
@@ -61,7 +62,7 @@ def read(node: Node, scope: Scope) -> Reading:
     is of a queue of length 1 is looked at by whoever knows the lengths."""
     words = list(node.words())
     if not words:
-        return refused(None, "it is empty", node.place)
+        return refused(None, "the instruction is empty", node.place)
     form = FORM_OF.get(words[0][0])
     if form is None:
         return refused(None, unknown([word for word, _ in words], scope), words[0][1])
@@ -77,9 +78,9 @@ def text_in_quotes(text: str) -> str:
     found = re.fullmatch(r"(['\"])(.+?)\1?", text)
     if not found:
         return ""
-    rule = "data HEX: a text is written as hexadecimal digits"
+    rule = "data HEX takes hexadecimal digits, not text"
     digits = found[2].encode("utf-8", "replace").hex()
-    return f"{rule}: data {digits}" if len(digits) <= MOST_DIGITS else rule
+    return f"{rule} (write data {digits})" if len(digits) <= MOST_DIGITS else rule
 
 
 def refused(form: Optional[InstructionForm], message: str, place: Place) -> Reading:
@@ -91,27 +92,26 @@ def unknown(words: Sequence[str], scope: Scope) -> str:
     """What to write in place of a word that no instruction begins with."""
     word = words[0]
     if word.startswith(COMMENTS):
-        return "a comment is no instruction"
+        return "expected an instruction, found a comment"
     if word.endswith(":"):
-        rule = "a jump names its instruction by number, counted from 0"
-        return f"{shown(word)} is no instruction; {rule}"
+        rule = "a jump takes the number of an instruction, counted from 0"
+        return f"'{shown(word)}' is not an instruction ({rule})"
     known = statement(words, False) or sentence(word)
     if known is not None:
         return known
     plain = re.sub(r"[(),;\s]+", " ", " ".join(words)).strip()
     if plain.split(" ")[0] in FORM_OF and plain != " ".join(words):
-        return f"words are separated by spaces alone; write {shown(plain)}"
+        return f"words must be separated by spaces (write {shown(plain)})"
     if re.fullmatch("[{}]+", word):
         return NO_BRACES
-    message = f"there is no instruction {shown(word)}"
+    message = f"unknown instruction '{shown(word)}'"
     kinds = [with_article(KIND_OF[it].noun) for it in NAMED if word in scope.names.get(it, ())]
     if kinds:
-        return f"{message}; that is the name of {kinds[0]}"
+        return f"{message} (it is the name of {kinds[0]})"
     first = next((other for other in words[1:] if other in FORM_OF), None)
     if first:
-        return f"{message}; the word {first} comes first"
-    near = nearest(word.strip("(),;\t"), FORM_OF)
-    return message + (f": {near}?" if near else "")
+        return f"{message} (put {first} first)"
+    return message + did_you_mean(nearest(word.strip("(),;\t"), FORM_OF))
 
 
 class Reader:
@@ -195,9 +195,9 @@ class Reader:
         line = " ".join([self.form.word, *parts])
         missing = [self.described(at) for at in range(len(parts)) if at not in order]
         if not missing:
-            return f"the words of {self.form.text} stand in another order; write {line}"
-        lacks = f"{self.form.text} lacks its {' and its '.join(missing)}"
-        return f"{lacks}, and its words stand in another order; write {line}"
+            return f"{self.form.text}: the operands are in the wrong order (write {line})"
+        lacks = f"{self.form.text}: missing {' and '.join(missing)}"
+        return f"{lacks}, and the operands are in the wrong order (write {line})"
 
     def aligned(self) -> Iterator[Operand]:
         """Each operand that has a word, after faults for what is lacking and left over."""
@@ -206,7 +206,7 @@ class Reader:
         missing = [at for at in range(operands) if at not in chosen]
         if missing:
             parts = [self.described(at) for at in missing]
-            self.fault(f"{self.form.text} lacks its {' and its '.join(parts)}", self.place)
+            self.fault(f"{self.form.text}: missing {' and '.join(parts)}", self.place)
         extra = [at for at in range(words) if at not in chosen.values()]
         if extra:
             self.fault(self.too_many(extra), self.words[extra[0]][1])
@@ -222,36 +222,37 @@ class Reader:
         """What is wrong with words too many."""
         words = [self.words[at][0] for at in extra]
         if words[0].startswith(COMMENTS):
-            return "a comment has no place in an instruction"
+            return "an instruction cannot contain a comment"
         whole = "".join(word for word, _ in self.words)
         if self.form.word == "data" and self.scope.fits("HEX", whole):
-            return f"bytes stand without spaces: data {shown(whole)}"
+            return f"bytes must be written without spaces (write data {shown(whole)})"
         if any(word.startswith("&") for word in words):
-            return f"{self.form.text} has no {shown(words[0])}: {NO_VARIABLES}"
-        many = "a word" if len(words) == 1 else f"{len(words)} words"
+            return f"{self.form.text}: unexpected '{shown(words[0])}' ({NO_VARIABLES})"
+        many = "word" if len(words) == 1 else f"{len(words)} words"
         spelled = [self.spelled[at] for at in extra[:FEW]]
         said = shown(" ".join(spelled)) + (" .." if len(words) > FEW else "")
-        return f"{self.form.text} has {many} too many: {said}"
+        return f"{self.form.text}: unexpected {many} '{said}'"
 
     def look_at(self, operand: Operand) -> None:
         """Finds the fault of one word."""
         symbol, word = operand.symbol, operand.word
         if not self.scope.fits(symbol, word):
-            rule = NAME_RULE if symbol in NAMED else self.scope.choices(symbol)
-            meant = self.instead(symbol, word) or slip(symbol, word, self.scope)
+            choices = self.scope.choices(symbol)
+            rule = f"a name of {NAME_FORM}" if symbol in NAMED else choices
+            remedy = self.instead(symbol, word) or slip(symbol, word, self.scope)
             said = self.said(operand)
-            message = f"{self.form.text}: {said} can't be its {operand.noun} ({rule})"
-            self.fault(message + (f"; {meant}" if meant else ""), operand.place, operand)
+            message = f"{self.form.text}: {operand.noun} must be {rule}, found {said}"
+            self.fault(message + (f" ({remedy})" if remedy else ""), operand.place, operand)
         elif self.scope.missing(symbol, word):
             self.fault(self.scope.missing(symbol, word), operand.place, operand, NAME)
 
     def said(self, operand: Operand) -> str:
         """A word as it is written, with its number where it is written by a name."""
         if operand.symbol in NAMED:
-            return shown(operand.spelled)
+            return f"'{shown(operand.spelled)}'"
         if operand.spelled == operand.word or self.scope.limits(operand.symbol) is None:
-            return shown(operand.word)
-        return f"{shown(operand.spelled)} ({operand.word})"
+            return f"'{shown(operand.word)}'"
+        return f"'{shown(operand.spelled)}', which is {operand.word}"
 
     def instead(self, symbol: str, word: str) -> str:
         """Another instruction that has such a word; empty where there is none."""

@@ -48,16 +48,16 @@ def number_slip(symbol: str, word: str, scope: Scope) -> Optional[str]:
         return None
     least, most = limits
     if re.fullmatch(r"-[0-9]{1,10}", word) and symbol in ("N", "V"):
-        return f"{word} is written {(1 << 32) - int(word[1:])}" if int(word[1:]) else "write 0"
+        return f"write {(1 << 32) - int(word[1:])}" if int(word[1:]) else "write 0"
     value = as_number(word)
     if value is not None and least <= value <= most:
         return f"write {value}"
     if value is not None and value > MOST_NUMBER:
-        return f"a number is at most {MOST_NUMBER}"
+        return f"the largest number is {MOST_NUMBER}"
     if symbol == "I" and value is not None:
-        return f'"notes" says that each task has {so_many(scope.entries)}'
+        return f'"notes" gives each task {so_many(scope.entries)}'
     if symbol == "L" and not scope.in_lines and re.fullmatch(r"[A-Za-z_]\w*:?", word):
-        return "a jump names its instruction by number, counted from 0"
+        return "a jump takes the number of an instruction, counted from 0"
     return None
 
 
@@ -96,15 +96,15 @@ def slips(symbol: str, word: str, scope: Scope) -> Iterator[Optional[str]]:
     if symbol in ("R", "V", "T") and small != word and scope.fits(symbol, small):
         yield f"write {small}"
     if symbol == "R" and re.fullmatch(r"[0-7]", word):
-        yield f"r{word}?"
+        yield f"did you mean r{word}?"
     yield bytes_slip(word) if symbol == "HEX" else number_slip(symbol, word, scope)
     for it in (bare, bare.lower()):
         if it != word and scope.fits(symbol, it):
             yield f"write {it}"
     if "\t" in word:
-        yield "words are separated by spaces alone, and here is a tab"
+        yield "separate words with spaces, not tabs"
     near = nearest(word, scope.names.get(symbol, KIND_OF[symbol].words()))
-    yield f"{near}?" if near else None
+    yield f"did you mean '{near}'?" if near else None
 
 
 def slip(symbol: str, word: str, scope: Scope) -> str:
@@ -172,7 +172,7 @@ def statement(words: Sequence[str], in_lines: bool) -> Optional[str]:
         found = re.fullmatch(pattern, text)
         made = written_as(found, instruction, in_lines) if found else None
         if made is not None:
-            return f"{text} is written {made}"
+            return f"'{text}' is not an instruction (use {made})"
     if re.match(r"r[0-7] ?[-+*/&|^<>]?=|r[0-7]$", text):
-        return "no instruction begins with a register: set, add and move change one, as set r1 5"
+        return "an instruction cannot begin with a register (to change one, use set, add or move)"
     return None

@@ -17,7 +17,7 @@ loop
 end
 `;
 const WRONG = RIGHT.replace("recv jobs", "recv jbos");
-const NEAR = "queue jbos isn't there; jobs is near";
+const NEAR = "queue 'jbos' is not defined (did you mean 'jobs'?)";
 // (a loaded machine starts a program late)
 const PATIENCE = 60000;
 const PAUSE = 300;
