@@ -9,10 +9,10 @@ from rdbg.shapes import DEFAULTS, FILE, Key, Shape
 
 Schema = Dict[str, Any]
 ABOUT = (
-    "An application for rdbg: objects of FreeRTOS, and tasks as scripts. It accepts what rdbg"
-    " accepts. rdbg asks for more: numbers without a point, names that stand once in their kind"
-    " and that are there, a trigger level up to the size, jumps within the script, and a last"
-    " instruction that is end or jump; `rdbg check FILE` says all of it."
+    "An application for rdbg: FreeRTOS objects, and tasks as scripts. The schema accepts every file"
+    " that rdbg accepts. rdbg also requires that numbers have no decimal point, that names are unique"
+    " within their kind and defined, that a trigger level is at most the size, that jumps stay within"
+    " the script, and that a script ends with end or jump. `rdbg check FILE` reports all errors."
 )
 
 
@@ -80,7 +80,7 @@ def instruction() -> Schema:
     """The schema of an instruction."""
     words = "|".join(form.word for form in FORMS)
     return {
-        "description": "An instruction, as docs/reference/calls.md has them.",
+        "description": "An instruction, as described in docs/reference/calls.md.",
         "type": "string",
         "pattern": f"^ *({words})( |$)",
         "allOf": [line_of(form) for form in FORMS],

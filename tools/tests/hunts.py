@@ -48,7 +48,7 @@ def found(said: Sequence[str]) -> List[Tuple[int, int]]:
     return [(int(it[2] or 0), int(it[1])) for it in heads]
 
 
-TRIED = re.compile(r"tried: ([\d,]+) states?, ([\d,]+) moves? made;")
+TRIED = re.compile(r"searched: ([\d,]+) states?, ([\d,]+) moves?,")
 
 
 def states(said: Sequence[str]) -> int:

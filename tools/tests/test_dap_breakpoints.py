@@ -110,14 +110,17 @@ class Lines(Held):
         with editor() as client:
             client.begin(self.file, limit=200)
             for more, why in (
-                ({"condition": "count job > 0"}, "`count jobs > 0` would be right"),
+                ({"condition": "count job > 0"}, "did you mean `count jobs > 0`?"),
                 ({"condition": "jobs>0"}, ""),
-                ({"condition": "count jobs > 0 5"}, "'and', 'or', ')' or the end is wanted there"),
-                ({"condition": "reg maker 9 = 1"}, "a register is wanted there, 0 to 7"),
+                (
+                    {"condition": "count jobs > 0 5"},
+                    "expected 'and', 'or', ')' or the end of the goal",
+                ),
+                ({"condition": "reg maker 9 = 1"}, "expected a register number, 0 to 7"),
                 ({"hitCondition": "often"}, "'often' is not a hit count"),
                 ({"hitCondition": "0"}, "'0' is not a hit count"),
                 ({"logMessage": "{maker.r9}"}, "{maker.r9} is not a register, a part of a task"),
-                ({"logMessage": "{count job + 1}"}, "the name of a queue is wanted there"),
+                ({"logMessage": "{count job + 1}"}, "expected the name of a queue"),
             ):
                 found = client.lines(self.file, 14, **more)[0]
                 self.assertFalse(found["verified"])
@@ -175,9 +178,9 @@ class Names(Held):
             for name, why in (
                 ("", "expected a condition such as"),
                 ("producer 9", "has no instruction 9"),
-                ("sleeps", "the name of a task is wanted there"),
-                ("sleeps nobody", "word 2, 'nobody': the name of a task is wanted there"),
-                ("changes worker", "the name of an object is wanted there"),
+                ("sleeps", "expected the name of a task"),
+                ("sleeps nobody", "word 2, 'nobody': expected the name of a task"),
+                ("changes worker", "expected the name of an object"),
                 ("reg worker", ""),
             ):
                 found = named(client, name)[0]
@@ -189,7 +192,7 @@ class Names(Held):
             client.begin(LOST)
             said = client.typed("until! at worker 1 and not runs producer")
             self.assertIn("at 8 met: at worker 1 and not runs producer", said)
-            self.assertIn("`stuck` would be right", client.typed("rc! stuk"))
+            self.assertIn("did you mean `stuck`?", client.typed("rc! stuk"))
 
     @unittest.skipUnless(searches.real(), "no program that searches")
     def test_what_can_still_come(self) -> None:

@@ -14,7 +14,7 @@ LOST = EXAMPLES / "lost_item.json"
 # What the run of Continue makes of the job: the worker has it, and never the poller.
 GOAL, AT = "reg poller 0 = 1", "at 7: lost reg poller 0 = 1"
 MOVE = "worker 0 recv jobs max -> 1, data 41, jobs 0/1"
-WAY = "`goto 6` goes before it, and from there it can still come:"
+WAY = "`goto 6` returns to before this move, and this run from there reaches the goal:"
 # A run in which the poller takes the item, and the worker waits again.
 RUN = "until count jobs > 0 50\nstep 1\nstep 1\nstep 1\nstep 0"
 
@@ -31,7 +31,9 @@ class Words(Held):
             said = client.typed("lost at worker 1").splitlines()
             move = "poller 0 recv jobs 0 -> 1, data 41, jobs 0/1"
             self.assertEqual(["lost at 8", f"  8  core 1  {move}"], said[:2])
-            way = "  `goto 7` goes before it, and from there it can still come:"
+            way = (
+                "  `goto 7` returns to before this move, and this run from there reaches the goal:"
+            )
             self.assertEqual([way, "  tick", "  step 0"], said[2:])
             # (a line of output is that instruction's, to which an editor goes)
             told = [it["body"] for it in client.told if it.get("event") == "output"][-1]
@@ -40,7 +42,7 @@ class Words(Held):
             self.assertEqual(client.place(), 9)
             self.assertIn("found", client.typed("doomed"))
             client.typed("goto 7\ntick\nstep 0")
-            self.assertIn("still\n  it holds here", client.typed("lost"))
+            self.assertIn("still\n  the goal holds here", client.typed("lost"))
             self.assertEqual(1, client.output().count(f"lost at 8: {move}"))
 
     def test_at_a_port(self) -> None:
@@ -112,7 +114,7 @@ class Stops(Held):
             self.assertEqual("lost failed", named(client, "lost")[0]["message"])
             for name, why in (
                 ("lost at worker 7", "word 3, '7': the number of an instruction"),
-                ("lost asleap", "`asleep` would be right"),
+                ("lost asleap", "did you mean `asleep`?"),
                 ("lost sleeps worker", "no word for `sleeps`"),
             ):
                 found = named(client, name)[0]

@@ -155,7 +155,7 @@ class Lines(unittest.TestCase):
         (fault,) = wrong.faults
         line = next(at for at, it in enumerate(FIRMWARE.split("\n"), 1) if "send done" in it)
         self.assertEqual(fault.place.line, line)
-        self.assertIn("done is near", str(fault))
+        self.assertIn("did you mean 'done'?", str(fault))
 
     def test_two_in_a_line(self) -> None:
         twice = "xQueueSend(q, 0, 0); /* rdbg: data 41 */ /* rdbg: send q 0 */"

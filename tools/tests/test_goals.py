@@ -92,12 +92,12 @@ class Refusals(unittest.TestCase):
     def test_what_would_be_right(self) -> None:
         scope = scope_of(str(EXAMPLES / "lost_item.json"))
         for goal, meant in (
-            ("stuk", "`stuck` would be right"),
-            ("jobs > 0", "`count jobs > 0` would be right"),
-            ("count jobs>=1 && !asleep", "`count jobs > 0 and not asleep` would be right"),
-            ("worker r1 = 0x10", "`reg worker 1 = 16` would be right"),
-            ("count job = 1", "`count jobs = 1` would be right"),
-            ("at nobody 0", "; these are there: worker, producer, poller"),
+            ("stuk", "(did you mean `stuck`?)"),
+            ("jobs > 0", "`count jobs > 0`?)"),
+            ("count jobs>=1 && !asleep", "`count jobs > 0 and not asleep`?)"),
+            ("worker r1 = 0x10", "`reg worker 1 = 16`?)"),
+            ("count job = 1", "`count jobs = 1`?)"),
+            ("at nobody 0", " (defined: worker, producer, poller)"),
             ("wakes worker", "this is said of a move, and stands by itself"),
         ):
             with self.subTest(goal), self.assertRaises(NoGoal) as refused:
@@ -119,12 +119,12 @@ class Labels(unittest.TestCase):
 
     def test_which_there_are(self) -> None:
         scope = Scope.of(source("x.fw", self.TEXT.encode()))
-        wanted = "the number of an instruction of the task is wanted there"
+        wanted = "expected the number of an instruction of the task"
         for goal, said in (
-            ("at t lsot", f"word 3, 'lsot': {wanted}; `at t lost` would be right"),
+            ("at t lsot", f"word 3, 'lsot': {wanted} (did you mean `at t lost`?)"),
             (
                 "failed or at t lsot",
-                f"word 5, 'lsot': {wanted}; `failed or at t lost` would be right",
+                f"word 5, 'lsot': {wanted} (did you mean `failed or at t lost`?)",
             ),
             ("at t elsewhere", f"word 3, 'elsewhere': {wanted}, or a label: lost, late"),
             ("at t", f"it ends too early: {wanted}, or a label: lost, late"),

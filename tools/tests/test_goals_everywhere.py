@@ -20,14 +20,14 @@ from tests.test_dap_breakpoints import named
 FILE = str(EXAMPLES / "lost_item.json")
 # What may be typed, and what each of them is told: that stands in no other place.
 WRONG = (
-    ("asleap", "`asleep` would be right"),
-    ("count jobs == 0", "`count jobs = 0` would be right"),
-    ("count jbos > 0", "`count jobs > 0` would be right"),
-    ("phase worker waits", "`phase worker wait` would be right"),
-    ("at worker 7", "word 3, '7': the number of an instruction of the task is wanted there"),
+    ("asleap", "`asleep`?"),
+    ("count jobs == 0", "`count jobs = 0`?"),
+    ("count jbos > 0", "`count jobs > 0`?"),
+    ("phase worker waits", "`phase worker wait`?"),
+    ("at worker 7", "word 3, '7': expected the number of an instruction of the task"),
     ("waits worker and", "it ends too early"),
-    ("finished or stuk", "`finished or stuck` would be right"),
-    ("runs nobody", "these are there: worker, producer, poller"),
+    ("finished or stuk", "`finished or stuck`?"),
+    ("runs nobody", "(defined: worker, producer, poller)"),
 )
 
 

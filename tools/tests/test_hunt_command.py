@@ -42,9 +42,7 @@ class Said(unittest.TestCase):
         self.assertEqual("  at 0: core 1 is 4 moves ahead", errors[1])
         self.assertEqual("place  tick  core  who       pc  does                effects", errors[2])
         self.assertIn("recv jobs 0 -> 1    data 41, jobs 0/1", errors[6])
-        self.assertRegex(
-            errors[7], r"tried: \d+ states, \d+ moves made; the longest order has \d+ moves"
-        )
+        self.assertRegex(errors[7], r"searched: \d+ states, \d+ moves, longest run \d+ moves")
 
     def test_into_a_file(self) -> None:
         status, lines, errors = said(LOST, "reg poller 0 = 1", *QUICK, "-o", "found.commands")
@@ -99,9 +97,7 @@ class Said(unittest.TestCase):
         self.assertEqual((0, []), (status, lines))
         self.assertEqual("none found: reg poller 7 = 1", errors[0])
         self.assertEqual("not within 12 moves and 1 surprises", errors[1])
-        self.assertRegex(
-            errors[2], r"tried: \d+ states, \d+ moves made; the longest order has 12 moves"
-        )
+        self.assertRegex(errors[2], r"searched: \d+ states, \d+ moves, longest run 12 moves")
         self.assertEqual(3, len(errors))
         self.assertFalse(os.path.exists("found.commands"))
 
@@ -140,7 +136,7 @@ class Said(unittest.TestCase):
         status, lines, errors = said("pair.fw", "differs", "--all", "3")
         self.assertEqual(1, status)
         # (in forward's order a finds nothing; and where b is first a has it)
-        self.assertIn("how the first order ends (<), and this one (>):", errors)
+        self.assertIn("end states of the first run (<) and of this one (>):", errors)
         ends = [it for it in errors if re.match(r"[<>] task a ", it)]
         self.assertEqual(2, len(ends))
         self.assertIn("regs 0,", ends[0])
@@ -151,14 +147,15 @@ class Said(unittest.TestCase):
         status, lines, errors = said(LOST, *words)
         # forward's order comes to it at 7 (docs/tutorials/lost-item.md: at 5 the job is there, then a tick)
         self.assertEqual(
-            (1, "found: reg worker 0 = 1, at 7, without a surprise"), (status, errors[0])
+            (1, "found: reg worker 0 = 1, at 7, without surprises"), (status, errors[0])
         )
 
     def test_none_is_smaller(self) -> None:
         status, _, errors = said(path("frames"), "stuck", "--smallest")
         self.assertEqual((1, "found: stuck, at 25, with 1 surprise"), (status, errors[0]))
         self.assertEqual(
-            "none smaller: not within 24 moves and 1 surprises; not within 0 surprises", errors[-1]
+            "no shorter run: not within 24 moves and 1 surprises; not within 0 surprises",
+            errors[-1],
         )
 
     def test_a_pace(self) -> None:
@@ -188,7 +185,7 @@ class Statuses(unittest.TestCase):
         began = time.monotonic()
         status, _, errors = said(kernel, "differs", "--within", "0.5")
         self.assertLess(time.monotonic() - began, 60)
-        self.assertEqual((2, "that isn't all: the time was up"), (status, errors[-1]))
+        self.assertEqual((2, "incomplete: the time limit was reached"), (status, errors[-1]))
 
     def test_a_limit_of_time(self) -> None:
         words = [*LONG, "--within", "1"]
@@ -196,7 +193,7 @@ class Statuses(unittest.TestCase):
         expectations: List[List[str]] = [[], ["--expect", "none"], ["--expect", "found"]]
         for expected in expectations:
             status, _, errors = said(*words, *expected)
-            self.assertEqual((2, "that isn't all: the time was up"), (status, errors[-1]))
+            self.assertEqual((2, "incomplete: the time limit was reached"), (status, errors[-1]))
             self.assertRegex(errors[1], "full")
         self.assertLess(time.monotonic() - began, 60)
 
@@ -207,22 +204,22 @@ class Statuses(unittest.TestCase):
             status, _, errors = said(LOST, "reg poller 7 = 1", "--states", "20", *words)
             self.assertEqual((2, why), (status, errors[-1]))
             self.assertRegex(errors[1], r"full: not within \d+ moves")
-            self.assertRegex(errors[2], "tried: 20 states, ")
+            self.assertRegex(errors[2], "searched: 20 states, ")
 
     def test_goals_that_are_none(self) -> None:
         for goal, why in (
-            ("stuk", "; `stuck` would be right"),
-            ("count jobs>0", "; `count jobs > 0` would be right"),
+            ("stuk", " (did you mean `stuck`?)"),
+            ("count jobs>0", " (did you mean `count jobs > 0`?)"),
             (
                 "count job > 0",
-                "word 2, 'job': the name of a queue is wanted there; `count jobs > 0`",
+                "word 2, 'job': expected the name of a queue (did you mean `count jobs > 0`",
             ),
-            ("note worker 1 = 0", "word 3, '1': the index of a notification entry is wanted there"),
-            ("count jobs", "it ends too early: '=', '<' or '>' is wanted there"),
-            ("jobs", "word 1, 'jobs': a claim, 'not' or '(' is wanted there"),
-            ("w0", "word 1, 'w0': a claim, 'not' or '(' is wanted there"),
+            ("note worker 1 = 0", "word 3, '1': expected the index of a notification entry"),
+            ("count jobs", "it ends too early: expected '=', '<' or '>'"),
+            ("jobs", "word 1, 'jobs': expected an atom, 'not' or '('"),
+            ("w0", "word 1, 'w0': expected an atom, 'not' or '('"),
             ("wakes worker", "word 1, 'wakes': this is said of a move"),
-            ("", "it ends too early: a claim, 'not' or '(' is wanted there"),
+            ("", "it ends too early: expected an atom, 'not' or '('"),
         ):
             with self.subTest(goal):
                 status, lines, errors = said(LOST, goal)
@@ -233,7 +230,7 @@ class Statuses(unittest.TestCase):
     def test_goals_that_are_joined(self) -> None:
         goal = "count jobs = 1 and not (waits worker or runs poller)"
         status, lines, errors = said(LOST, goal)
-        self.assertEqual((1, f"found: {goal}, at 5, without a surprise"), (status, errors[0]))
+        self.assertEqual((1, f"found: {goal}, at 5, without surprises"), (status, errors[0]))
         # (at the end are the tasks, and the objects of which the goal speaks)
         views = [f"show task {name}" for name in ("worker", "producer", "poller")]
         self.assertEqual(["forward 5", "show cores", *views, "show queue jobs"], lines)
@@ -241,14 +238,16 @@ class Statuses(unittest.TestCase):
     def test_two_goals(self) -> None:
         status, _, errors = said(LOST, "stuck", "failed")
         self.assertEqual(2, status)
-        self.assertIn("word 2, 'failed': 'and', 'or', ')' or the end is wanted there", errors[0])
+        self.assertIn(
+            "word 2, 'failed': expected 'and', 'or', ')' or the end of the goal", errors[0]
+        )
         # (the words of one may be apart)
         self.assertEqual(1, said(LOST, "reg", "poller", "0", "=", "1", *QUICK)[0])
 
     def test_words_that_cant_be(self) -> None:
         for words, why in (
-            ([LOST, "stuk"], "`stuck` would be right"),
-            ([LOST, "reg worker 8 = 0"], "a register is wanted there, 0 to 7"),
+            ([LOST, "stuk"], "(did you mean `stuck`?)"),
+            ([LOST, "reg worker 8 = 0"], "expected a register number, 0 to 7"),
             (["none.json", "stuck"], "cannot read none.json"),
             ([LOST, "stuck", "--part", "3/2"], "K/N with K of 1 to N"),
             ([LOST, "stuck", "--within", "0"], "a number of seconds"),
@@ -310,7 +309,7 @@ class Questions(unittest.TestCase):
         with searches.program(answer):
             status, lines, errors = said(LOST, "doomed", "reg worker 0 = 1")
         # (the goal needn't hold behind the order)
-        head = "found: doomed reg worker 0 = 1, at 1, without a surprise"
+        head = "found: doomed reg worker 0 = 1, at 1, without surprises"
         self.assertEqual((1, head, "forward 1"), (status, errors[0], lines[0]))
 
     def test_those_that_there_are(self) -> None:
@@ -351,7 +350,7 @@ class Interrupted(unittest.TestCase):
         _, errors = ran.communicate(timeout=60)
         self.assertEqual(130, ran.returncode, errors)
         self.assertRegex(errors, "none found: tick = 4294967295\nfull: not within")
-        self.assertIn("that isn't all: Ctrl-C came", errors)
+        self.assertIn("incomplete: stopped by Ctrl-C", errors)
         self.assertNotIn("Traceback", errors)
 
 

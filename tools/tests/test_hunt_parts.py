@@ -105,11 +105,11 @@ class Joined(AnswersOf):
         part = f"never, part 1 of 2\n{COUNTS}"
         for answers, why in (
             ([f"never\n{COUNTS}"], "its first line says no part of a search"),
-            (["nothing"], "'nothing' is no answer of rdreach"),
-            ([""], "is no answer"),
+            (["nothing"], "unexpected answer of the search program: 'nothing'"),
+            ([""], "unexpected answer"),
             ([part, part], "part 1 is there twice"),
             ([part, f"never, part 2 of 3\n{COUNTS}"], "in different numbers of parts"),
-            (["never, part 1 of 2"], "has no end"),
+            (["never, part 1 of 2"], "is incomplete"),
         ):
             status, lines, errors = self.join(*answers)
             self.assertEqual((2, []), (status, lines))

@@ -170,16 +170,16 @@ class Instructions(Asked):
 
     def test_how_they_are_told(self) -> None:
         status, errors = self.none(LATE, "--surprises", "0")
-        self.assertEqual("no order came to 2 instructions:", errors[2])
+        self.assertEqual("never executed (2 instructions):", errors[2])
         self.assertEqual("  a 2: add r1 1; a 3: jump 2", errors[3])
         status, errors = self.none(LATE, "--surprises", "1", "--moves", "20")
-        self.assertFalse([line for line in errors if "no order came to" in line])
+        self.assertFalse([line for line in errors if "never executed" in line])
         long = ["recv q 0", "jumpz r0 17", *(["set r1 1"] * 14), "jump 2", "end"]
         tasks = [{"name": "a", "priority": 1, "code": long}]
         queues = [{"name": "q", "length": 1, "item": 1}]
         made = {"profile": 1, "cores": 1, "queues": queues, "tasks": tasks}
         _, errors = self.none(json.dumps(made), "--exhaustive")
-        self.assertEqual("no order came to 15 instructions:", errors[2])
+        self.assertEqual("never executed (15 instructions):", errors[2])
         self.assertEqual("  a 2: set r1 1; a 3: set r1 1; a 4: set r1 1", errors[3])
         self.assertEqual(
             ["  a 11: set r1 1; a 12: set r1 1; a 13: set r1 1", "  and 3 more"], errors[6:8]
@@ -187,7 +187,7 @@ class Instructions(Asked):
 
     def test_nothing_is_named_where_one_is_found(self) -> None:
         _, _, errors = said(path("lost_item"), "reg poller 0 = 1")
-        self.assertFalse([line for line in errors if "no order came to" in line])
+        self.assertFalse([line for line in errors if "never executed" in line])
 
     def test_of_an_example(self) -> None:
         words = [path("lost_wakeup"), "failed", "--surprises", "0", "--moves", "30"]

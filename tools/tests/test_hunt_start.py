@@ -64,7 +64,7 @@ class Start(Held):
                 status, lines, errors = said(*goal, *words)
                 self.assertEqual(1, status)
                 self.assertEqual([(0, 0)], found(errors))
-                self.assertTrue(errors[1].startswith("tried:"), errors)
+                self.assertTrue(errors[1].startswith("searched:"), errors)
                 self.assertEqual(["watch reg a 1 = 0", "show watches", "show task a"], lines)
                 self.assertEqual("watches 0:holds", replayed(file, lines)[1])
 

@@ -188,39 +188,36 @@ class Structure(unittest.TestCase):
     def test_a_buffer_has_entry_0(self) -> None:
         text = HEAD.replace("notes 2", "notes 1\nstream s size 4 trigger 1")
         found = faults((text + "sread s 1 0\nif r0 & 1 goto out\nout: end\n").encode())
-        self.assertIn("needs a notification entry that its task doesn't use", found[0])
+        self.assertIn("needs a free notification entry", found[0])
 
 
 class Refused(unittest.TestCase):
     """What is refused, each with what would be right."""
 
     LINES = {
-        "if": "if TEST goto LABEL, or if TEST, and below it lines up to end: there is no test",
-        "if r0 > 3 goto x": "no instruction looks at which is more: = and != are there",
-        "if r0 <= 3 goto x": "no instruction looks at which is more: = and != are there",
-        "if r0 = r1 goto x": "no instruction compares two registers, or looks at bits that one has",
-        "if r0 & r1 goto x": "no instruction compares two registers, or looks at bits that one has",
-        "if count goto x": "count can't be looked at: r0 to r7, what it is compared with, or its"
-        " bits: r0, !r0, r0 = 7, r0 != 7, r0 & STOP",
-        "if r0 & STOP|FULL goto x": "in C this is (.. & STOP) | ..: write & (STOP | ..)",
-        "if r0 == STOP|1 goto x": "in C this is (.. = STOP) | ..: write = (STOP | ..)",
-        "if r0 & 3 == 3 goto x": "in C it would be of what stands on both its sides;"
-        " write (r0 & N) = N",
-        "if !r0 = 3 goto x": "write !(..) where all of it is turned round: ! is of r0",
-        "if r0 && r1 goto x": "one test stands in a line; more are a line each",
-        "if (r0 & 3) = 4 goto x": "the bits 0x3 are never 0x4",
-        "if (r0 = 3) = 1 goto x": "what is so or isn't is compared with 0 alone",
-        "if r0 & 0 goto x": "no bit of r0 is looked at",
-        "if (r0 = 3 goto x": "this ( isn't closed",
-        "if r0 = STP goto x": "STP is no number and no const; STOP is near",
-        "if r0 goto": "if TEST goto LABEL, or if TEST, and below it lines up to end:"
-        " goto has no place here",
-        "if r0 then": "if TEST goto LABEL, or if TEST, and below it lines up to end:"
-        " then has no place here",
-        "if r0 break": "break stands in no loop and no while",
-        "break": "break stands in no loop and no while",
-        "continue": "continue stands in no loop and no while",
-        "else": "this else belongs to no if",
+        "if": "if TEST goto LABEL, or if TEST .. end: missing test",
+        "if r0 > 3 goto x": "registers cannot be ordered (use = or !=)",
+        "if r0 <= 3 goto x": "registers cannot be ordered (use = or !=)",
+        "if r0 = r1 goto x": "a register can only be compared with or masked by a number",
+        "if r0 & r1 goto x": "a register can only be compared with or masked by a number",
+        "if count goto x": "a test must begin with r0 to r7, found 'count' (for example r0, !r0,"
+        " r0 = 7, r0 != 7 or r0 & STOP)",
+        "if r0 & STOP|FULL goto x": "in C, this means (.. & STOP) | .. (write & (STOP | ..))",
+        "if r0 == STOP|1 goto x": "in C, this means (.. = STOP) | .. (write = (STOP | ..))",
+        "if r0 & 3 == 3 goto x": "in C, this sign binds tighter than & (write (r0 & N) = N)",
+        "if !r0 = 3 goto x": "! applies to r0 only (to negate the whole test, write !(..))",
+        "if r0 && r1 goto x": "only one test is allowed per line",
+        "if (r0 & 3) = 4 goto x": "the bits 0x3 can never equal 0x4",
+        "if (r0 = 3) = 1 goto x": "the result of a test can only be compared with 0",
+        "if r0 & 0 goto x": "the mask is 0, so no bit is tested",
+        "if (r0 = 3 goto x": "this ( is not closed",
+        "if r0 = STP goto x": "'STP' is neither a number nor a const (did you mean 'STOP'?)",
+        "if r0 goto": "if TEST goto LABEL, or if TEST .. end: unexpected 'goto'",
+        "if r0 then": "if TEST goto LABEL, or if TEST .. end: unexpected 'then'",
+        "if r0 break": "break outside of loop and while",
+        "break": "break outside of loop and while",
+        "continue": "continue outside of loop and while",
+        "else": "else without if",
     }
 
     def test_lines(self) -> None:
@@ -228,7 +225,7 @@ class Refused(unittest.TestCase):
             with self.subTest(line):
                 found = faults(f"{HEAD}{line}\nx: add r1 1\nend task\n".encode())
                 self.assertEqual(f"6:{found[0].split(':')[1]}: {said}", found[0])
-                others = [it for it in found[1:] if "isn't closed" not in it]
+                others = [it for it in found[1:] if "has no end" not in it]
                 self.assertEqual([], others)
 
     def script(self, *lines: str) -> List[str]:
@@ -236,42 +233,40 @@ class Refused(unittest.TestCase):
         return [it.split(": ", 1)[1] for it in faults("\n".join([HEAD, *lines, ""]).encode())]
 
     def test_blocks(self) -> None:
+        self.assertEqual(["task t: this loop has no end"], self.script("loop", "jump 0"))
         self.assertEqual(
-            ["task t: this loop isn't closed: end is missing"], self.script("loop", "jump 0")
-        )
-        self.assertEqual(
-            ["nothing stands in the if of line 7; the task ends by: end task"],
+            ["the if of line 7 is empty (to end the task, write end task)"],
             self.script("if r0", "end", "end"),
         )
         self.assertEqual(
-            ["end closes the loop of line 7; the task ends by: end task"],
+            ["this end closes the loop of line 7 (to end the task, write end task)"],
             self.script("loop", "add r1 1", "end while", "end", "end"),
         )
         self.assertEqual(
-            ["task t: behind the end of this while nothing stands: end or jump is missing"],
+            ["task t: nothing follows this while (add end or jump after it)"],
             self.script("while r1", "add r1 -1", "end"),
         )
         self.assertEqual(
-            ["task t: behind the end of this loop nothing stands: end or jump is missing"],
+            ["task t: nothing follows this loop (add end or jump after it)"],
             self.script("loop", "if r1 break", "end"),
         )
         self.assertEqual(
-            ["else stands alone: the if stands below it, with an end of its own"],
+            ["else must stand alone (write the if on the next line, with its own end)"],
             self.script("if r0", "add r1 1", "else if r1", "add r1 1", "end", "end"),
         )
         self.assertEqual(
-            ["loop: a block has no braces: it ends with end"],
+            ["loop: blocks have no braces (they end with end)"],
             self.script("loop {", "add r1 1", "end"),
         )
 
     def test_where_nothing_is_free(self) -> None:
         used = [f"set r{it} 1" for it in range(1, 8)]
         found = self.script(*used, "if r2 = 7 goto out", "out: end")
-        said = "it needs a register that its task doesn't use, and all of r1 to r7 are used"
+        said = "this line needs a free register, but the task uses all of r1 to r7"
         self.assertEqual([f'task t, instruction 7: "if r2 = 7 goto out": {said}'], found)
         found = self.script("take 0 clear 1", "take 1 clear 1", "if r2 & 7 goto out", "out: end")
-        said = "it needs a notification entry that its task doesn't use: notes N gives each task N"
-        self.assertEqual([f'task t, instruction 2: "if r2 & 7 goto out": {said} of them'], found)
+        said = "this line needs a free notification entry (raise the number in notes N)"
+        self.assertEqual([f'task t, instruction 2: "if r2 & 7 goto out": {said}'], found)
 
     def test_hostile_tests_are_refused_and_no_more(self) -> None:
         kept = Kept(Constants(), [])
@@ -321,8 +316,8 @@ class Shown(unittest.TestCase):
 
     def test_check_says_what_bits_cost(self) -> None:
         said = [str(it) for it in made(self.TEXT).remarks]
-        cost = "6 moves, 7 where it jumps, by entry 1 and r7"
-        self.assertEqual([f"7:1: note: {cost}; r0 is another in between, and then as before"], said)
+        cost = "6 moves, or 7 if it jumps, using entry 1 and r7"
+        self.assertEqual([f"7:1: note: {cost}; r0 changes in between and is then restored"], said)
 
     def test_nothing_is_said_of_a_line_that_is_refused(self) -> None:
         used = "".join(f"    set r{number} 1\n" for number in range(1, 8))

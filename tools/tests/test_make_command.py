@@ -104,8 +104,8 @@ class Command(unittest.TestCase):
         start = 'wrong.fw:9:10: task echo, instruction 1: "recv job 0": '
         self.assertEqual(start, lines[0][: len(start)])
         wanted = [
-            'wrong.fw:10:10: task echo, instruction 2: "jump agian": there is no label agian;'
-            " again is near",
+            "wrong.fw:10:10: task echo, instruction 2: \"jump agian\": label 'agian' is not"
+            " defined (did you mean 'again'?)",
             "wrong.fw is refused as L4 Name: 2 faults, as `./rdbg check wrong.fw` says",
         ]
         self.assertEqual(wanted, lines[1:])

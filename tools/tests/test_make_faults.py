@@ -22,49 +22,55 @@ class Lines(unittest.TestCase):
     """Faults of lines that aren't instructions: text, place and message."""
 
     MISTAKES: Tuple[Tuple[str, str], ...] = (
-        ("tick", "1:1: a number is missing behind tick"),
-        ("tick 1 2", "1:8: 2 is too much"),
-        ("tick now", "1:6: now is no number and no const"),
-        ("tick -1", "1:6: -1 is no number and no const"),
-        ("tick = 2", "1:6: = is no number and no const"),
-        ("tick: 2", "1:5: there should be a number, and not :"),
-        ("configINITIAL_TICK_COUNT 2", "1:1: configINITIAL_TICK_COUNT is written tick N"),
-        ("tick 010", "1:6: 010 would be octal in C: write it without the 0 in front"),
-        ("const", "1:1: const NAME N: there is no name"),
-        ("const RX", "1:7: a number is missing behind RX"),
-        ("#define 5X 1", "1:9: 5X can't name a number: letters, digits and _ can"),
-        ("const r7 1", "1:7: r7 has a meaning already"),
-        ("const portMAX_DELAY 1", "1:7: portMAX_DELAY has a meaning already"),
-        ("const t 1", "1:7: const t has the name of a task"),
-        ("const A = 1", "1:9: write const A N without ="),
-        ("const A (1|2", "1:9: this ( isn't closed"),
-        ("const A 1)", "1:10: ) is too much"),
-        ("const A |1", "1:9: there should be a number, and not |"),
-        ("const A " + "(" * 30 + "1" + ")" * 30, "1:29: there should be a number, and not ("),
-        ("queue", "1:1: queue NAME length N item N: there is no name"),
-        ("queue length 4 item 1", "1:7: queue NAME length N item N: there is no name"),
-        ("queue q 4 1", "1:9: 4 is no key: queue NAME length N item N"),
-        ("queue q length item 1", "1:16: item is no number and no const"),
-        ("queue q length 4 length 4", "1:18: length stands twice"),
-        ("queue q length LEN item SIZE", "1:16: LEN is no number and no const"),
-        ("queue q length 1 item 1 name w", "1:25: name stands twice"),
-        ("task v priority 1 code 3", "1:19: code is no key: task NAME priority N"),
-        ("set s length 1 members (q)", "1:24: ( is no name"),
-        ("group g: x", "1:8: : is no key: group NAME"),
-        ("again: count jobs", "1:1: again stands before any task: task NAME priority N"),
-        ("count jobs", "1:1: count stands before any task: task NAME priority N"),
-        ("set r1 3", "1:1: set stands before any task: task NAME priority N"),
-        ("quue q length 4 item 1", "1:1: no line begins with quue; queue is near"),
-        ("QueueHandle_t", "1:1: no line begins with QueueHandle_t"),
-        ("xQueueCreate(4, 1)", "1:1: xQueueCreate is written queue NAME length N item N"),
-        ("xQueueReceive(q, &x, 5);", "1:1: xQueueReceive is written recv Q T"),
-        ("#include <queue.h>", "1:1: there is no #include here, and a comment would begin with //"),
-        ("  #if 0", "1:3: there is no #if here, and a comment would begin with //"),
-        ('group "g"', "1:7: group NAME: there is no name"),
-        ('group "g', "1:7: this text isn't closed: quotes are missing at its end"),
-        ("group g\u00e9", "1:8: the character U+00E9 can stand in comments and quotes alone"),
-        ("group\u00a0g", "1:6: the character U+00A0 can stand in comments and quotes alone"),
-        ("cores\r 1", "1:6: the character U+000D can stand in comments and quotes alone"),
+        ("tick", "1:1: missing number after 'tick'"),
+        ("tick 1 2", "1:8: unexpected '2'"),
+        ("tick now", "1:6: 'now' is neither a number nor a const"),
+        ("tick -1", "1:6: '-1' is neither a number nor a const"),
+        ("tick = 2", "1:6: '=' is neither a number nor a const"),
+        ("tick: 2", "1:5: expected a number, found ':'"),
+        (
+            "configINITIAL_TICK_COUNT 2",
+            "1:1: 'configINITIAL_TICK_COUNT' is not a model line (use tick N)",
+        ),
+        ("tick 010", "1:6: 010 would be octal in C (remove the leading 0)"),
+        ("const", "1:1: const NAME N: missing name"),
+        ("const RX", "1:7: missing number after 'RX'"),
+        ("#define 5X 1", "1:9: '5X' is not a valid const name (use letters, digits and _)"),
+        ("const r7 1", "1:7: 'r7' is reserved"),
+        ("const portMAX_DELAY 1", "1:7: 'portMAX_DELAY' is reserved"),
+        ("const t 1", "1:7: const 't' has the same name as a task"),
+        ("const A = 1", "1:9: unexpected '=' (write const A N)"),
+        ("const A (1|2", "1:9: this ( is not closed"),
+        ("const A 1)", "1:10: unexpected ')'"),
+        ("const A |1", "1:9: expected a number, found '|'"),
+        ("const A " + "(" * 30 + "1" + ")" * 30, "1:29: expected a number, found '('"),
+        ("queue", "1:1: queue NAME length N item N: missing name"),
+        ("queue length 4 item 1", "1:7: queue NAME length N item N: missing name"),
+        ("queue q 4 1", "1:9: unknown key '4' (expected queue NAME length N item N)"),
+        ("queue q length item 1", "1:16: 'item' is neither a number nor a const"),
+        ("queue q length 4 length 4", "1:18: duplicate key 'length'"),
+        ("queue q length LEN item SIZE", "1:16: 'LEN' is neither a number nor a const"),
+        ("queue q length 1 item 1 name w", "1:25: duplicate key 'name'"),
+        ("task v priority 1 code 3", "1:19: unknown key 'code' (expected task NAME priority N)"),
+        ("set s length 1 members (q)", "1:24: expected a name, found '('"),
+        ("group g: x", "1:8: unknown key ':' (expected group NAME)"),
+        ("again: count jobs", "1:1: 'again' must follow a task line (task NAME priority N)"),
+        ("count jobs", "1:1: 'count' must follow a task line (task NAME priority N)"),
+        ("set r1 3", "1:1: 'set' must follow a task line (task NAME priority N)"),
+        ("quue q length 4 item 1", "1:1: 'quue' does not begin a line (did you mean 'queue'?)"),
+        ("QueueHandle_t", "1:1: 'QueueHandle_t' does not begin a line"),
+        (
+            "xQueueCreate(4, 1)",
+            "1:1: 'xQueueCreate' is not a model line (use queue NAME length N item N)",
+        ),
+        ("xQueueReceive(q, &x, 5);", "1:1: 'xQueueReceive' is not an instruction (use recv Q T)"),
+        ("#include <queue.h>", "1:1: #include is not supported (begin a comment with //)"),
+        ("  #if 0", "1:3: #if is not supported (begin a comment with //)"),
+        ('group "g"', "1:7: group NAME: missing name"),
+        ('group "g', "1:7: this string has no closing quote"),
+        ("group g\u00e9", "1:8: the character U+00E9 is only allowed in comments and strings"),
+        ("group\u00a0g", "1:6: the character U+00A0 is only allowed in comments and strings"),
+        ("cores\r 1", "1:6: the character U+000D is only allowed in comments and strings"),
     )
 
     def test_one_in_the_first_line(self) -> None:
@@ -76,10 +82,10 @@ class Lines(unittest.TestCase):
     def test_what_stands_twice(self) -> None:
         text = f"const A 1\n{HEAD}a: b:\na: end\nconst A 2\ncores 2\nqueue jobs length 1 item 1\n"
         wanted = [
-            "7:1: task t: label a stands in line 6 already",
-            "8:7: const A stands in line 1 already",
-            "9:1: cores stands in line 2 already",
-            "10:7: queue jobs stands twice; the first is at 3:7",
+            "7:1: task t: label 'a' is already defined in line 6",
+            "8:7: const 'A' is already defined in line 1",
+            "9:1: 'cores' is already set in line 2",
+            "10:7: queue jobs is defined twice (first at 3:7)",
         ]
         self.assertEqual(wanted, faults(text.encode()))
 
@@ -137,7 +143,7 @@ class Lines(unittest.TestCase):
 
     def test_a_const_that_nothing_names(self) -> None:
         found = faults(b"cores A\ntask t priority 1\nend\n")
-        self.assertEqual(["1:7: A is no number and no const"], found)
+        self.assertEqual(["1:7: 'A' is neither a number nor a const"], found)
 
     def test_what_else_is_wrong_is_told(self) -> None:
         text = b"const A B\ncores A\nnotes 9\ntask t priority 1\nset r0 A\nrecv q 0\nend\n"
@@ -147,16 +153,16 @@ class Lines(unittest.TestCase):
         for content in (b"", b"\n", b"// nothing\n", b"/**/"):
             found = faults(content)
             self.assertEqual(["1:1", "1:1"], [fault[:3] for fault in found])
-            self.assertIn("lacks its key cores", found[0])
+            self.assertIn('missing key "cores"', found[0])
 
     def test_a_comment_without_end(self) -> None:
         text = f"{HEAD}end\n  /* and\nmore\n"
-        self.assertEqual(["6:3: this comment isn't closed: */ is missing"], faults(text.encode()))
+        self.assertEqual(["6:3: this comment has no closing */"], faults(text.encode()))
 
     def test_what_is_no_utf8(self) -> None:
         for content, wanted in ((b"\xff", "1:1"), ("// \u00e9\n\u00e9".encode() + b"\xc3(", "2:2")):
             byte = content[-2 if len(content) > 1 else 0]
-            said = f"{wanted}: the byte 0x{byte:02x} is no UTF-8; save the file as UTF-8"
+            said = f"{wanted}: byte 0x{byte:02x} is not UTF-8 (save the file as UTF-8)"
             self.assertEqual([said], faults(content))
 
 
@@ -164,65 +170,66 @@ class Instructions(unittest.TestCase):
     """Faults of instructions."""
 
     MISTAKES: Tuple[Tuple[str, str], ...] = (
-        ("jump agian", ":6: {}: there is no label agian; again is near"),
-        ("jump nowhere", ":6: {}: there is no label nowhere"),
-        ("gset flags RXX", ":12: {}: RXX is no number and no const; RX is near"),
-        ("gset flags RX|TX", ":15: {}: TX is no number and no const"),
-        ("gset flags BITS", ":12: {}: BITS is no number and no const"),
-        ("add r1 - 5", ":8: {}: - is no number and no const"),
-        ("add r1 -TX", ":9: {}: TX is no number and no const"),
+        ("jump agian", ":6: {}: label 'agian' is not defined (did you mean 'again'?)"),
+        ("jump nowhere", ":6: {}: label 'nowhere' is not defined"),
+        ("gset flags RXX", ":12: {}: 'RXX' is neither a number nor a const (did you mean 'RX'?)"),
+        ("gset flags RX|TX", ":15: {}: 'TX' is neither a number nor a const"),
+        ("gset flags BITS", ":12: {}: 'BITS' is neither a number nor a const"),
+        ("add r1 - 5", ":8: {}: '-' is neither a number nor a const"),
+        ("add r1 -TX", ":9: {}: 'TX' is neither a number nor a const"),
         (
             "recv jobs portMAXDELAY",
-            ":11: {}: portMAXDELAY is no number and no const; portMAX_DELAY is near",
+            ":11: {}: 'portMAXDELAY' is neither a number nor a const (did you mean 'portMAX_DELAY'?)",
         ),
         (
             "set r1 4294967296",
-            ":8: {}: 4294967296 is too large: a number is at most 4294967295, 0xffffffff",
+            ":8: {}: 4294967296 is too large (the largest number is 4294967295, 0xffffffff)",
         ),
         (
             "set r1 0x100000000",
-            ":8: {}: 0x100000000 is too large: a number is at most 4294967295, 0xffffffff",
+            ":8: {}: 0x100000000 is too large (the largest number is 4294967295, 0xffffffff)",
         ),
         (
             "set r1 1<<32",
-            ":8: {}: 1 << 32 is too large: a number is at most 4294967295, 0xffffffff",
+            ":8: {}: 1 << 32 is too large (the largest number is 4294967295, 0xffffffff)",
         ),
         (
             "data 0b1010",
-            ":6: {}: 0b1010 is no bytes: they are pairs of hexadecimal digits: write data 0a,"
-            " or for these bytes data 0x0b1010",
+            ":6: {}: '0b1010' is not a byte sequence (write data 0a for this number,"
+            " or data 0x0b1010 for these digits)",
         ),
         (
             "data 0b101",
-            ":6: {}: 0b101 is no bytes: they are pairs of hexadecimal digits: write data 05",
+            ":6: {}: '0b101' is not a byte sequence (write data 05 for this number)",
         ),
         (
             "data 01 0B1_0000_0001",
-            ":9: {}: 0B1_0000_0001 is no bytes: they are pairs of hexadecimal digits: write data"
-            " 0101",
+            ":9: {}: '0B1_0000_0001' is not a byte sequence (write data 0101 for" " this number)",
         ),
-        ("gset flags RX|BIT_3", ":15: {}: BIT_3 is no number and no const; write 8"),
+        ("gset flags RX|BIT_3", ":15: {}: 'BIT_3' is neither a number nor a const (write 8)"),
         (
             "recv(jobs, pdMS_TO_TICKS(10));",
-            ":12: {}: pdMS_TO_TICKS isn't there: times are in ticks; write how many",
+            ":12: {}: 'pdMS_TO_TICKS' is not available (write the time in ticks)",
         ),
-        ("recv jobs 5|", ":12: {}: a number is missing behind |"),
-        ("recv(jobs, 5", ":5: {}: this ( isn't closed"),
-        ("recv jobs 5)", ":12: {}: ) has no place here"),
-        ("recv jobs 5; end", ":12: {}: ; has no place here"),
-        ('recv "jobs" 5', ':6: {}: "jobs" has no place here'),
-        ("data 4", ":6: {}: 4 is no bytes: each byte has two digits"),
-        ("data 41 0x1 2", ":9: {}: 0x1 is no bytes: each byte has two digits"),
+        ("recv jobs 5|", ":12: {}: missing number after '|'"),
+        ("recv(jobs, 5", ":5: {}: this ( is not closed"),
+        ("recv jobs 5)", ":12: {}: unexpected ')'"),
+        ("recv jobs 5; end", ":12: {}: unexpected ';'"),
+        ('recv "jobs" 5', ":6: {}: unexpected '\"jobs\"'"),
+        ("data 4", ":6: {}: '4' is not a byte sequence (each byte needs two digits)"),
+        ("data 41 0x1 2", ":9: {}: '0x1' is not a byte sequence (each byte needs two digits)"),
         (
             "data RXX",
-            ":6: {}: RXX is no bytes: they are written as hexadecimal digits, two a byte,"
-            " as a text in double quotes, or as consts; RX is near",
+            ":6: {}: 'RXX' is not a byte sequence (did you mean 'RX'?)",
         ),
         (
             "data portMAX_DELAY",
-            ":6: {}: portMAX_DELAY is 4294967295, and a byte is 0 to 255",
+            ":6: {}: a byte must be 0 to 255, found 'portMAX_DELAY', which is 4294967295",
         ),
-        (r'data "a\q"', r":8: {}: the escapes are \n, \r, \t, \0, \\, \" and two digits behind \x"),
+        (
+            r'data "a\q"',
+            r":8: {}: unknown escape (use \n, \r, \t, \0, \\, \" or \x with two digits)",
+        ),
     )
     # (what is found in the tree; the messages are those of a JSON)
     PLACES: Tuple[Tuple[str, int], ...] = (
@@ -261,9 +268,9 @@ class Instructions(unittest.TestCase):
     def test_an_unknown_word_counts_as_an_instruction(self) -> None:
         text = f"{HEAD}recieve jobs\nhalt\nxQueueReceive(jobs, &x, 5);\njump 3\njump 4\n"
         wanted = [
-            "5:1: no line begins with recieve; recv is near",
-            "6:1: halt is written end",
-            "7:1: xQueueReceive is written recv Q T",
+            "5:1: 'recieve' does not begin a line (did you mean 'recv'?)",
+            "6:1: 'halt' is not an instruction (use end)",
+            "7:1: 'xQueueReceive' is not an instruction (use recv Q T)",
         ]
         self.assertEqual(wanted, faults(text.encode()))
 
@@ -278,7 +285,7 @@ class Instructions(unittest.TestCase):
 
     def test_a_line_that_is_refused_has_no_other_faults(self) -> None:
         text = f"{HEAD}recv job NEVER\njump 0\n"
-        wanted = '5:10: task t, instruction 0: "recv job NEVER": NEVER is no number and no const'
+        wanted = "5:10: task t, instruction 0: \"recv job NEVER\": 'NEVER' is neither a number nor a const"
         self.assertEqual([wanted], faults(text.encode()))
 
     def test_places_of_faults_behind_what_is_written_in_another_way(self) -> None:
@@ -310,7 +317,7 @@ class Junk(unittest.TestCase):
 
     def test_one_byte_more(self) -> None:
         with self.assertRaisesRegex(
-            Failure, "the file has 1,048,577 bytes, and rdbg reads 1,048,576"
+            Failure, "the file has 1,048,577 bytes .at most 1,048,576 are allowed"
         ):
             faults(b" " * (MOST_BYTES + 1))
         self.assertEqual(2, len(faults(b" " * MOST_BYTES)))

@@ -62,34 +62,33 @@ class Reads(unittest.TestCase):
         self.assertEqual([], faults(b"cores 1\ntask t priority 1\ninterrupt: jump interrupt\n"))
 
     LINES = {
-        "ping": "interrupt NAME after NAME apart N times N: CALL; CALL: there is no colon, and no"
-        " call behind it",
-        "ping:": "interrupt NAME after NAME apart N times N: CALL; CALL: a call is missing:"
-        " send Q HEX, notify K I N ACTION, or give NAME",
-        "ping soon: send rx 41": "soon is no key: interrupt NAME after NAME apart N times N: CALL;"
-        " CALL",
-        "ping times 0: send rx 41": "times is 0, and is to be 1 to 255, or any",
-        "ping apart 256: send rx 41": "apart is 256, and is to be 0 to 255",
+        "ping": "interrupt NAME after NAME apart N times N: CALL; CALL: missing colon and calls",
+        "ping:": "interrupt NAME after NAME apart N times N: CALL; CALL: missing call"
+        " (send Q HEX, notify K I N ACTION, or give NAME)",
+        "ping soon: send rx 41": "unknown key 'soon' (expected interrupt NAME after NAME apart N times"
+        " N: CALL; CALL)",
+        "ping times 0: send rx 41": "times must be 1 to 255, or any, found 0",
+        "ping apart 256: send rx 41": "apart must be 0 to 255, found 256",
         "ping times: send rx 41": "interrupt NAME after NAME apart N times N: CALL; CALL:"
-        " nothing stands behind times",
-        "ping after pang: send rx 41": "no interrupt pang stands above",
-        "ping: notify dps 0 1 set": "task dps isn't there; dsp is near",
-        "ping: send xr 41": "queue xr isn't there; there are rx, done, lock",
-        "ping: notify dsp 2 1 set": "there is no entry 2: each task has 2 entries, counted from 0",
-        "ping: notify dsp 0 1 sett": "sett is no action: none, bits, inc, set or setif",
-        "ping: notify dsp 0 1": "notify K I N ACTION lacks its action",
-        "ping: send rx": "send Q HEX lacks its bytes",
-        "ping: sned rx 41": "sned is no call of an interrupt; send is near: send Q HEX,"
-        " notify K I N ACTION, or give NAME",
-        "ping: vTaskNotifyGiveFromISR(dsp, &woken)": "vTaskNotifyGiveFromISR is written"
-        " notify K 0 0 inc",
-        "ping: xSemaphoreGiveFromISR(done)": "xSemaphoreGiveFromISR is written give NAME",
-        "ping: give dome": "give NAME: dome is no semaphore",
-        "ping: send done 00": "done is a semaphore: give done",
-        "ping: send lock 00": "lock has an item while it is taken, and no interrupt takes one out:"
-        " let a task of the highest priority play it, with wait for its time (docs/guides/from-c.md)",
-        "ping: give lock": "lock has an item while it is taken, and no interrupt takes one out: let"
-        " a task of the highest priority play it, with wait for its time (docs/guides/from-c.md)",
+        " missing value after times",
+        "ping after pang: send rx 41": "interrupt 'pang' is not defined above this line",
+        "ping: notify dps 0 1 set": "task 'dps' is not defined (did you mean 'dsp'?)",
+        "ping: send xr 41": "queue 'xr' is not defined (defined: rx, done, lock)",
+        "ping: notify dsp 2 1 set": "there is no notification entry 2 (each task has 2 entries, counted from 0)",
+        "ping: notify dsp 0 1 sett": "action must be none, bits, inc, set or setif, found 'sett'",
+        "ping: notify dsp 0 1": "notify K I N ACTION: missing action",
+        "ping: send rx": "send Q HEX: missing bytes",
+        "ping: sned rx 41": "unknown call 'sned' of an interrupt (did you mean 'send'?)",
+        "ping: vTaskNotifyGiveFromISR(dsp, &woken)": "'vTaskNotifyGiveFromISR' is not a model"
+        " call (use notify K 0 0 inc)",
+        "ping: xSemaphoreGiveFromISR(done)": "'xSemaphoreGiveFromISR' is not a model call (use give NAME)",
+        "ping: give dome": "give NAME: 'dome' is not a semaphore",
+        "ping: send done 00": "'done' is a semaphore (use give done)",
+        "ping: send lock 00": "an interrupt cannot give 'lock', whose queue holds an item while it"
+        " is taken (model it as a task of the highest priority that uses wait, see"
+        " docs/guides/from-c.md)",
+        "ping: give lock": "an interrupt cannot give 'lock', whose queue holds an item while it is taken"
+        " (model it as a task of the highest priority that uses wait, see docs/guides/from-c.md)",
     }
     ROUND = ("recv rx 0", "swrite s 0", "gset g 1", "xStreamBufferSendFromISR(s)")
 
@@ -120,12 +119,15 @@ class Reads(unittest.TestCase):
 
     def test_names_and_a_profile(self) -> None:
         again = TEXT + "interrupt ping: send rx 41\n"
-        self.assertEqual(["14:11: interrupt ping stands in line 7 already"], faults(again.encode()))
+        self.assertEqual(
+            ["14:11: interrupt 'ping' is already defined in line 7"], faults(again.encode())
+        )
         found = faults((TEXT + "profile 1\n").encode())
-        self.assertEqual(["14:9: profile 1 has no interrupts: profile 2 has"], found)
+        self.assertEqual(["14:9: profile 1 has no interrupts (use profile 2)"], found)
         found = self.told("ping times any: send rx 41")
         said = (
-            "ping comes any number of times: what comes after it needs times N in the line of ping"
+            "'ping' may occur any number of times, so nothing can come after it (give 'ping' a times"
+            " N)"
         )
         self.assertEqual([said], found)
 
@@ -154,9 +156,12 @@ class Searched(unittest.TestCase):
 
     def test_what_is_refused(self) -> None:
         for texts, said in (
-            (["pong"], "--isr pong: it comes after ping, so --isr ping stands before it"),
-            (["pign"], "--isr: the text names no interrupt pign; ping is near"),
-            (["ping", "ping"], "--isr ping stands twice; how often it comes its line says"),
+            (["pong"], "--isr pong: this interrupt comes after ping (put --isr ping before it)"),
+            (["pign"], "--isr: interrupt 'pign' is not defined (did you mean 'ping'?)"),
+            (
+                ["ping", "ping"],
+                "duplicate --isr ping (its line in the model sets how often it may occur)",
+            ),
         ):
             with self.assertRaises(Failure) as caught:
                 handlers(texts, application(TEXT))
@@ -232,7 +237,8 @@ class Searched(unittest.TestCase):
     def test_faults_and_consts(self) -> None:
         status, _, errors = self.reach("stuck", "-D", "BITT=3")
         self.assertEqual(
-            (2, "rdbg reach: -D BITT: no line has a const BITT; BIT is near"), (status, errors[0])
+            (2, "rdbg reach: -D BITT: const 'BITT' is not defined (did you mean 'BIT'?)"),
+            (status, errors[0]),
         )
         self.assertEqual(1, self.reach("reg dsp 2 = 1", "-DBIT=8")[0])
         pathlib.Path(self.path).write_text(TEXT.replace("nwait", "nwiat"))
@@ -358,20 +364,20 @@ class Waits(unittest.TestCase):
         )
         self.assertEqual(["never", "q"], [it.name for it in application(text + "end\n").queues])
         found = faults((text + "send never 0\nend\n").encode())
-        said = "queue never is what wait receives from, and nothing may fill it"
+        said = "queue 'never' must stay empty, because wait receives from it"
         self.assertEqual([f"6:1: {said}"], found)
         found = faults((text + "end\ninterrupt x: send never 41\n").encode())
         self.assertEqual([f"7:14: {said}"], found)
 
     REFUSED = {
-        "wait": "wait N, or wait M..N, in ticks: there is no number",
-        "wait 3..": "wait N, or wait M..N, in ticks: a number is missing at 3..",
-        "wait ..3": "wait N, or wait M..N, in ticks: a number is missing at ..3",
-        "wait 5..5": "5..5 has no end to choose: the second number is the larger one",
-        "wait 5 6": "wait N, or wait M..N, in ticks: 6 is too much",
-        "wait 1..2 6": "wait N, or wait M..N, in ticks: 6 is too much",
-        "wait 1..B": "B is no number and no const",
-        "vTaskDelay(5)": "vTaskDelay is written wait T",
+        "wait": "wait N, or wait M..N, in ticks: missing number",
+        "wait 3..": "wait N, or wait M..N, in ticks: missing number in '3..'",
+        "wait ..3": "wait N, or wait M..N, in ticks: missing number in '..3'",
+        "wait 5..5": "'5..5': the second number must be larger than the first",
+        "wait 5 6": "wait N, or wait M..N, in ticks: unexpected '6'",
+        "wait 1..2 6": "wait N, or wait M..N, in ticks: unexpected '6'",
+        "wait 1..B": "'B' is neither a number nor a const",
+        "vTaskDelay(5)": "'vTaskDelay' is not an instruction (use wait T)",
     }
 
     def test_refused(self) -> None:
@@ -380,7 +386,7 @@ class Waits(unittest.TestCase):
                 found = faults(f"cores 1\ntask t priority 1\n{line}\nend\n".encode())
                 self.assertEqual([said], [it.split(": ", 1)[1] for it in found])
         text = "cores 1\ntask t priority 1\nwait 1..3\nif r1 & 1 goto x\nx: end\n"
-        self.assertIn("needs a notification entry", faults(text.encode())[0])
+        self.assertIn("needs a free notification entry", faults(text.encode())[0])
         text = "cores 1\nprofile 1\ntask t priority 1\nwait 1..3\nend\n"
         self.assertIn("profile 1 has no interrupts", faults(text.encode())[0])
 
@@ -398,8 +404,8 @@ class Waits(unittest.TestCase):
 
     def test_what_check_says(self) -> None:
         found = source("x.fw", WAITS.encode())
-        ends = "the interrupts t0_wait to t1_wait may end it, which reach and hunt let come"
-        said = f"5:5: note: 4 moves, 3 where its end has come before; {ends}"
+        ends = "interrupts t0_wait to t1_wait may end it at any time in reach and hunt"
+        said = f"5:5: note: 4 moves, or 3 if its end came before; {ends}"
         self.assertEqual(said, str(found.remarks[0]))
 
     def test_at_the_prompt(self) -> None:

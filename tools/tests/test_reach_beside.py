@@ -137,7 +137,7 @@ class Told(unittest.TestCase):
         return [*beside.remarks(answer, found, ["button"], has_pace, "--pace")]
 
     def test_an_order_of_many_ticks(self) -> None:
-        note = "note: 6 of its 22 lines are ticks; `--pace 20..` makes them rare"
+        note = "note: 6 of the 22 lines are ticks (`--pace 20..` makes ticks rarer)"
         for steps, ticks, has_pace, wanted in (
             (16, 6, False, [note]),
             (16, 6, True, []),

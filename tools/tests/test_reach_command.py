@@ -74,7 +74,7 @@ class Answers(InFolder):
     def test_what_is_no_goal(self) -> None:
         pathlib.Path("logger.fw").write_text(LINES)
         for file, goal, why in (
-            (LOST, "asleap", "word 1, 'asleap': a claim, .* `asleep` would be right"),
+            (LOST, "asleap", "word 1, 'asleap': expected an atom, .*did you mean `asleep`"),
             (LOST, "sleeps worker", "the search through orders has no word for `sleeps`"),
             ("logger.fw", "at logger agian", "word 3, 'agian': the number of an instruction"),
         ):
@@ -141,13 +141,15 @@ class Dead(unittest.TestCase):
     def test_a_signal(self) -> None:
         self.check("the program was ended by SIGKILL")
         self.check("the program was ended by SIGABRT", end="kill -6 $$")
-        self.check("the program was ended by SIGKILL; until then: not within 12 moves", "", FAR)
+        self.check(
+            "the search program was killed by SIGKILL (known so far: not within 12 moves)", "", FAR
+        )
 
     def test_in_the_midst_of_its_answer(self) -> None:
         # (an order that is cut off leads elsewhere)
         self.check("the program was ended by SIGKILL", "found\nstep 0\n")
-        self.check("the program ended before its answer", "found\nstep 0\n", end="exit 1")
-        self.check("the program ended before its answer", end="exit 0")
+        self.check("the search program ended before it answered", "found\nstep 0\n", end="exit 1")
+        self.check("the search program ended before it answered", end="exit 0")
 
     def test_another_status(self) -> None:
         self.check("the program ended with status 101", end="exit 101")

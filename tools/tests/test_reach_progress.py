@@ -54,14 +54,14 @@ class Shown(unittest.TestCase):
         self.assertEqual("", self.terminal.seen())
         self.now += 2
         self.gauge.show(self.far)
-        far = "within 12 moves, deepest 24: 345 states, 3,394 moves a second, 1 MiB"
+        far = "searching: all runs of 12 moves, longest 24: 345 states, 3,394 moves/s, 1 MiB"
         self.assertEqual(far, self.terminal.seen())
         self.now += 0.5
         self.gauge.show(self.further)
         self.assertEqual((far, 0.5), (self.terminal.seen(), self.gauge.rest()))
         self.now += 0.5
         self.gauge.show(self.further)
-        further = "within 13 moves, deepest 26: 400 states, 1,211 moves a second, 2 MiB"
+        further = "searching: all runs of 13 moves, longest 26: 400 states, 1,211 moves/s, 2 MiB"
         self.assertEqual(further, self.terminal.seen())
 
     def test_it_is_gone_at_the_end(self) -> None:
@@ -79,14 +79,15 @@ class Shown(unittest.TestCase):
         self.now += 1
         self.gauge.show(Progress(1, None, 1, 10**9 + 2, 1, 0))
         self.assertEqual(
-            "within 1 moves, deepest 1: 1 states, 2 moves a second, 0 MiB", self.terminal.seen()
+            "searching: all runs of 1 moves, longest 1: 1 states, 2 moves/s, 0 MiB",
+            self.terminal.seen(),
         )
 
     def test_a_count_that_begins_anew(self) -> None:
         for moves in (5_000, 300):
             self.now += 1
             self.gauge.show(Progress(1, None, 1, moves, 1, 0))
-        self.assertIn(" 300 moves a second", self.terminal.seen())
+        self.assertIn(" 300 moves/s", self.terminal.seen())
 
     def test_nothing_new(self) -> None:
         for progress in (None, self.far, self.far):

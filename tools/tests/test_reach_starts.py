@@ -45,7 +45,7 @@ class Starts(unittest.TestCase):
     def test_the_message_of_the_tool(self) -> None:
         wrong = (
             (["nosuch.json", "asleep"], "rdbg reach: nosuch.json: cannot read the file\n"),
-            ([LOST, "at", "pollr", "1"], "`at poller 1` would be right\n"),
+            ([LOST, "at", "pollr", "1"], "(did you mean `at poller 1`?)\n"),
             ([LOST, "asleep", "--lots"], "rdbg reach: error: unexpected argument '--lots' found\n"),
         )
         for words, why in wrong:
@@ -126,7 +126,7 @@ class Terminal(unittest.TestCase):
     def test_how_far_it_is(self) -> None:
         with searches.program(FOUND, FAR, "sleep 2; exit 1"):
             seen = at_terminal("reach", LOST, "asleep")
-        self.assertRegex(seen, rf"\A\r{FAR_SHOWN}\d+,?\d* moves a second, 1 MiB\r +\r{FOUND}\Z")
+        self.assertRegex(seen, rf"\A\r{FAR_SHOWN}\d+,?\d* moves/s, 1 MiB\r +\r{FOUND}\Z")
 
     def test_an_engine(self) -> None:
         with searches.program("ok\n\n", "progress within 1\n", "exit 3") as it:
@@ -142,7 +142,7 @@ class Terminal(unittest.TestCase):
     def test_a_program_that_is_killed(self) -> None:
         with searches.program("", FAR, KILLED):
             seen = at_terminal("reach", LOST, "asleep")
-        why = "the program was ended by SIGKILL; until then: not within 12 moves"
+        why = "the search program was killed by SIGKILL (known so far: not within 12 moves)"
         self.assertEqual(f"rdbg reach: {why}\n", seen)
 
 

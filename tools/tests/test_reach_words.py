@@ -38,17 +38,17 @@ class Own(unittest.TestCase):
 
     def test_what_is_wrong(self) -> None:
         for line, why in (
-            ("a.json asleep -o", "-o lacks its OUT"),
-            ("a.json asleep --within", "--within lacks its SECONDS"),
-            ("a.json asleep --report", "--report lacks its FILE"),
-            ("a.json asleep -o one -otwo", "-o stands twice"),
-            ("--within 1 a.json asleep --within=2", "--within stands twice"),
-            ("a.json asleep --within 0", "--within takes a number of seconds above 0, and not '0'"),
-            ("a.json asleep --within=", "and not ''"),
-            ("a.json asleep --within -1", "and not '-1'"),
-            ("a.json asleep --within nan", "and not 'nan'"),
-            ("a.json asleep --within 1e99", "and not '1e99'"),
-            ("a.json asleep --within \u0665", "and not '\u0665'"),
+            ("a.json asleep -o", "-o needs a value (OUT)"),
+            ("a.json asleep --within", "--within needs a value (SECONDS)"),
+            ("a.json asleep --report", "--report needs a value (FILE)"),
+            ("a.json asleep -o one -otwo", "duplicate option -o"),
+            ("--within 1 a.json asleep --within=2", "duplicate option --within"),
+            ("a.json asleep --within 0", "--within takes a number of seconds above 0, found '0'"),
+            ("a.json asleep --within=", "found ''"),
+            ("a.json asleep --within -1", "found '-1'"),
+            ("a.json asleep --within nan", "found 'nan'"),
+            ("a.json asleep --within 1e99", "found '1e99'"),
+            ("a.json asleep --within \u0665", "found '\u0665'"),
         ):
             with self.subTest(line):
                 with self.assertRaises(Failure) as failed:

@@ -105,7 +105,7 @@ class Report(unittest.TestCase):
     def test_a_find(self) -> None:
         (result,) = self.results(1, str(MEETING), "asleep")
         self.assertEqual((result["kind"], result["level"]), ("fail", "error"))
-        self.assertTrue(result["message"]["text"].startswith("asleep: so behind 8 moves"))
+        self.assertTrue(result["message"]["text"].startswith("asleep: reached after 8 moves"))
         (thread,) = result["codeFlows"][0]["threadFlows"]
         steps = thread["locations"]
         self.assertEqual([it["executionOrder"] for it in steps], list(range(1, 9)))
@@ -130,7 +130,7 @@ class Report(unittest.TestCase):
     def test_a_goal_at_boot(self) -> None:
         (result,) = self.results(1, str(MEETING), "tick = 0")
         self.assertNotIn("codeFlows", result)
-        self.assertEqual(result["message"]["text"], "tick = 0: so behind 0 moves")
+        self.assertEqual(result["message"]["text"], "tick = 0: reached after 0 moves")
 
     def test_several(self) -> None:
         results = self.results(1, str(MEETING), "asleep", "--all", "3")
@@ -215,7 +215,7 @@ class JUnit(unittest.TestCase):
         case = self.hunted(1, str(MEETING), "asleep")
         self.assertEqual((case.get("classname"), case.get("name")), (str(MEETING), "asleep: none"))
         failure, output = case
-        self.assertTrue(str(failure.get("message")).startswith("asleep: so behind 8 moves"))
+        self.assertTrue(str(failure.get("message")).startswith("asleep: reached after 8 moves"))
         told = str(output.text).splitlines()
         self.assertEqual([it.split()[0] for it in told[1:9]], list(map(str, range(1, 9))))
         self.assertEqual(told[9], "lines:")

@@ -49,10 +49,10 @@ class Goals(unittest.TestCase):
         lines = (*run, "lost at worker 1", "doomed", "reach", "trim 3", "lost failed", "lost")
         *_, lost, doomed, never, _, nowhere, again = self.said(LOST, *lines)
         move = "8  core 1  poller 0 recv jobs 0 -> 1, data 41, jobs 0/1"
-        way = "`back 2` goes before it, and from there it can still come: tick; step 0"
+        way = "`back 2` returns to before this move, and this run from there reaches the goal: tick; step 0"
         self.assertEqual(f"lost at 8: {move}; {way}", lost)
-        self.assertEqual(("found: from here no order leads there", "never"), (doomed, never))
-        self.assertEqual("lost at 0: no order leads there from boot", nowhere)
+        self.assertEqual(("found: no run from here reaches the goal", "never"), (doomed, never))
+        self.assertEqual("lost at 0: no run from boot reaches the goal", nowhere)
         self.assertEqual(nowhere, again)
 
     @unittest.skipUnless(real(), "no program that searches")
@@ -62,16 +62,16 @@ class Goals(unittest.TestCase):
         )
         self.assertEqual("no: lost what? a goal, as `lost finished`, `lost at worker 1`", first)
         self.assertEqual(("ok at 6", "ok at 2 met"), (stepped, moved))
-        self.assertEqual("still: it holds here", of_way)
+        self.assertEqual("still: the goal holds here", of_way)
 
     def test_what_is_no_goal(self) -> None:
         for line, why in (
-            ("reach asleap", "no: word 1, 'asleap': a claim, .*; `asleep` would be right"),
+            ("reach asleap", "no: word 1, 'asleap': expected an atom, .*did you mean `asleep`"),
             ("reach sleeps worker", "no: the search through orders has no word for `sleeps`"),
             ("until count jobs>0 9", "no Syntax: word 2, .jobs>0.: .*; `count jobs > 0` would be"),
             ("back until count jobs == 0", "no Syntax: word 3, '==': .*; `count jobs = 0` would"),
-            ("until! asleap", "no Syntax: word 1, 'asleap': .*; `asleep` would be right"),
-            ("rc! sleeps nobody", "no Syntax: word 2, 'nobody': the name of a task is wanted"),
+            ("until! asleap", "no Syntax: word 1, 'asleap': .*did you mean `asleep`"),
+            ("rc! sleeps nobody", "no Syntax: word 2, 'nobody': expected the name of a task"),
             ("rc", "no Syntax: expected a goal, for example `rc asleep`"),
             ("fly", "no Syntax: .fly. is no word"),
         ):

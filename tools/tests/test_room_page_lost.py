@@ -38,7 +38,9 @@ class Lost(OnPage):
             self.fill("#goal", "at worker 1")
             self.click("#ask-lost")
             self.browser.until(MARKED)
-            self.said(f"lost at worker 1 -> lost at 8: {MOVE}; `back 2` goes before it")
+            self.said(
+                f"lost at worker 1 -> lost at 8: {MOVE}; `back 2` returns to before this move"
+            )
             self.assertIn("from there it can still come: tick; step 0", self.browser.text("#loss"))
             self.browser.settle()
             self.assertIn("; lost at 8", self.value(LABEL))
@@ -74,7 +76,7 @@ class Lost(OnPage):
             other.tell("step 0")
             self.at(9)
             self.click("#ask-lost")
-            self.said("lost at worker 1 -> still: it holds here")
+            self.said("lost at worker 1 -> still: the goal holds here")
             self.assertTrue(self.value(GONE))
 
     def test_the_goal_before(self) -> None:
@@ -88,7 +90,7 @@ class Lost(OnPage):
             self.said("web: back until count jobs > 0 -> ok at 7 met")
             self.at(7)
             self.click("#ask-lost")
-            self.said("lost count jobs > 0 -> still: it holds here")
+            self.said("lost count jobs > 0 -> still: the goal holds here")
             self.fill("#goal", "reg worker 0 = 1")
             self.click("#ask-reach")
             self.said("reach reg worker 0 = 1 -> found: ")
@@ -96,7 +98,7 @@ class Lost(OnPage):
             self.said("doomed reg worker 0 = 1 -> found: ")
             self.fill("#goal", "failed")
             self.click("#ask-lost")
-            self.said("lost failed -> lost at 0: no order leads there from boot")
+            self.said("lost failed -> lost at 0: no run from boot reaches the goal")
             self.assertTrue(self.value(GONE))
             self.fill("#goal", "at worker one")
             self.click("#ask-lost")

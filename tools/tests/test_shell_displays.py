@@ -54,19 +54,19 @@ class Expressions(unittest.TestCase):
     def test_what_is_wrong(self) -> None:
         with example("lost_item") as shell:
             for text, why in (
-                ("count jobs +", "it ends too early: a number is wanted there"),
-                ("count job + 1", "word 2, 'job': the name of a queue is wanted there; these are"),
+                ("count jobs +", "it ends too early: expected a number"),
+                ("count job + 1", "word 2, 'job': expected the name of a queue (defined:"),
                 ("worker.r0 + wroker.r0", "word 6, 'wroker': the name of a task"),
-                ("worker.r0 1", "word 4, '1': an operator or the end is wanted there"),
-                ("(1 + 2", "a parenthesis isn't closed"),
+                ("worker.r0 1", "word 4, '1': expected an operator or the end"),
+                ("(1 + 2", "missing ')'"),
                 (
                     "r0 + 1",
-                    "word 1, 'r0': a number is wanted there: 41, 0x29, `count QUEUE`, `TASK",
+                    "word 1, 'r0': expected a number: 41, 0x29, `count QUEUE`, `TASK",
                 ),
                 ("1 / count jobs", "it divides by 0"),
                 ("1 << 40", "it shifts by 40; 32 is the most"),
                 ("1 < 2 < 3", "word 4, '<': an operator or the end"),
-                ("reg worker 9 + 1", "word 3, '9': a register is wanted there"),
+                ("reg worker 9 + 1", "word 3, '9': expected a register number"),
                 ("asleep and", "it ends too early"),
                 ("1 ! 2", "word 2, '!'"),
                 ("(" * 40 + "1", "the expression is too long"),
@@ -113,7 +113,7 @@ class Displays(unittest.TestCase):
     def test_what_is_wrong(self) -> None:
         with example("lost_item") as shell:
             self.assertIn("nothing is displayed", said(shell, "display")[0])
-            self.assertIn("is wanted there", said(shell, "display count jobz + 1")[0])
+            self.assertIn("expected the name", said(shell, "display count jobz + 1")[0])
             self.assertEqual(said(shell, "display 4 / count jobs"), ["# it divides by 0"])
             self.assertEqual(shell.displays, {})
             said(shell, "until! count jobs > 0", "display 4 / count jobs")

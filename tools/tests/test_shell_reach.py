@@ -13,7 +13,7 @@ from tests.shell_talk import both, example, file, opened, said
 
 # A run in which the poller takes the item, and the worker waits again.
 RUN = ("until count jobs > 0 50", "step 1", "step 1", "step 1", "step 0")
-NOWHERE = "#   no order leads there from boot"
+NOWHERE = "#   no run from boot reaches the goal"
 
 
 class Reach(unittest.TestCase):
@@ -87,7 +87,7 @@ class Lost(unittest.TestCase):
                 [
                     "# lost at 8",
                     "#   8  core 1  poller 0 recv jobs 0 -> 1, data 41, jobs 0/1",
-                    "#   `goto 7` goes before it, and from there it can still come:",
+                    "#   `goto 7` returns to before this move, and this run from there reaches the goal:",
                 ],
                 answers[-5:-2],
             )
@@ -103,7 +103,9 @@ class Lost(unittest.TestCase):
             answers = said(shell, "forward 7", "lost at worker 1")
             self.assertEqual("# still", answers[1])
             said(shell, *(it.lstrip("# ") for it in answers[2:]))
-            self.assertEqual(["# still", "#   it holds here"], said(shell, "lost at worker 1"))
+            self.assertEqual(
+                ["# still", "#   the goal holds here"], said(shell, "lost at worker 1")
+            )
 
     def test_the_goal_before(self) -> None:
         with example("lost_item") as shell:
@@ -130,7 +132,7 @@ class Lost(unittest.TestCase):
             self.assertEqual("# found", answers[0])
             said(shell, *(it.lstrip("# ") for it in answers[1:]))
             self.assertEqual("# never", said(shell, "reach at worker 1")[0])
-            here = ["# found", "#   from here no order leads there"]
+            here = ["# found", "#   no run from here reaches the goal"]
             self.assertEqual(here, said(shell, "doomed at worker 1"))
         with example("stolen_answer_mended") as shell:
             self.assertEqual("# never", said(shell, "doomed ended client")[0])
@@ -144,7 +146,7 @@ class Play(unittest.TestCase):
             self.assertIn("`reach`, `lost` or `doomed` answered", said(shell, "play")[0])
             said(shell, "forward 2", "reach reg poller 0 = 1")
             said(shell, "play")
-            self.assertEqual(["# still", "#   it holds here"], said(shell, "lost")[1:])
+            self.assertEqual(["# still", "#   the goal holds here"], said(shell, "lost")[1:])
             self.assertIn("`reach`, `lost` or `doomed` answered", said(shell, "play")[0])
 
     def test_it_begins_where_it_was_asked(self) -> None:

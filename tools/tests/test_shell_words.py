@@ -298,7 +298,7 @@ class Moves(unittest.TestCase):
             for line in ("until! count job > 0", "rc! reg worker 9 = 1"):
                 output, hints = both(shell, line)
                 self.assertEqual((len(output), hints), (1, []))
-                self.assertRegex(output[0], "`count jobs > 0` would be right|a register is wanted")
+                self.assertRegex(output[0], "did you mean `count jobs > 0`|expected a register")
 
 
 class Help(unittest.TestCase):

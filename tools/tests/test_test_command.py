@@ -109,7 +109,7 @@ class Answers(InFolder):
     def test_a_goal_that_holds_at_the_start(self) -> None:
         status, output, errors = self.try_all({**FOUND, "goal": "tick = 0", "expect": "never"})
         self.assertEqual((1, []), (status, errors), output)
-        self.assertIn("       found: tick = 0, at 0, without a surprise", output)
+        self.assertIn("       found: tick = 0, at 0, without surprises", output)
 
     def test_the_time_is_up(self) -> None:
         late = {"file": "slow.json", "goal": "tick = 9999999", "expect": "never", "within": 0.2}
@@ -119,7 +119,7 @@ class Answers(InFolder):
         self.assertRegex(
             output[0], "^wrong  slow.json: reach tick = 9999999: never was expected; full"
         )
-        self.assertIn("       that isn't all: the time was up", output)
+        self.assertIn("       incomplete: the time limit was reached", output)
 
     def test_refused_by_the_program(self) -> None:
         refused = {**FOUND, "from": "none.commands"}
@@ -175,18 +175,18 @@ class Refused(InFolder):
 
     def test_keys_and_values(self) -> None:
         changes: Tuple[Tuple[Dict[str, Any], str], ...] = (
-            ({"expct": "never"}, 'case 1: "expct" is none of its keys: expect?'),
-            ({"expect": "fond"}, "case 1: expect is to be the first line of an answer, or its"),
-            ({"expect": "not within many"}, "case 1: expect is to be the first line"),
-            ({"question": "hunt"}, "case 1: question is to be one of reach, lost, doomed"),
-            ({"goal": ""}, "case 1: goal is to be a text"),
-            ({"goal": 7}, "case 1: goal is to be a text"),
-            ({"isr": "ring"}, "case 1: isr is to be a list of texts"),
-            ({"consts": ["N"]}, "case 1: consts is to be a list of consts: NAME=N"),
-            ({"pace": "4"}, "case 1: pace is to be a text: a pace is M..N, M.. or ..N"),
-            ({"surprises": 256}, "case 1: surprises is to be a number, 0 to 255"),
-            ({"moves": -1}, "case 1: moves is to be a number, 0 to 1,000,000,000"),
-            ({"within": 0}, "case 1: within is to be a number of seconds above 0"),
+            ({"expct": "never"}, 'case 1: unknown key "expct" (did you mean "expect"?)'),
+            ({"expect": "fond"}, "case 1: expect must be the first line of an answer or its"),
+            ({"expect": "not within many"}, "case 1: expect must be the first line"),
+            ({"question": "hunt"}, "case 1: question must be one of reach, lost, doomed"),
+            ({"goal": ""}, "case 1: goal must be a string"),
+            ({"goal": 7}, "case 1: goal must be a string"),
+            ({"isr": "ring"}, "case 1: isr must be a list of strings"),
+            ({"consts": ["N"]}, "case 1: consts must be a list of consts: NAME=N"),
+            ({"pace": "4"}, "case 1: pace must be a string: a pace is M..N, M.. or ..N"),
+            ({"surprises": 256}, "case 1: surprises must be a number from 0 to 255"),
+            ({"moves": -1}, "case 1: moves must be a number from 0 to 1,000,000,000"),
+            ({"within": 0}, "case 1: within must be a number of seconds above 0"),
         )
         for change, wanted in changes:
             found = self.faults({**NEVER, **change})
@@ -196,7 +196,7 @@ class Refused(InFolder):
     def test_what_is_lacking(self) -> None:
         found = self.faults({"file": MENDED}, 7)
         self.assertEqual("case 1 lacks goal: the goal (docs/REACHING.md)", found[0])
-        self.assertEqual("case 2 is the number 7, and is to be an object", found[2])
+        self.assertEqual("case 2 must be an object, found the number 7", found[2])
         self.assertEqual(3, len(found))
 
     def test_files_goals_and_interrupts(self) -> None:
@@ -222,10 +222,10 @@ class Refused(InFolder):
             ("{", "1:2: "),
             ("[]", "1:1: the file is a list, and is to be an object"),
             ("{}", '1:1: the file lacks "cases", its list of cases'),
-            ('{"case": []}', '1:2: the file: "case" is none of its keys: cases?'),
+            ('{"case": []}', '1:2: the file: unknown key "case" (did you mean "cases"?)'),
             ('{"cases": []}', "1:11: cases is an empty list, and is to be a list of cases"),
             ('{"cases": 7}', "1:11: cases is the number 7, and is to be a list of cases"),
-            ('{"cases": [], "cases": []}', "1:15: the file: cases stands twice"),
+            ('{"cases": [], "cases": []}', '1:15: the file: duplicate key "cases"'),
         ):
             path = self.written("goals.json", text)
             status, output, errors = tested(self.folder)

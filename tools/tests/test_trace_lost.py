@@ -7,7 +7,7 @@ from tests.searches import real
 from tests.test_trace_rows import ROWS, Traced
 
 MOVE = "8  core 1  poller 0 recv jobs 0 -> 1, data 41, jobs 0/1"
-SAID = f"lost at 8: {MOVE}; `back 2` goes before it, and from there it can still come: tick; step 0"
+SAID = f"lost at 8: {MOVE}; `back 2` returns to before this move, and this run from there reaches the goal: tick; step 0"
 
 
 @unittest.skipUnless(real(), "no program that searches")
@@ -40,14 +40,14 @@ class Rows(Traced):
         _, lines, _ = self.traced(RUN[:3], "--lost", "at worker 1", "--from", "7")
         self.assertEqual([ROWS[6], "still: tick; step 0"], lines[1:])
         _, lines, _ = self.traced(RUN, "--lost", "failed", "--from", "9")
-        nowhere = "lost at 0: no order leads there from boot"
+        nowhere = "lost at 0: no run from boot reaches the goal"
         self.assertEqual([ROWS[8], nowhere], lines[1:])
         _, lines, _ = self.traced(RUN, "--lost", "waits worker", "--from", "9")
-        self.assertEqual([ROWS[8], "still: it holds here"], lines[1:])
+        self.assertEqual([ROWS[8], "still: the goal holds here"], lines[1:])
 
     def test_what_cant_be_asked(self) -> None:
         for words, why in (
-            (("--lost", "faild"), "--lost: word 1, 'faild': .*; `failed` would be right"),
+            (("--lost", "faild"), "--lost: word 1, 'faild': .* .did you mean `failed`"),
             (("--lost", "sleeps worker"), "--lost: the search through orders has no word"),
             (("--lost", "failed", "--events", "x"), "--lost is for rows or --page of a run that"),
             (("--ask", "lost faild"), "--lost: word 1, 'faild'"),

@@ -109,7 +109,7 @@ class Rows(Traced):
         self.assertTrue(1 < len(rows) < len(ROWS) + 1, rows)
         self.assertEqual([HEAD, *ROWS], self.traced(RUN, "--when", "failed or not failed")[1])
         status, rows, errors = self.traced(RUN, "--when", "runs wrker")
-        why = "word 2, 'wrker': the name of a task is wanted there; `runs worker` would be right"
+        why = "word 2, 'wrker': expected the name of a task (did you mean `runs worker`?)"
         self.assertEqual((2, [], [f"rdbg trace: --when: {why}"]), (status, rows, errors))
 
     def test_edits_are_rows(self) -> None:

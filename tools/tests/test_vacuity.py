@@ -246,7 +246,7 @@ class Cases(InFolder):
             )
         )
         self.assertEqual((2, []), (status, output))
-        self.assertIn("vacuous is to be true or false", errors[0])
+        self.assertIn("vacuous must be true or false", errors[0])
 
 
 if __name__ == "__main__":

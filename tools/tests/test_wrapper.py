@@ -70,7 +70,7 @@ class Terminal(unittest.TestCase):
             seen = at_terminal("run", "--app", file.name)
         self.assertIn("rdbg: application refused: L5 Instr\n", seen)
         self.assertIn(f"{file.name}:6:", seen)
-        self.assertIn("lacks its block time", seen)
+        self.assertIn("missing block time", seen)
 
     def test_a_text_in_lines(self) -> None:
         with tempfile.NamedTemporaryFile("w", suffix=".fw") as file:

@@ -25,7 +25,6 @@ C_NUMBERS = (
     (re.compile(r"(?i)0b([01_']{1,64})"), 2),
 )
 BINARY = re.compile(r"0[bB][01][01_']*")
-PAIRS = "they are pairs of hexadecimal digits"
 SHIFT = re.compile(rf"(?i)\(?1{SUFFIX}<<([0-9]{{1,2}}){SUFFIX}\)?|BIT_?([0-9]{{1,2}})")
 
 

@@ -16,12 +16,12 @@ BREAK, CONTINUE = "break", "continue"
 GOTO = ("goto", "jump")
 TASK_ENDS, JUMP = ("end", "task"), ("jump {target}",)
 WORDS = (LOOP, WHILE, IF, ELSE, BREAK, CONTINUE)
-NO_BRACES = "a block has no braces: it ends with end"
+NO_BRACES = "blocks have no braces (they end with end)"
 # How a line is written that is one of these.
 FORMS = {
     LOOP: "loop",
     WHILE: "while TEST",
-    IF: "if TEST goto LABEL, or if TEST, and below it lines up to end",
+    IF: "if TEST goto LABEL, or if TEST .. end",
     ELSE: "else",
     BREAK: "break",
     CONTINUE: "continue",
@@ -95,20 +95,20 @@ class Blocks:
         """Refuses blocks that are open at the end, and those behind which nothing stands."""
         for block in self._open:
             if not block.is_refused:
-                message = f"this {block.word.text} isn't closed: end is missing"
+                message = f"this {block.word.text} has no end"
                 self._script.refuse(block.word, message)
             block.put(self._script.length)
         for block in () if self._open else self._closed:
             if block.behind.is_used and block.behind.at == self._script.length:
                 word = block.word.text
-                message = f"behind the end of this {word} nothing stands: end or jump is missing"
+                message = f"nothing follows this {word} (add end or jump after it)"
                 self._script.refuse(block.word, message)
         self._open = []
 
-    def _end_of_line(self, word: str, behind: Sequence[Token], why: str = "is too much") -> None:
+    def _end_of_line(self, word: str, behind: Sequence[Token], what: str = "unexpected") -> None:
         """Refuses what stands behind the end of a line with this first word."""
         if behind:
-            said = NO_BRACES if behind[0].text == "{" else f"{shown(behind[0].text)} {why}"
+            said = NO_BRACES if behind[0].text == "{" else f"{what} '{shown(behind[0].text)}'"
             raise Refusal(behind[0].place, f"{FORMS.get(word, word)}: {said}")
 
     def _alone(self, tokens: Sequence[Token]) -> None:
@@ -141,12 +141,12 @@ class Blocks:
         elif rest and rest[0].text in (BREAK, CONTINUE) and len(rest) == 1:
             self._script.add(tokens, *test.jump(), self._of_loop(rest[0]))
         else:
-            self._end_of_line(IF, (rest or tokens)[-1:], "has no place here")
+            self._end_of_line(IF, (rest or tokens)[-1:])
 
     def _test(self, tokens: Sequence[Token]) -> Tuple[Test, Sequence[Token]]:
         """The test behind the first word of a line, and what stands behind it."""
         if len(tokens) < 2:
-            raise Refusal(tokens[0].place, f"{FORMS[tokens[0].text]}: there is no test")
+            raise Refusal(tokens[0].place, f"{FORMS[tokens[0].text]}: missing test")
         tests = Tests([*split(tokens[1:])], self._script.kept)
         return tests.test(), tests.tokens[tests.at :]
 
@@ -154,7 +154,7 @@ class Blocks:
         """Where `break` or `continue` goes on."""
         loops = [block for block in self._open if block.is_loop]
         if not loops:
-            raise Refusal(word.place, f"{word.text} stands in no loop and no while")
+            raise Refusal(word.place, f"{word.text} outside of loop and while")
         return loops[-1].behind if word.text == BREAK else Mark(loops[-1].head)
 
     def _leave(self, tokens: Sequence[Token]) -> None:
@@ -163,12 +163,12 @@ class Blocks:
 
     def _else(self, tokens: Sequence[Token]) -> None:
         if tokens[1:] and tokens[1].text == IF:
-            message = "else stands alone: the if stands below it, with an end of its own"
+            message = "else must stand alone (write the if on the next line, with its own end)"
             raise Refusal(tokens[1].place, message)
         self._alone(tokens)
         block = self._open[-1] if self._open else None
         if block is None or block.otherwise is None:
-            raise Refusal(tokens[0].place, "this else belongs to no if")
+            raise Refusal(tokens[0].place, "else without if")
         self._check_lines(block, tokens[0])
         self._script.add(tokens, JUMP, target=block.behind)
         block.inner = block.otherwise.at = self._script.length
@@ -177,8 +177,8 @@ class Blocks:
     def _end(self, tokens: Sequence[Token]) -> None:
         block = self._open[-1]
         if len(tokens) > 1 and tokens[1].text != block.word.text:
-            message = f"end closes the {block.word.text} of line {block.word.place.line}"
-            raise Refusal(tokens[1].place, f"{message}; the task ends by: end task")
+            message = f"this end closes the {block.word.text} of line {block.word.place.line}"
+            raise Refusal(tokens[1].place, f"{message} (to end the task, write end task)")
         self._alone(tokens[1:] if len(tokens) > 1 else tokens)
         self._open.pop()
         if block.is_loop:
@@ -190,8 +190,8 @@ class Blocks:
     def _check_lines(self, block: Block, end: Token) -> None:
         """Refuses an `if` without a line in it, whose `end` was meant to end the task."""
         if block.inner == self._script.length and not block.is_loop:
-            message = f"nothing stands in the if of line {block.word.place.line}"
-            raise Refusal(end.place, f"{message}; the task ends by: end task")
+            message = f"the if of line {block.word.place.line} is empty"
+            raise Refusal(end.place, f"{message} (to end the task, write end task)")
 
 
 READERS: Dict[str, Callable[[Blocks, Sequence[Token]], None]] = {

@@ -18,7 +18,7 @@ PIECE = r"==|!=|<=|>=|&&|[=!<>&]|[^=!<>&]+"
 NOT, EQUAL, UNEQUAL, BITS = ("!", "not"), ("=", "=="), ("!=",), ("&",)
 ORDERED, JOINED = ("<", ">", "<=", ">="), ("&&", "||", "|", "and", "or")
 BEHIND = (*EQUAL, *UNEQUAL, *BITS, *ORDERED, *JOINED)
-ONE_TEST = "one test stands in a line; more are a line each"
+ONE_TEST = "only one test is allowed per line"
 # (parentheses within each other)
 DEEPEST = 20
 # How many instructions look at bits, before it is known whether they are there.
@@ -28,7 +28,7 @@ LOOKS_AT_BITS = (
     "vclear {{own}} {{entry}} {others}",
     "take {{entry}} clear 0",
 )
-ONE_OF = "r0 to r7, what it is compared with, or its bits: r0, !r0, r0 = 7, r0 != 7, r0 & STOP"
+ONE_OF = "for example r0, !r0, r0 = 7, r0 != 7 or r0 & STOP"
 
 
 # Instructions that jump to their target or go on behind them, and what they cost in words.
@@ -36,9 +36,9 @@ Jump = Tuple[Tuple[str, ...], str]
 
 
 def cost(goes_on: int, jumps: int) -> str:
-    """The moves until they have gone on, and have jumped: `6 moves, 7 where it jumps`."""
+    """Returns the cost in moves without and with the jump: `6 moves, or 7 if it jumps`."""
     moves = counted(goes_on, "move")
-    return moves if goes_on == jumps else f"{moves}, {jumps} where it jumps"
+    return moves if goes_on == jumps else f"{moves}, or {jumps} if it jumps"
 
 
 class Test(NamedTuple):
@@ -99,7 +99,9 @@ class Tests(Numbers):
             turns += 1
         if turns:
             found = self._plain(depth)
-            self._no_more(f"write !(..) where all of it is turned round: ! is of {found.register}")
+            self._no_more(
+                f"! applies to {found.register} only (to negate the whole test, write !(..))"
+            )
         else:
             found = self._compared(self._plain(depth), self.at)
         return found.turned() if turns % 2 else found
@@ -118,15 +120,18 @@ class Tests(Numbers):
         """A register, or a test in parentheses."""
         token = self.next()
         if token is None:
-            raise Refusal(self._last().place, f"a register is missing: {ONE_OF}")
+            raise Refusal(self._last().place, f"missing register ({ONE_OF})")
         self.at += 1
         if token.text == "(" and depth < DEEPEST:
             found = self.test(depth + 1)
             if not self.is_next(")"):
-                raise Refusal(token.place, "this ( isn't closed")
+                raise Refusal(token.place, "this ( is not closed")
             return found
         if not re.fullmatch(REGISTER, token.text):
-            raise Refusal(token.place, f"{shown(token.text)} can't be looked at: {ONE_OF}")
+            raise Refusal(
+                token.place,
+                f"a test must begin with r0 to r7, found '{shown(token.text)}' ({ONE_OF})",
+            )
         return Test(token.text, 0, is_turned=True)
 
     def _compared(self, left: Test, behind: int) -> Test:
@@ -136,8 +141,8 @@ class Tests(Numbers):
         if is_register and not is_closed and self.is_next(*BITS):
             left = left._replace(mask=self._number(BITS[0]))
             if not left.mask:
-                raise Refusal(self._last().place, f"no bit of {left.register} is looked at")
-            self._no_more("in C it would be of what stands on both its sides; write (r0 & N) = N")
+                raise Refusal(self._last().place, "the mask is 0, so no bit is tested")
+            self._no_more("in C, this sign binds tighter than & (write (r0 & N) = N)")
             return left
         if self.is_next(*EQUAL):
             found = self._equal(left)
@@ -157,27 +162,27 @@ class Tests(Numbers):
         if (left.number, left.is_turned) != (0, True):
             if not number:
                 return left.turned()
-            raise Refusal(self._last().place, "what is so or isn't is compared with 0 alone")
+            raise Refusal(self._last().place, "the result of a test can only be compared with 0")
         if left.mask is not None and number & ~left.mask and token is not None:
-            raise Refusal(token.place, f"the bits {left.mask:#x} are never {number:#x}")
+            raise Refusal(token.place, f"the bits {left.mask:#x} can never equal {number:#x}")
         return left._replace(number=number, is_turned=False)
 
     def _number(self, sign: str) -> int:
         """The number behind a sign. A `|` behind it would join more in C, and is refused."""
         token = self.next()
         if token is not None and re.fullmatch(REGISTER, token.text):
-            message = "no instruction compares two registers, or looks at bits that one has"
+            message = "a register can only be compared with or masked by a number"
             raise Refusal(token.place, message)
         value = self.below_0()
         value = self.shifted() if value is None else value
         behind = self.next()
         if token is not None and behind is not None and behind.text == "|":
             what = f"(.. {sign} {shown(token.text)}) | .."
-            message = f"in C this is {what}: write {sign} ({shown(token.text)} | ..)"
+            message = f"in C, this means {what} (write {sign} ({shown(token.text)} | ..))"
             raise Refusal(behind.place, message)
         return value
 
     def _no_order(self) -> None:
         """Refuses signs of an order."""
-        self._no_more("no instruction looks at which is more: = and != are there", ORDERED)
+        self._no_more("registers cannot be ordered (use = or !=)", ORDERED)
         self._no_more(ONE_TEST, JOINED)

@@ -109,11 +109,10 @@ class Line:
     def lacks(self, spare: Spare) -> str:
         """What there is none of that it needs; empty where there is all."""
         if self.needs("{spare}") and spare.register is None:
-            return "a register that its task doesn't use, and all of r1 to r7 are used"
+            return "a free register, but the task uses all of r1 to r7"
         lacks_entry = self.needs("{entry}") and spare.entry is None
         if lacks_entry or (self.needs("{ending}") and spare.ending is None):
-            entry = "a notification entry that its task doesn't use"
-            return f"{entry}: notes N gives each task N of them"
+            return "a free notification entry (raise the number in notes N)"
         return ""
 
     def nodes(self, own: str, spare: Spare, at: int) -> Iterator[Node]:
@@ -170,11 +169,11 @@ class Script:
     def label(self, token: Token) -> None:
         """Names the next instruction. Raises `Refusal` where this can't be its name."""
         if not NAME.fullmatch(token.text):
-            message = f"{shown(token.text)} can't be a label: letters, digits and _ can"
+            message = f"'{shown(token.text)}' is not a valid label (use letters, digits and _)"
             raise Refusal(token.place, message)
         first, _ = self._labels.setdefault(token.text, (token, self.length))
         if first is not token:
-            message = f"label {shown(token.text)} stands in line {first.place.line} already"
+            message = f"label '{shown(token.text)}' is already defined in line {first.place.line}"
             raise Refusal(token.place, f"{self.task}: {message}")
 
     def refuse(self, token: Token, message: str) -> None:
@@ -184,7 +183,7 @@ class Script:
     def _add(self, line: Line) -> None:
         """Keeps a line. Raises `Stop` where there are far too many instructions."""
         if self.length >= MOST_READ:
-            message = f"{self.task} has {MOST_READ} instructions up to here; the rest isn't read"
+            message = f"{self.task} has more than {MOST_READ} instructions; the rest of the file is skipped"
             raise Stop(line.tokens[0].place, message, "L3 Limit")
         self._lines.append((self.length, line))
         self.length += line.length
@@ -296,7 +295,7 @@ class Script:
         self.blocks.close_all()
         for token, at in self._labels.values():
             if at == self.length:
-                self.refuse(token, f"no instruction stands behind label {shown(token.text)}")
+                self.refuse(token, f"no instruction follows label '{shown(token.text)}'")
         self._lines = [(at, self._with_numbers(line, at)) for at, line in self._lines]
 
     def check_spare(self) -> None:
@@ -304,7 +303,7 @@ class Script:
         for at, line in self._lines:
             lacks = line.lacks(self.spare)
             if lacks:
-                refusal = Refusal(line.tokens[0].place, f"it needs {lacks}")
+                refusal = Refusal(line.tokens[0].place, f"this line needs {lacks}")
                 self.refusals.append(self._told(refusal, at, line.tokens))
 
     def remarks(self, names: Sequence[str]) -> Iterator[Fault]:
@@ -317,7 +316,7 @@ class Script:
                 yield Fault(line.tokens[0].place, "", waits.remark(line.cost, ends))
             if line.needs("{entry}"):
                 by = f"entry {self.spare.entry} and {self.spare.register}"
-                text = f"note: {line.cost}, by {by}; r0 is another in between, and then as before"
+                text = f"note: {line.cost}, using {by}; r0 changes in between and is then restored"
                 yield Fault(line.tokens[0].place, "", text)
 
     def nodes(self, own: str) -> Iterator[Node]:
@@ -346,8 +345,8 @@ class Script:
         if name in self._labels:
             return Operand(str(self._labels[name][1]), label.place, spelled=name)
         near = near_to(name, self._labels)
-        hint = f"; a label has a colon: {name}:" if name in WORDS else near
-        message = f"there is no label {shown(name)}{hint}"
+        hint = f" (a label needs a colon: {name}:)" if name in WORDS else near
+        message = f"label '{shown(name)}' is not defined{hint}"
         self.refusals.append(self._told(Refusal(label.place, message, "L5 Instr"), index, tokens))
         return label
 

@@ -14,7 +14,7 @@ WORD = "interrupt"
 FORM = "interrupt NAME after NAME apart N times N: CALL; CALL"
 COLON, SEMICOLON, ANY_TIMES = ":", ";", "any"
 CALLS = "send Q HEX, notify K I N ACTION, or give NAME"
-ROUND = "let a task of the highest priority play it, with wait for its time (docs/guides/from-c.md)"
+ROUND = "model it as a task of the highest priority that uses wait, see docs/guides/from-c.md"
 NOTIFY, SEND = "notify", "send"
 KEYS = AFTER, APART, TIMES = "after", "apart", "times"
 # The operands of each call, and how they are read.
@@ -64,15 +64,17 @@ class InterruptLine:
         """All of it. Raises `Refusal` where it is wrong."""
         texts = [token.text for token in self._tokens]
         if COLON not in texts:
-            message = f"{FORM}: there is no colon, and no call behind it"
+            message = f"{FORM}: missing colon and calls"
             raise Refusal(self._tokens[-1].place, message)
         colon = texts.index(COLON)
         head = self._tokens[1:colon]
         if head and head[0].text == NO_INTERRUPT:
-            message = f"{NO_INTERRUPT} is what leaves interrupts out, and the name of none"
+            message = (
+                f"an interrupt cannot be named '{NO_INTERRUPT}', which stands for no interrupts"
+            )
             raise Refusal(head[0].place, message)
         if not head or not NAME.fullmatch(head[0].text):
-            raise Refusal(self._tokens[0].place, f"{FORM}: there is no name")
+            raise Refusal(self._tokens[0].place, f"{FORM}: missing name")
         found = self._keys(Read(head[0]), Operands(head[1:], self._kept))
         return found._replace(calls=tuple(self._calls(self._tokens[colon:])))
 
@@ -80,9 +82,9 @@ class InterruptLine:
         """It with what is said of when it comes."""
         for token in reader.each():
             if token.text not in KEYS:
-                raise Refusal(token.place, f"{shown(token.text)} is no key: {FORM}")
+                raise Refusal(token.place, f"unknown key '{shown(token.text)}' (expected {FORM})")
             if reader.next() is None:
-                raise Refusal(token.place, f"{FORM}: nothing stands behind {token.text}")
+                raise Refusal(token.place, f"{FORM}: missing value after {token.text}")
             if token.text == AFTER:
                 reader.word()
                 it = it._replace(after=reader.tokens[reader.at - 1])
@@ -99,7 +101,7 @@ class InterruptLine:
         if token is None or least <= value <= most:
             return value
         limits = f"{least} to {most}{', or any' if key == TIMES else ''}"
-        self._kept.refuse(token.place, f"{key} is {value}, and is to be {limits}")
+        self._kept.refuse(token.place, f"{key} must be {limits}, found {value}")
         return least
 
     def _calls(self, tokens: Sequence[Token]) -> Iterator[Call]:
@@ -110,7 +112,7 @@ class InterruptLine:
                 part.append(token)
                 continue
             if not part:
-                raise Refusal(tokens[0].place, f"{FORM}: a call is missing: {CALLS}")
+                raise Refusal(tokens[0].place, f"{FORM}: missing call ({CALLS})")
             plain = [part[0], *without_parentheses(part[1:])]
             yield Call(tuple(self._call(plain)), tuple(plain))
             part = []
@@ -126,13 +128,13 @@ class InterruptLine:
         found, form = [word], f"{word} {' '.join(OPERANDS[word])}"
         for symbol, read in OPERANDS[word].items():
             if reader.next() is None:
-                raise Refusal(tokens[0].place, f"{form} lacks its {KIND_OF[symbol].noun}")
+                raise Refusal(tokens[0].place, f"{form}: missing {KIND_OF[symbol].noun}")
             found.append(read(reader).text)
         reader.end(form)
         if word == SEND and found[1] in self._semaphores:
             self._give([tokens[0], tokens[1]])
             word = self._semaphores[found[1]].word.text
-            raise Refusal(tokens[1].place, f"{found[1]} is a {word}: give {found[1]}")
+            raise Refusal(tokens[1].place, f"'{found[1]}' is a {word} (use give {found[1]})")
         return found
 
     def _give(self, tokens: Sequence[Token]) -> List[str]:
@@ -140,11 +142,17 @@ class InterruptLine:
         name = tokens[1].text if tokens[1:] else ""
         it = self._semaphores.get(name)
         if it is None or len(tokens) > 2:
-            message = f"give NAME: {shown(name) or 'nothing'} is no semaphore"
+            message = (
+                f"give NAME: '{shown(name)}' is not a semaphore"
+                if name
+                else "give NAME: missing name"
+            )
             raise Refusal(tokens[-1].place, message)
         if it.is_given:
-            message = f"{name} has an item while it is taken, and no interrupt takes one out"
-            raise Refusal(tokens[1].place, f"{message}: {ROUND}")
+            message = (
+                f"an interrupt cannot give '{name}', whose queue holds an item while it is taken"
+            )
+            raise Refusal(tokens[1].place, f"{message} ({ROUND})")
         return [SEND, name, "00"]
 
 
@@ -153,12 +161,13 @@ def why_no_call(word: str) -> str:
     name = called(word)
     plain = name[: -len("FromISR")] if name.endswith("FromISR") else name
     if plain.lower() in FROM_ISR:
-        return f"{name} is written {FROM_ISR[plain.lower()][len('isr ') :]}"
+        return f"'{name}' is not a model call (use {FROM_ISR[plain.lower()][len('isr ') :]})"
     if plain.lower() == "xsemaphoregive":
-        return f"{name} is written give NAME"
+        return f"'{name}' is not a model call (use give NAME)"
     if word in FORM_OF or plain != name:
-        return f"no interrupt makes {shown(name)} here, which makes {CALLS}: {ROUND}"
-    return f"{shown(word)} is no call of an interrupt{near_to(word, (NOTIFY, SEND, GIVE))}: {CALLS}"
+        return f"an interrupt cannot call '{shown(name)}', only {CALLS} ({ROUND})"
+    near = near_to(word, (NOTIFY, SEND, GIVE))
+    return f"unknown call '{shown(word)}' of an interrupt{near or f' ({CALLS})'}"
 
 
 def faults_of(
@@ -169,19 +178,23 @@ def faults_of(
     named = {other.name.text: other for other in reversed(above)}
     if it.name.text in named:
         line = named[it.name.text].name.place.line
-        yield Refusal(it.name.place, f"interrupt {it.name.text} stands in line {line} already")
+        yield Refusal(
+            it.name.place, f"interrupt '{it.name.text}' is already defined in line {line}"
+        )
     after = it.after.text if it.after else ""
     other = named.get(after)
     if it.after is not None and other is None and after not in refused:
-        message = f"no interrupt {shown(after)} stands above{near_to(after, named)}"
+        message = (
+            f"interrupt '{shown(after)}' is not defined above this line{near_to(after, named)}"
+        )
         yield Refusal(it.after.place, message)
     if it.after is not None and other and other.times == ANY and other.after is None:
-        message = f"{after} comes any number of times: what comes after it needs times N"
-        yield Refusal(it.after.place, f"{message} in the line of {after}")
+        message = f"'{after}' may occur any number of times, so nothing can come after it"
+        yield Refusal(it.after.place, f"{message} (give '{after}' a times N)")
     for call in it.calls:
         word, *operands = call.words
         for missing in filter(None, map(scope.missing, OPERANDS[word], operands)):
             yield Refusal(call.tokens[1].place, missing)
         if word == NOTIFY and not scope.fits("ACTION", operands[-1]):
-            said = f"{shown(operands[-1])} is no action: {KIND_OF['ACTION'].choices}"
+            said = f"action must be {KIND_OF['ACTION'].choices}, found '{shown(operands[-1])}'"
             yield Refusal(call.tokens[-1].place, said)

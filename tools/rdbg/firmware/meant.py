@@ -17,14 +17,14 @@ from rdbg.wording import by_word, nearest
 
 OTHERS = (GIVE, "interrupt", "wait", "const")
 FIRST_WORDS = (*FORM_OF, *OBJECTS, *SETTINGS, *blocks.WORDS, *FORMS, *OTHERS)
-BLOCKS_ARE = "loop, while and if end with end"
-SEMAPHORE = "it is written semaphore NAME length N given, or mutex NAME"
+BLOCKS_ARE = "loop, while and if blocks end with end"
+SEMAPHORE = "use semaphore NAME length N given, or mutex NAME"
 # How that is written which FreeRTOS calls otherwise.
 CALLS = {
     **{shape.freertos: form_of(word) for word, shape in OBJECTS.items()},
     **{key.freertos: form_of(word) for word, key in SETTINGS.items()},
     "xSemaphoreCreateBinary": "semaphore NAME",
-    "xSemaphoreCreateCounting": "semaphore NAME length N, with given where it is full at the start",
+    "xSemaphoreCreateCounting": "semaphore NAME length N, followed by given if it starts full",
     "xSemaphoreCreateMutex": "mutex NAME",
 }
 CREATED = {shape.freertos: word for word, shape in OBJECTS.items()}
@@ -50,7 +50,7 @@ VARIABLES = re.compile(rf"{TYPES.pattern}|float|double|bool|struct|extern|volati
 BRACES = re.compile(r"[{}]+")
 JUMPS = ("jump", "jumpz", "goto")
 ASSIGNS = re.compile(r"[-+*/|&]?=|\+\+|--")
-NO_VARIABLES = "a script has no variables: r0 to r7 stand for them"
+NO_VARIABLES = "scripts have no variables, use r0 to r7"
 
 
 def jumped_to(lines: Sequence[Sequence[Token]]) -> Set[str]:
@@ -122,26 +122,28 @@ def message_of(tokens: Sequence[Token], targets: Set[str]) -> str:
     meant = as_const(tokens)
     if meant is not None:
         value = "N" if meant[1].text == "(" else meant[1].text
-        const = f"a const is written const {shown(meant[0].text)} {shown(value)}"
+        remedy = f"for a constant, write const {shown(meant[0].text)} {shown(value)}"
         is_variable = all(token.text not in FIXED for token in tokens[:MOST_TOKENS])
-        return f"{NO_VARIABLES}; {const}" if is_variable and TYPES.fullmatch(word) else const
+        if is_variable and TYPES.fullmatch(word):
+            return f"'{shown(word)}' does not begin a line ({NO_VARIABLES}; {remedy})"
+        return f"'{shown(word)}' does not begin a line ({remedy})"
     for name in (called(token.text) for token in tokens[:MOST_TOKENS]):
         if name in CALLS:
-            return f"{name} is written {CALLS[name]}"
+            return f"'{name}' is not a model line (use {CALLS[name]})"
     if word.lower() in SEMAPHORES:
-        return f"no line begins with {shown(word)}: {SEMAPHORE}"
+        return f"'{shown(word)}' does not begin a line ({SEMAPHORE})"
     said = statement([token.text for token in tokens[:MOST_TOKENS]], True) or sentence(word, True)
     if said:
         return said
     if BRACES.fullmatch(word):
-        return f"there are no braces: {BLOCKS_ARE}"
+        return f"models have no braces ({BLOCKS_ARE})"
     other, behind = OTHER_WORDS.get(word.lower()), tokens[1:]
     is_of_c = behind and VARIABLES.fullmatch(word) and not other
-    no_word = f"no line begins with {shown(word)}"
+    no_word = f"'{shown(word)}' does not begin a line"
     if is_of_c or (behind and NAME.fullmatch(word) and ASSIGNS.fullmatch(behind[0].text)):
-        return f"{no_word}: {NO_VARIABLES}"
+        return f"{no_word} ({NO_VARIABLES})"
     if other and behind:
-        return f"{shown(word)} is written {form_of(other)}"
+        return f"{no_word} (use {form_of(other)})"
     if is_label(tokens, targets):
-        return f"{no_word}; a label has a colon: {shown(word)}:"
+        return f"{no_word} (a label needs a colon: {shown(word)}:)"
     return f"{no_word}{near_to(word, FIRST_WORDS)}"

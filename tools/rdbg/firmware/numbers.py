@@ -7,7 +7,7 @@ from rdbg.checking.slips import slip
 from rdbg.firmware.tokens import Refusal, Stop, Token, shown
 from rdbg.operands import Scope
 from rdbg.tree import Place
-from rdbg.wording import nearest, suggests
+from rdbg.wording import did_you_mean, nearest, suggests
 
 LARGEST = 0xFFFF_FFFF
 # (parentheses within parentheses)
@@ -19,7 +19,7 @@ NAME = re.compile(r"[A-Za-z_][A-Za-z0-9_]*")
 FOREVER = "portMAX_DELAY"
 # What C calls to have a number, and why there is none.
 CALLED = {
-    "pdMS_TO_TICKS": "times are in ticks; write how many",
+    "pdMS_TO_TICKS": "write the time in ticks",
     "sizeof": "write the number of bytes",
 }
 NOTHING_NAMED = Scope({})
@@ -27,15 +27,15 @@ RESERVED = re.compile(r"max|r[0-7]")
 
 
 def near_to(word: str, others: Iterable[str]) -> str:
-    """The end of a message on a word that isn't among others: which one is near."""
+    """Returns ` (did you mean 'jobs'?)` for a word that is not among others; empty if none is near."""
     small = {other.lower(): other for other in others}
     near = nearest(word, small) if len(word) <= LONGEST else None
-    return f"; {small[near]} is near" if near else ""
+    return did_you_mean(small[near]) if near else ""
 
 
 def too_large(place: Place, text: str) -> Refusal:
     """What a number is refused with that has no room in 32 bits."""
-    message = f"{shown(text)} is too large: a number is at most {LARGEST}, 0xffffffff"
+    message = f"{shown(text)} is too large (the largest number is {LARGEST}, 0xffffffff)"
     return Refusal(place, message, "L3 Limit")
 
 
@@ -48,7 +48,7 @@ def value_of(place: Place, text: str) -> Optional[int]:
     if digits[:2] in ("0x", "0X"):
         digits, base = digits[2:].lstrip("0") or "0", 16
     elif digits.startswith("0") and digits != "0":
-        raise Refusal(place, f"{shown(text)} would be octal in C: write it without the 0 in front")
+        raise Refusal(place, f"{shown(text)} would be octal in C (remove the leading 0)")
     if len(digits) > 10 or int(digits, base) > LARGEST:
         raise too_large(place, text)
     return int(digits, base)
@@ -75,14 +75,16 @@ class Constants:
         if not NAME.fullmatch(name.text):
             if name.is_word():
                 self.values.setdefault(name.text, value)
-            message = f"{shown(name.text)} can't name a number: letters, digits and _ can"
+            message = f"'{shown(name.text)}' is not a valid const name (use letters, digits and _)"
             raise Refusal(name.place, message)
         if name.text in self.named:
             line = self.named[name.text].place.line
-            raise Refusal(name.place, f"const {shown(name.text)} stands in line {line} already")
+            raise Refusal(
+                name.place, f"const '{shown(name.text)}' is already defined in line {line}"
+            )
         is_given = name.text in self.given
         if (name.text in self.values and not is_given) or RESERVED.fullmatch(name.text):
-            raise Refusal(name.place, f"{name.text} has a meaning already")
+            raise Refusal(name.place, f"'{name.text}' is reserved")
         self.idle.discard(name.text)
         self.values[name.text] = self.given.get(name.text, value)
         self.named[name.text] = name
@@ -149,7 +151,7 @@ class Numbers:
         """Refuses what stands behind the end of a line, which is written so."""
         token = self.next()
         if token is not None:
-            said = f"{shown(token.text)} is too much"
+            said = f"unexpected '{shown(token.text)}'"
             raise Refusal(token.place, f"{form}: {said}" if form else said)
 
     def number(self, depth: int = 0) -> int:
@@ -184,15 +186,15 @@ class Numbers:
         token = self.next()
         if token is None:
             last = self.tokens[-1]
-            raise Refusal(last.place, f"a number is missing behind {shown(last.text)}")
+            raise Refusal(last.place, f"missing number after '{shown(last.text)}'")
         if token.text == "(" and depth < DEEPEST:
             self.at += 1
             value = self.number(depth + 1)
             if not self.is_next(")"):
-                raise Refusal(token.place, "this ( isn't closed")
+                raise Refusal(token.place, "this ( is not closed")
             return value
         if not token.is_word():
-            raise Refusal(token.place, f"there should be a number, and not {shown(token.text)}")
+            raise Refusal(token.place, f"expected a number, found '{shown(token.text)}'")
         self.at += 1
         return self._value(token)
 
@@ -208,7 +210,8 @@ class Numbers:
     def _refuse_unknown(self, token: Token) -> None:
         """Refuses a word that is no number. Raises it where the word begins more than one."""
         if token.text in CALLED:
-            raise Refusal(token.place, f"{token.text} isn't there: {CALLED[token.text]}")
+            raise Refusal(token.place, f"'{token.text}' is not available ({CALLED[token.text]})")
         meant = slip("V", token.text, NOTHING_NAMED) if NAME.fullmatch(token.text) else ""
-        hint = self.constants.near(token.text) or (f"; {meant}" if meant else "")
-        self.kept.refuse(token.place, f"{shown(token.text)} is no number and no const{hint}")
+        hint = self.constants.near(token.text) or (f" ({meant})" if meant else "")
+        message = f"'{shown(token.text)}' is neither a number nor a const{hint}"
+        self.kept.refuse(token.place, message)

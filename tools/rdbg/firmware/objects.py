@@ -57,7 +57,7 @@ class ObjectLine:
 
     def _name(self) -> None:
         token = self._reader.next()
-        lacks = f"{form_of(self._word.text)}: there is no name"
+        lacks = f"{form_of(self._word.text)}: missing name"
         if token is None or not token.is_word():
             raise Refusal(token.place if token else self._word.place, lacks)
         behind = self._reader.tokens[2:3]
@@ -79,19 +79,19 @@ class ObjectLine:
         known = len(self._kept.refusals)
         count = Numbers([Token(found[2], at)], self._kept).number()
         if len(self._kept.refusals) == known and not 1 <= count <= MOST_TASKS:
-            self._kept.refuse(at, f"{count} tasks can't have one script: 1 to {MOST_TASKS} can")
+            self._kept.refuse(at, f"a script can have 1 to {MOST_TASKS} tasks, found {count}")
         self.count = count if len(self._kept.refusals) == known else 1
         return token._replace(text=found[1])
 
     def _key(self, token: Token) -> None:
         if any(member.key == token.text for member in self.members):
-            self._kept.refuse(token.place, f"{shown(token.text)} stands twice")
+            self._kept.refuse(token.place, f"duplicate key '{shown(token.text)}'")
         if token.text == "members" and "members" in self._shape.names():
             node = Node(tuple(self._members()), token.place)
         elif NAME.fullmatch(token.text) and token.text != "code":
             node = next_number(self._reader)
         else:
-            message = f"{shown(token.text)} is no key: {form_of(self._word.text)}"
+            message = f"unknown key '{shown(token.text)}' (expected {form_of(self._word.text)})"
             raise Refusal(token.place, message)
         self.members.append(Member(token.text, token.place, node))
 
@@ -99,5 +99,5 @@ class ObjectLine:
         """All words that come, as names."""
         for token in self._reader.each():
             if not token.is_word():
-                raise Refusal(token.place, f"{shown(token.text)} is no name")
+                raise Refusal(token.place, f"expected a name, found '{shown(token.text)}'")
             yield Node(token.text, token.place)

@@ -5,15 +5,13 @@ from typing import Callable, Dict, List, NamedTuple
 from rdbg.firmware.numbers import FOREVER, NAME, NOTHING_NAMED, NUMBER, Numbers
 from rdbg.firmware.tokens import Refusal, Token, shown, written
 from rdbg.operands import NAMED, REGISTER
-from rdbg.checking.slips import CONSTANTS, PAIRS, as_bytes, is_binary, slip
+from rdbg.checking.slips import CONSTANTS, as_bytes, is_binary, slip
 from rdbg.tree import Place
 
 BYTES = re.compile(r"(?:0[xX])?((?:[0-9a-fA-F]{2})+)")
 ODD = re.compile(r"(?:0[xX])?[0-9a-fA-F]+")
 CHARACTER = re.compile(r"\\x([0-9a-fA-F]{2})|\\([nrt0\\\"])|[^\\]", re.DOTALL)
-BYTES_ARE = (
-    "they are written as hexadecimal digits, two a byte, as a text in double quotes, or as consts"
-)
+BYTES_ARE = "use hexadecimal digits, two per byte, a string in double quotes, or consts"
 ESCAPES = {"n": "\n", "r": "\r", "t": "\t", "0": "\0", "\\": "\\", '"': '"'}
 ONE_OF_SEVERAL = re.compile(r"([a-z][a-z0-9_]*)\[([A-Za-z0-9_]+)\]")
 # The kinds of operands that are numbers, or can be.
@@ -42,7 +40,7 @@ def bytes_of(token: Token) -> str:
     while at < len(token.text) - 1:
         found = CHARACTER.match(token.text, at)
         if found is None:
-            message = r"the escapes are \n, \r, \t, \0, \\, \" and two digits behind \x"
+            message = r"unknown escape (use \n, \r, \t, \0, \\, \" or \x with two digits)"
             raise Refusal(token.place_of(at), message)
         parts.append(found[1] or ESCAPES.get(found[2], found[0]).encode().hex())
         at = found.end()
@@ -53,10 +51,10 @@ def byte_of(token: Token, value: int) -> str:
     """The byte that a const is. Raises `Refusal` where it is none, or its name could be bytes."""
     name = shown(token.text)
     if BYTES.fullmatch(token.text):
-        either = f"write 0x{name} for these, or 0x{value:02x}"
-        raise Refusal(token.place, f"{name} is a const, and could be bytes: {either}")
+        either = f"write 0x{name} for the bytes, or 0x{value:02x} for the const"
+        raise Refusal(token.place, f"'{name}' is both a const and valid bytes ({either})")
     if value > 0xFF:
-        raise Refusal(token.place, f"{name} is {value}, and a byte is 0 to 255")
+        raise Refusal(token.place, f"a byte must be 0 to 255, found '{name}', which is {value}")
     return f"{value:02x}"
 
 
@@ -108,7 +106,7 @@ class Operands(Numbers):
         """The next word, as it is written."""
         token = self.tokens[self.at]
         if not token.is_word():
-            raise Refusal(token.place, f"{shown(token.text)} has no place here")
+            raise Refusal(token.place, f"unexpected '{shown(token.text)}'")
         self.at += 1
         return as_written(token)
 
@@ -161,15 +159,18 @@ class Operands(Numbers):
         if token.text == "-" and len(self.tokens) == 1:
             return token.text
         near = self.constants.near(token.text)
-        why = "each byte has two digits" if ODD.fullmatch(token.text) else f"{BYTES_ARE}{near}"
+        remedy = near.strip(" ()") or BYTES_ARE
+        why = "each byte needs two digits" if ODD.fullmatch(token.text) else remedy
         if is_binary(token.text):
-            why = f"{PAIRS}: write data {shown(as_bytes(token.text))}"
+            why = f"write data {shown(as_bytes(token.text))} for this number"
             if BYTES.fullmatch(token.text):
-                why += f", or for these bytes data 0x{shown(token.text)}"
+                why += f", or data 0x{shown(token.text)} for these digits"
         if token.text.startswith("'"):
             text = written(self.tokens[self.at - 1 :]).replace("'", '"')
-            why = f"a text stands between double quotes: {shown(text)}"
-        raise Refusal(token.place, f"{shown(token.text)} is no bytes: {why}", "L5 Instr")
+            why = f"strings need double quotes: {shown(text)}"
+        raise Refusal(
+            token.place, f"'{shown(token.text)}' is not a byte sequence ({why})", "L5 Instr"
+        )
 
 
 # How the operands are read that can be written in other ways than in the JSON, by their symbols.

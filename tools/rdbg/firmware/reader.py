@@ -41,7 +41,7 @@ def check(tokens: Sequence[Token]) -> None:
     for token in tokens:
         token.check()
     if len(tokens) > MOST_TOKENS:
-        raise Refusal(tokens[MOST_TOKENS].place, "no line has so many words")
+        raise Refusal(tokens[MOST_TOKENS].place, "the line has too many words")
 
 
 def is_label(tokens: Sequence[Token]) -> bool:
@@ -105,7 +105,10 @@ class Reader:
             if tokens:
                 found.append(tokens)
             if len(found) > MOST_LINES:
-                raise Stop(tokens[0].place, f"there are {MOST_LINES:,} lines; the rest isn't read")
+                raise Stop(
+                    tokens[0].place,
+                    f"the file has more than {MOST_LINES:,} lines; the rest is skipped",
+                )
         self._keep_count(MOST_REFUSALS)
         return found
 
@@ -179,7 +182,7 @@ class Reader:
         calls = [call for it in self._interrupts for call in it.calls]
         fillers += [it.tokens[0] for it in calls if it.words[:2] == ("send", waits.NEVER)]
         for token in fillers:
-            message = f"queue {waits.NEVER} is what wait receives from, and nothing may fill it"
+            message = f"queue '{waits.NEVER}' must stay empty, because wait receives from it"
             self.kept.refuse(token.place, message)
 
     def _semaphore(self, tokens: Sequence[Token]) -> None:
@@ -188,7 +191,7 @@ class Reader:
         place = tokens[0].place
         self.made.append((place.line, f"{written(tokens)}: {it.queue()}"))
         if it.word.text == semaphores.MUTEX:
-            text = f"note: mutex {it.name} is a queue: {semaphores.NO_INHERITANCE}"
+            text = f"note: mutex '{it.name}' is modelled as a queue: {semaphores.NO_INHERITANCE}"
             self.remarks.append(Fault(place, "", text))
         self._things["queue"].append(Thing(tokens[0], it.members))
 
@@ -212,7 +215,7 @@ class Reader:
     def _script_of(self, token: Token) -> Script:
         """The script that a line belongs to; where there is none yet, one that nobody has."""
         if self._script is None:
-            message = f"{shown(token.text)} stands before any task: {form_of('task')}"
+            message = f"'{shown(token.text)}' must follow a task line ({form_of('task')})"
             self.kept.refuse(token.place, message)
             self._script = Script("no task", Kept(self.constants, []), {})
         return self._script
@@ -226,13 +229,13 @@ class Reader:
 
     def _const(self, tokens: Sequence[Token]) -> None:
         if len(tokens) < 2 or not tokens[1].is_word():
-            raise Refusal(tokens[0].place, f"{tokens[0].text} NAME N: there is no name")
+            raise Refusal(tokens[0].place, f"{tokens[0].text} NAME N: missing name")
         if meant.TYPES.fullmatch(tokens[1].text) and meant.as_const(tokens):
             self._unknown(tokens)
         reader = Numbers(tokens, self.kept, 2)
         if reader.is_next("="):
-            said = f"{tokens[0].text} {shown(tokens[1].text)} N"
-            self.kept.refuse(tokens[2].place, f"write {said} without =")
+            line = f"{tokens[0].text} {shown(tokens[1].text)} N"
+            self.kept.refuse(tokens[2].place, f"unexpected '=' (write {line})")
         known, value, is_refused = len(self.refusals), 0, True
         try:
             value = reader.number()
@@ -247,7 +250,7 @@ class Reader:
         word = tokens[0]
         if word.text in self._numbers:
             line = self._numbers[word.text].place.line
-            raise Refusal(word.place, f"{word.text} stands in line {line} already")
+            raise Refusal(word.place, f"'{word.text}' is already set in line {line}")
         reader = Numbers(tokens, self.kept, 1)
         self._numbers[word.text] = Member(word.text, word.place, next_number(reader))
         reader.end()
@@ -257,7 +260,7 @@ class Reader:
         word = tokens[0]
         if len(self._things[word.text]) == MOST_READ:
             what = OBJECTS[word.text].plural
-            message = f"there are {MOST_READ} {what} up to here; the rest isn't read"
+            message = f"there are more than {MOST_READ} {what}; the rest of the file is skipped"
             raise Stop(word.place, message, "L3 Limit")
         line, script = ObjectLine(tokens, self.kept), None
         if word.text == "task":
@@ -302,7 +305,7 @@ class Reader:
             for name in (thing.name() for thing in things):
                 if name in self.constants.named:
                     place = self.constants.named[name].place
-                    self.kept.refuse(place, f"const {name} has the name of a {word}")
+                    self.kept.refuse(place, f"const '{name}' has the same name as a {word}")
 
     def _check_sets(self) -> None:
         """Refuses semaphores in queue sets that are given at the start."""
@@ -324,7 +327,7 @@ class Reader:
         profile = self._numbers.get("profile")
         is_needed = self._interrupts or self._endings
         if is_needed and profile is not None and profile.node.value == Number("1"):
-            self.kept.refuse(profile.node.place, "profile 1 has no interrupts: profile 2 has")
+            self.kept.refuse(profile.node.place, "profile 1 has no interrupts (use profile 2)")
 
     def scripts(self) -> List[Tuple[Thing, Script]]:
         """The tasks, with their scripts."""
@@ -413,7 +416,7 @@ def read(content: bytes, given: Mapping[str, int]) -> Text:
     idle = min(reader.constants.idle, default=None)
     if idle is not None:
         near = near_to(idle, reader.constants.named)
-        raise Failure(f"-D {idle}: no line has a const {idle}{near}", 2)
+        raise Failure(f"-D {idle}: const '{idle}' is not defined{near}", 2)
     faults = [Fault(it.place, it.kind, it.message) for it in reader.refusals]
     others = [] if root is None else once(faults_of(root), reader.several())
     if faults:

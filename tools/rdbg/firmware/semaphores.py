@@ -19,7 +19,7 @@ TAKE, GIVE, COUNT = "take", "give", "count"
 # Instructions that would take or put an item by themselves.
 BY_ITSELF = ("send", "front", "recv", "peek", "over", "qreset", "spaces")
 OF_SETS = ("setadd", "setdel")
-NO_INHERITANCE = "no priority inheritance, and nobody owns it"
+NO_INHERITANCE = "it has no owner and no priority inheritance"
 
 
 class Semaphore(NamedTuple):
@@ -33,8 +33,8 @@ class Semaphore(NamedTuple):
 
     def queue(self) -> str:
         """The queue that stands for it, in words."""
-        full = "an item while it is taken" if self.is_given else "an item where it can be taken"
-        return f"queue {self.name} length {self.length} item 1, with {full}"
+        full = "while it is taken" if self.is_given else "while it can be taken"
+        return f"queue {self.name} length {self.length} item 1, which holds an item {full}"
 
     def gives(self) -> str:
         """The instruction that gives it. One that is a queue of what is taken loses the one item
@@ -49,7 +49,7 @@ def read(tokens: Sequence[Token], kept: Kept) -> Semaphore:
     word, numbers = tokens[0], Numbers(tokens, kept, 1)
     name, form = numbers.next(), FORMS[word.text]
     if name is None or not name.is_word():
-        raise Refusal(word.place, f"{form}: there is no name")
+        raise Refusal(word.place, f"{form}: missing name")
     numbers.at += 1
     length = one = Node(Number("1"), word.place)
     is_given = word.text == MUTEX
@@ -59,7 +59,7 @@ def read(tokens: Sequence[Token], kept: Kept) -> Semaphore:
         elif token.text == GIVEN and word.text == SEMAPHORE:
             is_given = True
         else:
-            raise Refusal(token.place, f"{shown(token.text)} is no key: {form}")
+            raise Refusal(token.place, f"unknown key '{shown(token.text)}' (expected {form})")
     assert isinstance(length.value, Number)
     members = queue(Node(name.text, name.place), length, one)
     return Semaphore(word, name.text, int(length.value.text), is_given, members)
@@ -90,8 +90,10 @@ def instruction(
     name = tokens[1].text if len(tokens) > 1 else ""
     it = known.get(name)
     if word == GIVE and it is None:
-        there = f"; there is {', '.join(known)}" if known else ""
-        message = f"give NAME: {shown(name) or 'nothing'} is no semaphore and no mutex{there}"
+        there = f" (defined: {', '.join(known)})" if known else ""
+        message = f"give NAME: '{shown(name)}' is not a semaphore or a mutex{there}"
+        if not name:
+            message = f"give NAME: missing name{there}"
         raise Refusal(tokens[-1].place, message)
     if it is None:
         return None
@@ -101,7 +103,7 @@ def instruction(
         return it.gives() if word == GIVE else f"{'spaces' if it.is_given else 'count'} {it.name}"
     if reader.next() is None:
         choices = KIND_OF["T"].choices
-        raise Refusal(tokens[0].place, f"take NAME T lacks its block time ({choices})")
+        raise Refusal(tokens[0].place, f"take NAME T: missing block time ({choices})")
     time = reader.time().text
     reader.end("take NAME T")
     return f"{'send' if it.is_given else 'recv'} {it.name} {time}"
@@ -114,10 +116,10 @@ def why_not(word: str, name: str, known: Mapping[str, Semaphore]) -> str:
         return ""
     if word in OF_SETS:
         return not_in_sets(it)
-    return f"{name} is a {it.word.text}: take {name} T, give {name}"
+    return f"'{name}' is a {it.word.text} (use take {name} T and give {name})"
 
 
 def not_in_sets(it: Semaphore) -> str:
     """Why one that is given at the start can be in no set."""
-    has = "is given at the start, and has an item while it is taken"
-    return f"{it.name} {has}: in a set it would be seen as it is taken, not as it is given"
+    why = "its queue holds an item while it is taken"
+    return f"'{it.name}' cannot be in a set: {why}, so the set would report a take, not a give"

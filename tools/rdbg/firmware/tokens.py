@@ -62,13 +62,13 @@ class Token(NamedTuple):
     def check(self) -> None:
         """Refuses a text that isn't closed, what is too long, and a character that no word has."""
         if self.is_quoted() and not CLOSED.fullmatch(self.text):
-            raise Refusal(self.place, "this text isn't closed: quotes are missing at its end")
+            raise Refusal(self.place, "this string has no closing quote")
         if len(self.text) > MOST_CHARACTERS:
-            raise Refusal(self.place, f"a word of {len(self.text):,} characters is too long")
+            raise Refusal(self.place, f"the word is too long ({len(self.text):,} characters)")
         strange = None if self.is_quoted() else STRANGE.search(self.text)
         if strange:
             name = f"U+{ord(strange[0]):04X}"
-            message = f"the character {name} can stand in comments and quotes alone"
+            message = f"the character {name} is only allowed in comments and strings"
             raise Refusal(self.place_of(strange.start()), message)
 
 
@@ -85,7 +85,7 @@ def without_parentheses(tokens: Sequence[Token]) -> Sequence[Token]:
         if depth == 0:
             return tokens[1:index] if index + 1 == len(tokens) else tokens
     if depth:
-        raise Refusal(tokens[0].place, "this ( isn't closed")
+        raise Refusal(tokens[0].place, "this ( is not closed")
     return tokens
 
 
@@ -113,7 +113,7 @@ class Scanner:
         for number, line in enumerate(self._text.split("\n"), 1):
             yield self._line(number, line[:-1] if line.endswith("\r") else line)
         if self._comment is not None:
-            message = "this comment isn't closed: */ is missing"
+            message = "this comment has no closing */"
             self._refusals.append(Refusal(self._comment, message))
 
     def _line(self, number: int, line: str) -> List[Token]:
@@ -143,7 +143,7 @@ class Scanner:
             else:
                 refused = None if tokens else DIRECTIVE.match(found[0])
                 if refused:
-                    message = f"there is no {refused[0]} here, and a comment would begin with //"
+                    message = f"{refused[0]} is not supported (begin a comment with //)"
                     self._refusals.append(Refusal(place, message))
                 self._keep(number, found[0])
         return tokens

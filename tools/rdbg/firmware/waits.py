@@ -22,7 +22,7 @@ def texts_of(tokens: Sequence[Token], kept: Kept) -> Tuple[Tuple[str, ...], str]
     """The instructions of a line, `{ending}` as its entry, and their cost. Raises `Refusal`."""
     operands = without_parentheses(tokens[1:])
     if not operands:
-        raise Refusal(tokens[0].place, f"{FORM}: there is no number")
+        raise Refusal(tokens[0].place, f"{FORM}: missing number")
     if BETWEEN not in operands[0].text:
         reader = Operands(operands, kept)
         time = reader.time().text
@@ -39,19 +39,19 @@ def between(token: Token, kept: Kept) -> Tuple[Tuple[str, ...], str]:
     least = number(first, token, 0, kept)
     most = LARGEST if last == "max" else number(last, token, len(first) + len(BETWEEN), kept)
     if most <= least and len(kept.refusals) == known:
-        message = f"{shown(token.text)} has no end to choose: the second number is the larger one"
+        message = f"'{shown(token.text)}': the second number must be larger than the first"
         raise Refusal(token.place, message)
     more = "max" if most == LARGEST else str(most - least)
     ending = f"take {{ending}} clear {more}"
     if not least:
-        return (ending,), "2 moves, 1 where its end has come before"
-    return (f"recv {NEVER} {least}", ending), "4 moves, 3 where its end has come before"
+        return (ending,), "2 moves, or 1 if its end came before"
+    return (f"recv {NEVER} {least}", ending), "4 moves, or 3 if its end came before"
 
 
 def number(text: str, token: Token, at: int, kept: Kept) -> int:
     """A number of ticks that stands in a word, from one of its characters on."""
     if not text:
-        raise Refusal(token.place, f"{FORM}: a number is missing at {shown(token.text)}")
+        raise Refusal(token.place, f"{FORM}: missing number in '{shown(token.text)}'")
     return Numbers([Token(text, token.place_of(at))], kept).number()
 
 
@@ -62,6 +62,6 @@ def interrupt(task: str, entry: int) -> Interrupt:
 
 
 def remark(cost: str, names: Sequence[str]) -> str:
-    """What there is to say of a wait whose end is chosen."""
+    """Returns the note about a wait whose end the search chooses."""
     ends = f"interrupt {names[0]}" if len(names) == 1 else f"interrupts {names[0]} to {names[-1]}"
-    return f"note: {cost}; the {ends} may end it, which reach and hunt let come"
+    return f"note: {cost}; {ends} may end it at any time in reach and hunt"

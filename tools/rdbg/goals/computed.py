@@ -19,8 +19,8 @@ Number = Callable[[Look], int]
 SIGNS = re.compile(r"<<|>>|[=!<>]=|[-+*/%&|^~()<>=]|[^-+*/%&|^~()<>=!\s]+|\S")
 AMOUNTS = (*kinds.OF_AMOUNT, "reg", "pc", reading.NOTE, "tick")
 OF_TASK = re.compile(r"(\w+)\.(?:r([0-7])|pc)")
-WANTED = "a number is wanted there: 41, 0x29, `count QUEUE`, `TASK.r0`, `reg TASK 0`, `tick`, .."
-BEHIND = "an operator or the end is wanted there: + - * / % & | ^ << >> = != < <= > >="
+WANTED = "expected a number: 41, 0x29, `count QUEUE`, `TASK.r0`, `reg TASK 0`, `tick`, .."
+BEHIND = "expected an operator or the end: + - * / % & | ^ << >> = != < <= > >="
 TRUTHS = ("fails", "holds")
 MOST_SHIFT = 32
 MOST_WORDS, MOST_DEEP = 256, 32
@@ -33,7 +33,7 @@ class Undefined(Exception):
 def divided(one: int, other: int) -> int:
     """A number by another, towards 0 as in C."""
     if not other:
-        raise Undefined("it divides by 0")
+        raise Undefined("division by 0")
     found = abs(one) // abs(other)
     return found if (one < 0) == (other < 0) else -found
 
@@ -41,7 +41,7 @@ def divided(one: int, other: int) -> int:
 def shifted(one: int, other: int) -> int:
     """A number shifted to the left, or below 0 to the right."""
     if abs(other) > MOST_SHIFT:
-        raise Undefined(f"it shifts by {abs(other)}; {MOST_SHIFT} is the most")
+        raise Undefined(f"shift by {abs(other)} (at most {MOST_SHIFT} is allowed)")
     return one << other if other > 0 else one >> -other
 
 
@@ -130,7 +130,7 @@ class Computer(Reader):
             return self._named(self._next(WANTED))
         found = self._compared(depth + 1)
         if not self._takes(CLOSE):
-            raise NoGoal(self.words, -1, "a parenthesis isn't closed")
+            raise NoGoal(self.words, -1, "missing ')'")
         return found
 
     def _named(self, word: str) -> Number:

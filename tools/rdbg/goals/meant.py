@@ -1,4 +1,4 @@
-"""What would be right where words are no goal: they are mended from the first wrong one on."""
+"""Suggestions for words that are not a goal: repairs from the first wrong word on."""
 import re
 from typing import Iterable, List, Optional, Sequence
 
@@ -18,9 +18,9 @@ APART = re.compile(r"([<>=!]=?)")
 
 
 def with_meant(wrong: NoGoal, scope: Scope) -> NoGoal:
-    """The same refusal, which says what would be right, too."""
+    """Returns the same refusal with a suggestion."""
     found = mended(wrong, scope)
-    more = f"; `{' '.join(found)}` would be right" if found else there_are(wrong, scope)
+    more = f" (did you mean `{' '.join(found)}`?)" if found else there_are(wrong, scope)
     return NoGoal(wrong.words, wrong.at, wrong.wanted, more)
 
 
@@ -37,7 +37,7 @@ def there_are(wrong: NoGoal, scope: Scope) -> str:
         return instructions
     if kind is None or scope.application is None:
         return ""
-    return f"; these are there: {shown}" if shown else "; there are none"
+    return f" (defined: {shown})" if shown else " (none is defined)"
 
 
 def instructions_at(wrong: NoGoal, scope: Scope) -> str:

@@ -1,6 +1,5 @@
-"""The reader of goals: words that are claims, joined by `not`, `and` and `or`, of which the first
-binds most and the last least, and by parentheses, each of which is a word. What is refused is told
-as the program that searches tells it."""
+"""The parser of goals: atoms joined by `not`, `and` and `or`, in order of decreasing precedence, and
+parentheses. Each parenthesis is a word of its own."""
 import re
 from typing import Callable, Dict, List, Optional, Sequence, Tuple
 
@@ -12,26 +11,26 @@ from rdbg.goals.conditions import Condition, read as read_condition
 from rdbg.goals.scope import REGISTERS, Scope
 from rdbg.wording import with_article
 
-# What is wanted where another word stands, or none.
-CLAIM = "a claim, 'not' or '(' is wanted there, as 'count QUEUE = 2' or 'asleep'"
-NUMBER = f"a number of at most {commands.MOST_NUMBER} is wanted there"
-REGISTER = "a register is wanted there, 0 to 7"
-INDEX = "the index of a notification entry is wanted there"
-INSTRUCTION = "the number of an instruction of the task is wanted there"
-COMPARISON = "'=', '<' or '>' is wanted there"
-PHASE = "the name of a phase is wanted there: run, wait, again, given, ended, failed"
+# What was expected in place of another word, or of none.
+CLAIM = "expected an atom, 'not' or '(', for example 'count QUEUE = 2' or 'asleep'"
+NUMBER = f"expected a number from 0 to {commands.MOST_NUMBER}"
+REGISTER = "expected a register number, 0 to 7"
+INDEX = "expected the index of a notification entry"
+INSTRUCTION = "expected the number of an instruction of the task"
+COMPARISON = "expected '=', '<' or '>'"
+PHASE = "expected a phase: run, wait, again, given, ended or failed"
 PLACE = (
-    "a place where a task waits is wanted there: recv QUEUE, send QUEUE, select SET, read BUFFER,"
+    "expected a place where a task can wait: recv QUEUE, send QUEUE, select SET, read BUFFER,"
     " write BUFFER, note INDEX or group GROUP"
 )
-JOIN = "'and', 'or', ')' or the end is wanted there"
+JOIN = "expected 'and', 'or', ')' or the end of the goal"
 NAME: Dict[str, str] = {
-    it.word: f"the name of {with_article(it.noun)} is wanted there" for it in kinds.ALL
+    it.word: f"expected the name of {with_article(it.noun)}" for it in kinds.ALL
 }
 KIND_OF: Dict[str, str] = {wanted: kind for kind, wanted in NAME.items()}
-OF_A_MOVE = "this is said of a move, and stands by itself where a run is to go: until!, rc!"
-EITHER = "a stream buffer and a message buffer have this name: say sread, swrite, mread or mwrite"
-# Claims, and what joins them, are so many at the most.
+OF_A_MOVE = "this condition is about a move and must stand alone, after until! or rc!"
+EITHER = "this names both a stream and a message buffer (use sread, swrite, mread or mwrite)"
+# A goal has at most this many atoms and operators.
 MOST = 64
 NOT, AND, OR, OPEN, CLOSE = JOINING = ("not", "and", "or", "(", ")")
 # The claims that are no conditions; those of a move, and where one of a place stands by itself.
@@ -55,8 +54,8 @@ NOTE = "note"
 
 
 class NoGoal(Failure):
-    """Why words are no goal: which of them is wrong, none at the end (where that is below 0, all of
-    them), what is wanted there, and what more there is to say."""
+    """Words that are not a goal: the index of the wrong one (`None` at the end, below 0 for all of
+    them), what was expected there, and a suggestion."""
 
     def __init__(
         self, words: Sequence[str], at: Optional[int], wanted: str, more: str = ""
@@ -86,7 +85,7 @@ class Reader:
         found = self._formula()
         if self.at < len(self.words):
             if self.words[self.at] == CLOSE:
-                raise NoGoal(self.words, self.at, "this parenthesis isn't open")
+                raise NoGoal(self.words, self.at, "unmatched ')'")
             self.at += 1
             raise self._wanted(JOIN)
         return found
@@ -110,7 +109,7 @@ class Reader:
             return self._counted(self._claim())
         found = self._formula(depth + 1)
         if self.at == len(self.words):
-            raise NoGoal(self.words, -1, "a parenthesis isn't closed")
+            raise NoGoal(self.words, -1, "missing ')'")
         if not self._takes(CLOSE):
             self.at += 1
             raise self._wanted(JOIN)

@@ -14,7 +14,7 @@ from rdbg.goals.ways import To, Wakes, Way
 
 WAKES, CHANGES = reading.OF_MOVES
 OBJECTS = tuple(kind.word for kind in kinds.OBJECTS)
-NOT_ASKED = "the search through orders has no word for `sleeps`: `waits TASK`, or `asleep`"
+NOT_ASKED = "the search does not support `sleeps` (use `waits TASK` or `asleep`)"
 
 
 def read(words: Sequence[str], scope: Scope) -> Goal:
@@ -53,7 +53,7 @@ def counted(words: Sequence[str], scope: Scope) -> Tuple[Goal, Optional[int]]:
                 return plain(words[:-1], scope), int(words[-1])
         is_count = wrong.at == len(wrong.words) - 1 and commands.out_of_range(words[-1:])
         if is_count and is_goal(words[:-1], scope):
-            wanted = f"a COUNT is 1 to {commands.MOST_COUNT}"
+            wanted = f"COUNT must be 1 to {commands.MOST_COUNT}"
             raise NoGoal(wrong.words, wrong.at, wanted) from None
     return read(words, scope), None
 
@@ -67,7 +67,7 @@ def sought(
         return To(goal, becoming), count
     found, at = of_move(words, target, scope)
     if words[at + 1 :] or not all(map(commands.is_count, words[at:])):
-        raise NoGoal(words, at, "a COUNT or the end is wanted there")
+        raise NoGoal(words, at, "expected COUNT or the end")
     return found, int(words[at]) if words[at:] else None
 
 
@@ -86,5 +86,5 @@ def of_move(words: Sequence[str], target: Target, scope: Scope) -> Tuple[Way, in
     name = words[1] if words[1:] else ""
     there = [kind for kind in scope.names.kinds_of(name) if kind != kinds.TASK.word]
     if not there:
-        raise NoGoal(words, 1 if words[1:] else None, "the name of an object is wanted there")
+        raise NoGoal(words, 1 if words[1:] else None, "expected the name of an object")
     return Changes(target, there[0], name), 2

@@ -88,7 +88,7 @@ class Differs:
         if self._resting:
             return self._by_leaving(wanted)[:wanted]
         if not STUCK.is_so(self.own.look):
-            why = f"nothing is at rest in forward's order of {self._moves} moves: name a goal"
+            why = f"the default run of {self._moves} moves does not come to rest (name a goal)"
             self.search.none.append(Answer(Kind.UNTOLD, why=why))
             return []
         found = self.search.different(wanted, lambda it: it.views, self._views)
@@ -113,7 +113,7 @@ class Differs:
             if len(found) == wanted == 1:
                 return found
         if self._resting and not self.search.is_stopped():
-            why = "orders that leave forward's at one place were asked of alone"
+            why = "only runs that leave the default run at one place were searched"
             self.search.none.append(Answer(Kind.UNTOLD, why=why))
         return sorted(found, key=lambda it: it.size)
 

@@ -13,14 +13,16 @@ from rdbg.reaching.handlers import BETWEEN, OPTION, WORD, Handler, handlers as b
 SIGN = BETWEEN.strip()
 # The profile from which on there are interrupts.
 PROFILE = 2
-FORMS = "send Q HEX, or notify K I N ACTION; more calls of one handler with ; between them"
+FORMS = "use send Q HEX or notify K I N ACTION, with ; between the calls of one handler"
 
 
 def handlers(texts: Sequence[str], application: Application) -> Tuple[Handler, ...]:
     """The handlers that are named, or all, with how often each may come. Raises `Failure`."""
     profile = application.profile
     if texts and [*texts] != [NO_INTERRUPT] and profile < PROFILE:
-        raise Failure(f"NoIsr: {OPTION} needs profile {PROFILE}, and the file has {profile}", 2)
+        raise Failure(
+            f"NoIsr: {OPTION} needs profile {PROFILE}, but the model has profile {profile}", 2
+        )
     found: List[Handler] = []
     # (those that the text names stand first: `after` has their numbers, and others may be joined)
     in_order = sorted(texts, key=lambda it: application.interrupt(it.strip()) is None)
@@ -41,7 +43,7 @@ def call_of(part: str, text: str, application: Application) -> str:
     call = " ".join(words[1:] if words[:1] == [WORD] else words)
     command = commands.read(f"{WORD} {call}")
     if command is None:
-        raise Failure(f"{OPTION} '{text}': '{part.strip()}' is no call of a handler: {FORMS}", 2)
+        raise Failure(f"{OPTION} '{text}': '{part.strip()}' is not a handler call ({FORMS})", 2)
     names = {kind.symbol: [it.name for it in application.of(kind)] for kind in kinds.ALL}
     scope = Scope(names, application.notes)
     for missing in filter(None, map(scope.missing, command.symbols, command.words)):

@@ -18,7 +18,7 @@ def counted(count: int, noun: str) -> str:
 def place_of(find: Find, is_exhaustive: bool) -> str:
     """Where an order ends, and with how many surprises, where these are counted."""
     count = len(find.told)
-    how = f"with {counted(count, 'surprise')}" if count else "without a surprise"
+    how = f"with {counted(count, 'surprise')}" if count else "without surprises"
     return f"at {find.place}" if is_exhaustive else f"at {find.place}, {how}"
 
 
@@ -38,7 +38,7 @@ def found(
     """What is said of what was found, and of how that ends otherwise than `forward`'s own order,
     where it is held against that."""
     if own is not None:
-        yield f"the order without a surprise, which ends at {own.place}:"
+        yield f"the run without surprises, which ends at {own.place}:"
         yield from stage.table(own, goal)
     for at, find in enumerate(finds, 1):
         which = f" {at}" if len(finds) > 1 else ""
@@ -51,19 +51,19 @@ def found(
 
 def differing(own: Find, find: Find) -> Iterator[str]:
     """How an order ends otherwise than another one, thing by thing, as the program shows it."""
-    yield "how the first order ends (<), and this one (>):"
+    yield "end states of the first run (<) and of this one (>):"
     for one, other in zip(own.views, find.views):
         if one != other and (not find.tasks or one.split()[1] in find.tasks):
             yield from (f"< {one}", f"> {other}")
     for task in find.tasks:
-        yield f"from here on {task} can't end as in the first order, whatever comes"
+        yield f"from here, {task} can no longer end as in the first run"
 
 
 def gone_through(counts: Tuple[int, int, int]) -> str:
     """What was gone through."""
     states, moves, deepest = counts
-    longest = f"the longest order has {counted(deepest, 'move')}"
-    return f"tried: {counted(states, 'state')}, {counted(moves, 'move')} made; {longest}"
+    longest = f"longest run {counted(deepest, 'move')}"
+    return f"searched: {counted(states, 'state')}, {counted(moves, 'move')}, {longest}"
 
 
 def not_come_to(answer: Answer, application: Application) -> Iterator[str]:
@@ -71,7 +71,7 @@ def not_come_to(answer: Answer, application: Application) -> Iterator[str]:
     missed = [(application.task(name), numbers) for name, numbers in answer.missed]
     left = [f"{it.name} {pc}: {it.code[pc].told}" for it, numbers in missed if it for pc in numbers]
     if left:
-        yield f"no order came to {counted(len(left), 'instruction')}:"
+        yield f"never executed ({counted(len(left), 'instruction')}):"
     for at in range(0, min(len(left), MOST_NAMED), IN_A_LINE):
         yield f"  {'; '.join(left[at : at + IN_A_LINE])}"
     if len(left) > MOST_NAMED:
@@ -81,13 +81,13 @@ def not_come_to(answer: Answer, application: Application) -> Iterator[str]:
 def ended(answer: Answer) -> Iterator[str]:
     """Why not all was gone through, if it wasn't; of what was, what else is said of it."""
     if answer.why:
-        yield answer.why if answer.kind is Kind.NONE else f"that isn't all: {answer.why}"
+        yield answer.why if answer.kind is Kind.NONE else f"incomplete: {answer.why}"
 
 
 def others(answer: Answer) -> Iterator[str]:
     """What is said of ends that weren't found, where all were asked for."""
     if answer.kind is Kind.NONE:
-        yield f"none that ends otherwise, as far as a goal can say it: {answer.head()}"
+        yield f"no other end state that goals can tell apart: {answer.head()}"
     yield from ended(answer)
 
 
@@ -95,7 +95,7 @@ def smaller(answers: Sequence[Answer]) -> Iterator[str]:
     """What is said of finds that would be smaller than the one that was found."""
     heads = [it.head() for it in answers if it.kind is Kind.NONE]
     if heads:
-        yield f"none smaller: {'; '.join(heads)}"
+        yield f"no shorter run: {'; '.join(heads)}"
     for it in answers:
         yield from ended(it)
 

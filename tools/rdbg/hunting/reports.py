@@ -30,15 +30,15 @@ RULE, VACUOUS = "goal-reached", "goal-vacuous"
 RULES = [
     {
         "id": RULE,
-        "shortDescription": {"text": "an order of moves leads to a goal"},
+        "shortDescription": {"text": "a run reaches the goal"},
         "fullDescription": {
-            "text": "Some order of the moves of tasks, ticks and interrupts leads to where the goal"
-            " is so. Its moves are the code flow."
+            "text": "Some interleaving of tasks, ticks and interrupts reaches a state in which the"
+            " goal holds. The code flow lists its moves."
         },
     },
     {
         "id": VACUOUS,
-        "shortDescription": {"text": "a goal can never hold, whatever the tasks do"},
+        "shortDescription": {"text": "the goal can never hold, whatever the tasks do"},
         "fullDescription": {
             "text": "The goal needs all tasks to rest, and some task never ends and never waits"
             " without a deadline. That no run reaches the goal says nothing about the application."
@@ -81,7 +81,7 @@ def found(
     stage.at_boot().tell_all(lines)
     count = stage.walk.place
     moves = look_through(stage.target, 1, min(count, MOST_MOVES)).moves if count else ()
-    said = f"{goal}: so behind {counted(count, 'move')}"
+    said = f"{goal}: reached after {counted(count, 'move')}"
     if told:
         said += f"; {'; '.join(told)}"
     steps = [step(source, move) for move in moves]

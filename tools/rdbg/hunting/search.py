@@ -176,7 +176,12 @@ class Search:
         except NoQuestion as refused:
             if TOO_LONG not in str(refused) or not cell:
                 raise
-            self.none.append(Answer(Kind.UNTOLD, why="what tells further ends apart is too long"))
+            self.none.append(
+                Answer(
+                    Kind.UNTOLD,
+                    why="the goal that excludes the end states found so far is too long",
+                )
+            )
             return None
 
     def all(self, wanted: int) -> List[Find]:

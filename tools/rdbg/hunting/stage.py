@@ -43,9 +43,9 @@ class Run:
         if self.line == FORWARD:
             return ""
         if self.handler:
-            return f"at {self.place}: an interrupt comes: {self.handler.calls}"
+            return f"at {self.place}: an interrupt occurs: {self.handler.calls}"
         if self.line == TICK:
-            return f"at {self.place}: a tick comes early"
+            return f"at {self.place}: an early tick"
         moves = counted(self.count, "move")
         return f"at {self.place}: core {self.line.split()[1]} is {moves} ahead"
 
@@ -146,7 +146,7 @@ class Stage:
         """The order of these moves. Raises `Failure` where it can't be made."""
         answers = self.at_boot().tell_all([it for move in moves for it in ("show cores", move)])
         if any(it.startswith("no ") for it in answers):
-            raise Failure("what was found can't be made again")
+            raise Failure("cannot replay the run that was found")
         looks = [it for it in map(read, answers[::2]) if isinstance(it, Cores)]
         runs = runs_of(moves, looks, self.handlers)
         told = [it.told() for it in runs if it.told()]
@@ -165,7 +165,7 @@ class Stage:
         self.at_boot().tell_all(find.lines)
         done, look = self.walk.place, self.target.look()
         if done != find.place or not goal.is_so(look):
-            raise Failure("what was found doesn't come to its goal when it is made again")
+            raise Failure("the run that was found does not reach the goal when it is replayed")
         if not done:
             return
         table = Table.of(self.application, done, look.cores.tick)

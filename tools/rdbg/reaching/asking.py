@@ -21,7 +21,7 @@ from rdbg.temporary import temporary_file
 PROGRAM, NAME = "RDBG_REACH", "rdreach"
 # What it answers to a line that changes something, and before why it refuses one.
 DONE, REFUSED = "ok", "no: "
-TIME, CTRL_C, STOPPED = "the time was up", "Ctrl-C came", "it was stopped"
+TIME, CTRL_C, STOPPED = "the time limit was reached", "stopped by Ctrl-C", "stopped"
 
 
 class Question(NamedTuple):
@@ -33,36 +33,37 @@ class Question(NamedTuple):
     is_met: bool
     asks: str = ""
     more: str = ""
-    here: str = "it holds here"
+    here: str = "the goal holds here"
 
     def lacks_goal(self, task: str) -> str:
         """What is said where no goal stands behind it, with a task that there is."""
         instances = ("asleep", "failed") if self.is_met else ("finished", f"at {task} 1")
         texts = ", ".join(f"`{self.word} {it}`" for it in instances)
-        return f"{self.word} what? a goal, as {texts}"
+        return f"{self.word} needs a goal, for example {texts}"
 
 
 REACH = Question(
     "reach",
     True,
-    "whether some order leads there from here",
-    "It is asked of every order of moves behind this place, of whatever length: found, with the\n"
-    "order, or never, which is a theorem, or full where the room has ended.",
+    "search for a run from here that reaches GOAL",
+    "Searches every run from here, of any length. The answer is found with a run, never, which is a\n"
+    "proved result, or full if a limit of memory, states or time was reached.",
 )
 LOST = Question(
     "lost",
     False,
-    "at which move it was lost, if it was",
-    "Of the moves that are done: from which place on no order leads there, of whatever length,"
-    " the move\nthat made it so, and an order from before it; or still, with an order from here.",
+    "find the move that made GOAL unreachable",
+    "Searches the moves made so far for the first place from which no run of any length reaches GOAL,"
+    "\nand shows the move that led there and a run from before it; or answers still, with a run from"
+    " here.",
 )
 DOOMED = Question(
     "doomed",
     False,
-    "whether an order leads to where it is lost",
-    "Found, with an order to a place from which none leads there any more, of whatever length;"
-    " or never:\nfrom every place that an order leads to some order leads there.",
-    "from here no order leads there",
+    "search for a run after which GOAL is unreachable",
+    "The answer is found, with a run to a place from which no run of any length reaches GOAL, or\n"
+    "never: every place that can be reached has a run to GOAL.",
+    "no run from here reaches the goal",
 )
 # Each is one row; what its answer begins with is a row of `said.HEADS`.
 QUESTIONS: Dict[str, Question] = {it.word: it for it in (REACH, LOST, DOOMED)}
@@ -142,7 +143,7 @@ def answered(outcome: running.Outcome, known: Answer) -> Answer:
     if outcome.status != 0:
         said.check("", outcome.status, known)
     if not replies or replies[-1] == [DONE]:
-        raise Failure("the program ended before its answer", UNTOLD)
+        raise Failure("the search program ended before it answered", UNTOLD)
     return said.read(replies[-1])
 
 

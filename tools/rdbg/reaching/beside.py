@@ -43,4 +43,4 @@ def remarks(
     ticks = answer.order.count(TICK)
     if LONG < len(answer.order) <= 4 * ticks and not has_pace:
         count = len(answer.order)
-        yield f"note: {ticks} of its {count} lines are ticks; `{way} {PACE}` makes them rare"
+        yield f"note: {ticks} of the {count} lines are ticks (`{way} {PACE}` makes ticks rarer)"

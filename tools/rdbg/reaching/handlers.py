@@ -4,7 +4,7 @@ from typing import Container, Dict, Iterator, List, NamedTuple, Optional, Sequen
 
 from rdbg.application import ANY, MOST_TIMES, NO_INTERRUPT, Application, Interrupt
 from rdbg.failure import Failure
-from rdbg.wording import nearest
+from rdbg.wording import did_you_mean, nearest
 
 OPTION, WORD, BETWEEN = "--isr", "isr", "; "
 TIMES, EVER, AFTER = "times", "any", "after"
@@ -62,10 +62,13 @@ def handlers(texts: Sequence[str], application: Optional[Application]) -> List[H
             found.append(Handler(text))
             continue
         if it.after is not None and it.after not in numbers:
-            why = f"it comes after {it.after}, so {OPTION} {it.after} stands before it"
+            why = f"this interrupt comes after {it.after} (put {OPTION} {it.after} before it)"
             raise Failure(f"{OPTION} {it.name}: {why}", 2)
         if it.name in numbers:
-            raise Failure(f"{OPTION} {it.name} stands twice; how often it comes its line says", 2)
+            raise Failure(
+                f"duplicate {OPTION} {it.name} (its line in the model sets how often it may occur)",
+                2,
+            )
         numbers[it.name] = len(found)
         found.append(named(it, numbers, others))
     ends = [it for it in interrupts if it.is_of_wait and it.name not in numbers]
@@ -124,5 +127,5 @@ def check_name(text: str, names: Sequence[str]) -> None:
     """Raises `Failure` where a word was meant to be the name of an interrupt."""
     if names and len(text.split()) == 1:
         near = nearest(text.strip(), names)
-        hint = f"{near} is near" if near else f"there is {', '.join(names)}"
-        raise Failure(f"{OPTION}: the text names no interrupt {text.strip()}; {hint}", 2)
+        hint = did_you_mean(near) or f" (defined: {', '.join(names)})"
+        raise Failure(f"{OPTION}: interrupt '{text.strip()}' is not defined{hint}", 2)

@@ -10,7 +10,7 @@ from rdbg.reaching.said import Answer, Kind
 LOST_AT = re.compile(r"lost at (\d+)", re.ASCII)
 # So many lines of an order are told at the most.
 MOST_LINES = 40
-NOWHERE = "no order leads there from boot"
+NOWHERE = "no run from boot reaches the goal"
 
 
 class Loss(NamedTuple):
@@ -44,7 +44,7 @@ def told(loss: Loss, move: str, way: str) -> Iterator[str]:
         yield NOWHERE
         return
     yield move
-    yield f"`{way}` goes before it, and from there it can still come:"
+    yield f"`{way}` returns to before this move, and this run from there reaches the goal:"
 
 
 def in_one(question: Question, answer: Answer, source: Source, lines: Sequence[str]) -> str:

@@ -66,8 +66,8 @@ class Gauge:
         speed = (progress.moves - before) / (now - self._at)
         self._seen, self._at = progress.moves, now
         self._draw(
-            f"within {progress.within:,} moves, deepest {progress.deepest:,}: {progress.states:,}"
-            f" states, {speed:,.0f} moves a second, {progress.size / MEBIBYTE:,.0f} MiB"
+            f"searching: all runs of {progress.within:,} moves, longest {progress.deepest:,}:"
+            f" {progress.states:,} states, {speed:,.0f} moves/s, {progress.size / MEBIBYTE:,.0f} MiB"
         )
 
     def clear(self) -> None:

@@ -102,12 +102,12 @@ def read(lines: Sequence[str]) -> Answer:
     first, *rest = lines or [""]
     kind = next((kind for word, kind in HEADS if re.match(rf"{word}\b", first)), None)
     if kind is None:
-        raise Failure(f"'{first}' is no answer of rdreach", UNTOLD)
+        raise Failure(f"unexpected answer of the search program: '{first}'", UNTOLD)
     within, part = WITHIN.search(first), PART.search(first)
     limits = [None if it is None else int(it) for it in within.groups()] if within else []
     at = next((at for at, line in enumerate(rest) if COUNTS.fullmatch(line)), None)
     if at is None:
-        raise Failure("the answer of rdreach has no end", UNTOLD)
+        raise Failure("the answer of the search program is incomplete", UNTOLD)
     states, moves, deepest = map(int, rest[at].split()[1::2])
     title = TITLE.fullmatch(first)
     has_order = kind is Kind.REACHED or title is not None
@@ -127,15 +127,15 @@ def read(lines: Sequence[str]) -> Answer:
 def check(output: str, status: int, known: Answer) -> None:
     """Raises `Failure`, with what was `known`, where a program ended by no answer or refusal."""
     if status < 0:
-        why = f"was ended by {signal.Signals(-status).name}"
+        why = f"was killed by {signal.Signals(-status).name}"
     elif status not in STATUSES:
         why = f"ended with status {status}"
     elif status != UNTOLD and not any(map(COUNTS.fullmatch, output.splitlines())):
-        why = "ended before its answer"
+        why = "ended before it answered"
     else:
         return
-    until = "" if known.bound == Bound() else f"; until then: {known.bound.text()}"
-    raise Failure(f"the program {why}{until}", UNTOLD)
+    until = "" if known.bound == Bound() else f" (known so far: {known.bound.text()})"
+    raise Failure(f"the search program {why}{until}", UNTOLD)
 
 
 def stopped(last: Optional[Progress], surprises: Optional[int], why: str, is_reach: bool) -> Answer:

@@ -144,15 +144,15 @@ def read(words: Sequence[str]) -> Words:
         if it.option not in OWN:
             program += [it] if it.option != PROGRESS else []
         elif it.value is None:
-            raise Failure(f"{it.option} lacks its {OWN[it.option]}", 2)
+            raise Failure(f"{it.option} needs a value ({OWN[it.option]})", 2)
         elif it.option == DEFINE:
             consts.append(it.value)
         elif it.option in found:
-            raise Failure(f"{it.option} stands twice", 2)
+            raise Failure(f"duplicate option {it.option}", 2)
         else:
             found[it.option] = it.value
     text = found.get(WITHIN)
     limit = None if text is None else seconds(text)
     if text is not None and limit is None:
-        raise Failure(f"{WITHIN} takes a number of seconds above 0, and not '{shown(text)}'", 2)
+        raise Failure(f"{WITHIN} must be a number of seconds above 0, found '{shown(text)}'", 2)
     return Words(tuple(program), found, limit, tuple(consts))

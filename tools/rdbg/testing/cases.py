@@ -69,14 +69,14 @@ class Case(NamedTuple):
 def text(node: Node) -> str:
     """A text that isn't empty, on one line."""
     if not isinstance(node.value, str) or not node.value.strip() or not node.value.isprintable():
-        raise Wrong("a text")
+        raise Wrong("a string")
     return node.value.strip()
 
 
 def texts(node: Node) -> Tuple[str, ...]:
     """A list of texts."""
     if not isinstance(node.value, tuple):
-        raise Wrong("a list of texts")
+        raise Wrong("a list of strings")
     return tuple(text(it) for it in node.value)
 
 
@@ -92,9 +92,9 @@ def a_text(fits: Callable[[str], object], what: str) -> Callable[[Node], str]:
 
 
 question = a_text(QUESTIONS.__contains__, f"one of {', '.join(QUESTIONS)}")
-FIRST_LINE = f"the first line of an answer, or its beginning: {', '.join(HEADS)}"
+FIRST_LINE = f"the first line of an answer or its beginning ({', '.join(HEADS)})"
 expected = a_text(EXPECTED.fullmatch, FIRST_LINE)
-a_pace = a_text(pace, f"a text: {IS}")
+a_pace = a_text(pace, f"a string: {IS}")
 
 
 def consts(node: Node) -> Tuple[str, ...]:
@@ -131,7 +131,7 @@ class Between:
     def __call__(self, node: Node) -> int:
         found = node.value.natural() if isinstance(node.value, Number) else None
         if found is None or not self.least <= found <= self.most:
-            raise Wrong(f"a number, {self.least} to {self.most:,}")
+            raise Wrong(f"a number from {self.least} to {self.most:,}")
         return found
 
 
@@ -147,22 +147,22 @@ class Key(NamedTuple):
 
 BILLION = 1_000_000_000
 VACUOUS = "whether the goal is expected to be vacuous: some task never waits without a deadline"
-ISR = "the interrupts that may come, by name or by their calls, else all of a text"
+ISR = "the interrupts that may occur, by name or by their calls; all of the model's if omitted"
 # Each is one row.
 KEYS = (
-    Key("file", "the application, JSON or in lines, beside this file", text, is_needed=True),
+    Key("file", "the model (.fw, .json or .c), in the folder of this file", text, is_needed=True),
     Key("goal", "the goal (docs/REACHING.md)", text, is_needed=True),
-    Key("expect", "the first line of the answer, or its beginning", expected, is_needed=True),
-    Key("question", "what is asked of the goal: reach by itself", question),
+    Key("expect", "the first line of the answer or its beginning", expected, is_needed=True),
+    Key("question", "the question about the goal; reach if omitted", question),
     Key("isr", ISR, texts),
-    Key("consts", "consts of a text in lines with their numbers, NAME=N", consts),
-    Key("pace", "how many moves each busy core makes from one tick to the next", a_pace),
-    Key("from", "the file of command lines behind which orders begin", text, "begin"),
-    Key("surprises", "orders of so many surprises at the most", Between(0, 255)),
-    Key("moves", "orders of so many moves at the most", Between(0, BILLION)),
-    Key("states", "how many states are kept", Between(1, BILLION)),
-    Key("memory", "for how many mebibytes states are kept", Between(1, 1_048_576)),
-    Key("within", f"how many seconds it may take, {WITHIN:.0f} by itself", limit),
+    Key("consts", "values of consts of a .fw model, NAME=N", consts),
+    Key("pace", "the number of moves that each busy core makes between two ticks", a_pace),
+    Key("from", "the file of command lines after which the search begins", text, "begin"),
+    Key("surprises", "search runs of at most this many surprises", Between(0, 255)),
+    Key("moves", "search runs of at most this many moves", Between(0, BILLION)),
+    Key("states", "the maximum number of stored states", Between(1, BILLION)),
+    Key("memory", "the maximum memory for stored states in MiB", Between(1, 1_048_576)),
+    Key("within", f"the time limit in seconds; {WITHIN:.0f} if omitted", limit),
     Key("vacuous", VACUOUS, true_or_false),
 )
 NAMES = tuple(key.name for key in KEYS)
@@ -184,11 +184,11 @@ class Cases:
         node = self._members(root, "the file", (CASES,)).get(CASES)
         if node is None:
             if isinstance(root.value, Object) and not self.faults:
-                self.fault(root.place, f'the file lacks "{CASES}", its list of cases')
+                self.fault(root.place, f'the file: missing key "{CASES}" (the list of cases)')
             return
         if not isinstance(node.value, tuple) or not node.value:
             what = "an empty list" if node.value == () else shown(kind_of(node.value))
-            self.fault(node.place, f"{CASES} is {what}, and is to be a list of cases")
+            self.fault(node.place, f"{CASES} must be a list of cases, found {what}")
             return
         for at, it in enumerate(node.value, 1):
             self._case(it, f"case {at}")
@@ -198,15 +198,17 @@ class Cases:
         found: Dict[str, Node] = {}
         if not isinstance(node.value, Object):
             what = shown(kind_of(node.value))
-            self.fault(node.place, f"{label} is {what}, and is to be an object")
+            self.fault(node.place, f"{label} must be an object, found {what}")
             return found
         for it in node.value.members:
             if it.key not in names:
                 near = nearest(it.key, names)
-                hint = f"{near}?" if near else f"these are: {', '.join(names)}"
-                self.fault(it.place, f"{label}: {quoted(it.key)} is none of its keys: {hint}")
+                hint = (
+                    f"did you mean {quoted(near)}?" if near else f"known keys: {', '.join(names)}"
+                )
+                self.fault(it.place, f"{label}: unknown key {quoted(it.key)} ({hint})")
             elif it.key in found:
-                self.fault(it.place, f"{label}: {it.key} stands twice")
+                self.fault(it.place, f"{label}: duplicate key {quoted(it.key)}")
             else:
                 found[it.key] = it.node
         return found
@@ -222,9 +224,9 @@ class Cases:
                 try:
                     values[key.field or key.name] = key.read(found[key.name])
                 except Wrong as wrong:
-                    self.fault(found[key.name].place, f"{label}: {key.name} is to be {wrong}")
+                    self.fault(found[key.name].place, f"{label}: {key.name} must be {wrong}")
             elif key.is_needed:
-                self.fault(node.place, f"{label} lacks {key.name}: {key.says}")
+                self.fault(node.place, f"{label}: missing key {quoted(key.name)} ({key.says})")
         if len(self.faults) == before:
             self.cases.append(Case(node.place, **values))
 
@@ -235,7 +237,7 @@ def file_of(path: str) -> str:
         return path
     found = os.path.join(path, FILE)
     if not os.path.exists(found):
-        raise Failure(f"{path} has no {FILE}, which lists its applications with their goals", 2)
+        raise Failure(f"{path} has no {FILE} (the file that lists the models and their goals)", 2)
     return found
 
 

@@ -10,8 +10,8 @@ from rdbg.testing.cases import CASES, FILE, KEYS, Between, Key
 from rdbg.tree import Node
 
 ABOUT = (
-    f"The applications of a folder with their goals, {FILE}, as rdbg test tries them"
-    " (docs/COMPANIONS.md). rdbg asks for more: applications, goals and interrupts that are there."
+    f"A file {FILE}: models, their goals and the expected answers, for rdbg test"
+    " (docs/COMPANIONS.md). rdbg also checks that the models, goals and interrupts exist."
 )
 TEXT: Schema = {"type": "string", "minLength": 1}
 # What a value is by how it is read. Each is one row.
@@ -44,7 +44,7 @@ def case() -> Schema:
 def text() -> str:
     """The schema of a file of cases."""
     cases_of = {"type": "array", "minItems": 1, "items": case()}
-    return document("goals of rdbg applications", ABOUT, record([CASES], {CASES: cases_of}))
+    return document("rdbg goals", ABOUT, record([CASES], {CASES: cases_of}))
 
 
 if __name__ == "__main__":

@@ -59,7 +59,7 @@ def prepared(case: Case, folder: str) -> Tuple[Stage, Goal]:
         raise Failure(f"{path}:{source.faults[0]}", 2)
     words = case.goal.split()
     if words == [DIFFERS]:
-        raise Failure(f"{DIFFERS} is a goal of hunt alone; a case has one of places", 2)
+        raise Failure(f"{DIFFERS} is a goal of hunt only (a case needs a goal about states)", 2)
     goal = read_goal(words, source, QUESTIONS[case.question])
     return Stage(source, handlers(case.isr, source.application)), goal
 

@@ -67,7 +67,7 @@ def ask(text: str, source: Optional[Source], told: Sequence[Told]) -> Answered:
     question, words = QUESTIONS.get(text.partition(" ")[0], REACH), text.split()
     option = f"--{LOST.word}" if question is LOST else "--ask"
     if source is None:
-        raise Failure(f"{option} goes with a file: rdbg trace FILE", 2)
+        raise Failure(f"{option} needs a model: rdbg trace FILE", 2)
     goal = words[words[:1] == [question.word] :]
     with turned(of_words, NoGoal, of=option):
         _, words_asked = for_search(goal, Scope.of(source))
@@ -188,8 +188,8 @@ def wanted(only: Optional[str], names: Names, cores: int) -> Optional[List[str]]
         if name not in known:
             near = nearest(name, known)
             there = ", ".join(known[:FEW]) + (", .." if len(known) > FEW else "")
-            meant = f"{near}?" if near else f"there are {there}"
-            raise Failure(f"--only: '{shown(name)}' names no task, object or core; {meant}", 2)
+            hint = f"did you mean '{near}'?" if near else f"defined: {there}"
+            raise Failure(f"--only: '{shown(name)}' is not a task, object or core ({hint})", 2)
     return found
 
 
@@ -297,7 +297,10 @@ def trace_port(given: argparse.Namespace, source: Optional[Source]) -> None:
         done = target.place
     scope = dataclasses.replace(Scope.of(source), names=target.names)
     if given.first is None and part.before.place >= first:
-        print(f"rdbg trace: the last {AT_A_PORT} moves; --from N looks at more", file=sys.stderr)
+        print(
+            f"rdbg trace: only the last {AT_A_PORT} moves are shown (use --from N for more)",
+            file=sys.stderr,
+        )
     if given.events:
         write_events([part], (), given.events)
         return
@@ -319,4 +322,4 @@ def trace(given: argparse.Namespace, source: Optional[Source]) -> None:
     except Unable as unable:
         raise Failure(str(unable)) from None
     except Refused as refused:
-        raise Failure(f"rdbg refused it: no {refused}") from None
+        raise Failure(f"the target refused a command: no {refused}") from None

@@ -95,7 +95,9 @@ def pieces_of(run: Run, target: Target, told: int, first: int, last: int) -> Ite
     left = run.limits.history - told - RESERVE - run.ways - trail.lines_for(0, target.names)
     count = min(MOST_MOVES, left // (trail.lines_for(1, target.names) + 1))
     if first <= last and count < 1:
-        raise Failure(f"the history has no room to look at moves behind {told} lines")
+        raise Failure(
+            f"the history has no room left to show moves after {told} lines (raise --history)"
+        )
     for at in range(first, last + 1, max(1, count)):
         yield Piece(told, at, min(last, at + count - 1))
 
