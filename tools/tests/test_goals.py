@@ -3,6 +3,7 @@ import json
 import os
 import pathlib
 import random
+import re
 import tempfile
 import unittest
 from typing import List
@@ -22,6 +23,26 @@ from tests.reaching.states import State
 
 # Applications and goals of each, for each of two tests.
 SEEDS, COUNT, PLACES = range(6), 40, 30
+# How the search program words its refusals, as patterns, and how the tools word the same.
+WORDINGS = (
+    (r"a claim, ('not' or '\(') is wanted there, as (.*)", r"expected an atom, \1, for example \2"),
+    (r"a number of at most (\d+) is wanted there", r"expected a number from 0 to \1"),
+    (r"a register is wanted there, 0 to 7", r"expected a register number, 0 to 7"),
+    (r"the name of a phase is wanted there: (.*), failed", r"expected a phase: \1 or failed"),
+    (r"a place where a task waits is wanted there:", r"expected a place where a task can wait:"),
+    (r"('and', 'or', '\)' or the end) is wanted there", r"expected \1 of the goal"),
+    (r"((?:the name|the index|the number|'=') ?.*) is wanted there", r"expected \1"),
+    (r"this parenthesis isn't open", r"unmatched ')'"),
+    (r"a parenthesis isn't closed", r"missing ')'"),
+    (
+        r"this is said of a move, and stands by itself where a run is to go: until!, rc!",
+        r"this condition is about a move and must stand alone, after until! or rc!",
+    ),
+    (
+        r"a stream buffer and a message buffer have this name: say (.*)",
+        r"this names both a stream and a message buffer (use \1)",
+    ),
+)
 # A word of a goal becomes one of these.
 OTHERS = (
     "and", "or", "not", "(", ")", "=", "<", ">", "&", "==", "0", "7", "8", "255", "4294967295",
@@ -53,8 +74,15 @@ def scope_of(path: str) -> Scope:
     return Scope.of(load(path))
 
 
+def as_tools_say(why: str) -> str:
+    """Returns the search program's refusal of a goal in the wording of the tools."""
+    for own, wording in WORDINGS:
+        why = re.sub(own, wording, why)
+    return why
+
+
 class Refusals(unittest.TestCase):
-    """What is refused, as the program refuses it."""
+    """The tools refuse the goals that the search program refuses, for the same reason."""
 
     def check(self, path: str, goals: List[str]) -> None:
         """Each goal, by both."""
@@ -68,8 +96,9 @@ class Refusals(unittest.TestCase):
                     goal_words.read(goal.split(), scope)
                     self.assertFalse(answer.startswith("no: goal"), answer)
                 except NoGoal as wrong:
-                    why = answer[len("no: goal: ") :]
-                    self.assertEqual(f"no: goal: {str(wrong)[: len(why)]}", answer)
+                    self.assertEqual("no: goal: ", answer[:10])
+                    why = as_tools_say(answer[10:])
+                    self.assertEqual(why, str(wrong)[: len(why)])
 
     def test_words_at_random(self) -> None:
         if "RDBG_REACH" not in os.environ:
@@ -98,7 +127,7 @@ class Refusals(unittest.TestCase):
             ("worker r1 = 0x10", "`reg worker 1 = 16`?)"),
             ("count job = 1", "`count jobs = 1`?)"),
             ("at nobody 0", " (defined: worker, producer, poller)"),
-            ("wakes worker", "this is said of a move, and stands by itself"),
+            ("wakes worker", "this condition is about a move and must stand alone"),
         ):
             with self.subTest(goal), self.assertRaises(NoGoal) as refused:
                 goal_words.read(goal.split(), scope)

@@ -2,6 +2,7 @@
 is written, at the cost that is said."""
 import json
 import pathlib
+import re
 import tempfile
 import unittest
 from typing import Callable, Dict, List, Sequence
@@ -89,7 +90,7 @@ class EachTest(unittest.TestCase):
         list(session.tell_all(["step 0"] * 2))
         part = code[2].part
         assert part is not None
-        costs = [int(it.split()[0]) for it in part.cost.split(", ")]
+        costs = [int(it) for it in re.findall(r"[0-9]+", part.cost)]
         moves = costs[-1] if is_met else costs[0]
         registers = shown(session, task.name).registers
         list(session.tell_all(["step 0"] * (moves - 1)))

@@ -159,7 +159,7 @@ class Semaphores(unittest.TestCase):
                 "2: mutex lock: queue lock length 1 item 1, which holds an item while it is taken",
                 "3: semaphore done: queue done length 1 item 1, which holds an item while it can be taken",
                 "4: semaphore pool length 2 given: queue pool length 2 item 1,"
-                " with an item while it is taken",
+                " which holds an item while it is taken",
                 "7: take lock r3: t 1, 1 move: send lock r3",
             ],
             list(expansions(found.application, found.made)),

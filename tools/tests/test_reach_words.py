@@ -43,7 +43,7 @@ class Own(unittest.TestCase):
             ("a.json asleep --report", "--report needs a value (FILE)"),
             ("a.json asleep -o one -otwo", "duplicate option -o"),
             ("--within 1 a.json asleep --within=2", "duplicate option --within"),
-            ("a.json asleep --within 0", "--within takes a number of seconds above 0, found '0'"),
+            ("a.json asleep --within 0", "--within must be a number of seconds above 0, found '0'"),
             ("a.json asleep --within=", "found ''"),
             ("a.json asleep --within -1", "found '-1'"),
             ("a.json asleep --within nan", "found 'nan'"),

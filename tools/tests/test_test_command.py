@@ -195,7 +195,7 @@ class Refused(InFolder):
 
     def test_what_is_lacking(self) -> None:
         found = self.faults({"file": MENDED}, 7)
-        self.assertEqual("case 1 lacks goal: the goal (docs/REACHING.md)", found[0])
+        self.assertEqual('case 1: missing key "goal" (the goal (docs/REACHING.md))', found[0])
         self.assertEqual("case 2 must be an object, found the number 7", found[2])
         self.assertEqual(3, len(found))
 
@@ -220,11 +220,11 @@ class Refused(InFolder):
         for text, wanted in (
             ("", "1:1: the file is empty"),
             ("{", "1:2: "),
-            ("[]", "1:1: the file is a list, and is to be an object"),
-            ("{}", '1:1: the file lacks "cases", its list of cases'),
+            ("[]", "1:1: the file must be an object, found a list"),
+            ("{}", '1:1: the file: missing key "cases" (the list of cases)'),
             ('{"case": []}', '1:2: the file: unknown key "case" (did you mean "cases"?)'),
-            ('{"cases": []}', "1:11: cases is an empty list, and is to be a list of cases"),
-            ('{"cases": 7}', "1:11: cases is the number 7, and is to be a list of cases"),
+            ('{"cases": []}', "1:11: cases must be a list of cases, found an empty list"),
+            ('{"cases": 7}', "1:11: cases must be a list of cases, found the number 7"),
             ('{"cases": [], "cases": []}', '1:15: the file: duplicate key "cases"'),
         ):
             path = self.written("goals.json", text)
@@ -235,7 +235,7 @@ class Refused(InFolder):
     def test_no_file_and_no_words(self) -> None:
         status, _, errors = tested(self.folder)
         self.assertEqual(2, status)
-        lacks = f"{self.folder} has no goals.json, which lists its applications with their goals"
+        lacks = f"{self.folder} has no goals.json, (the file that lists the models and their goals)"
         self.assertEqual([f"rdbg test: {lacks}"], errors)
         status, _, errors = tested(os.path.join(self.folder, "none.json"))
         self.assertEqual(2, status)
