@@ -39,7 +39,7 @@ def written(folder: str, text: str, name: str = "application.json") -> str:
     return str(file)
 
 
-FOUND = re.compile(r"found(?: \d+)?: .*, at (\d+)(?:, (?:without a|with (\d+)) surprises?)?$")
+FOUND = re.compile(r"found(?: \d+)?: .*, at (\d+)(?:, (?:without|with (\d+)) surprises?)?$")
 
 
 def found(said: Sequence[str]) -> List[Tuple[int, int]]:

@@ -26,7 +26,7 @@ class Words(Held):
     def test_the_move_that_lost_it(self) -> None:
         with editor() as client:
             client.begin(LOST)
-            self.assertIn("lost what? a goal, as `lost finished`", client.typed("lost"))
+            self.assertIn("lost needs a goal, for example `lost finished`", client.typed("lost"))
             client.typed(RUN)
             said = client.typed("lost at worker 1").splitlines()
             move = "poller 0 recv jobs 0 -> 1, data 41, jobs 0/1"
@@ -113,7 +113,7 @@ class Stops(Held):
             client.typed("reach failed")
             self.assertEqual("lost failed", named(client, "lost")[0]["message"])
             for name, why in (
-                ("lost at worker 7", "word 3, '7': the number of an instruction"),
+                ("lost at worker 7", "word 3, '7': expected the number of an instruction"),
                 ("lost asleap", "did you mean `asleep`?"),
                 ("lost sleeps worker", "no word for `sleeps`"),
             ):

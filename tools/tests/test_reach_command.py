@@ -75,8 +75,12 @@ class Answers(InFolder):
         pathlib.Path("logger.fw").write_text(LINES)
         for file, goal, why in (
             (LOST, "asleap", "word 1, 'asleap': expected an atom, .*did you mean `asleep`"),
-            (LOST, "sleeps worker", "the search through orders has no word for `sleeps`"),
-            ("logger.fw", "at logger agian", "word 3, 'agian': the number of an instruction"),
+            (LOST, "sleeps worker", "the search does not support `sleeps`"),
+            (
+                "logger.fw",
+                "at logger agian",
+                "word 3, 'agian': expected the number of an instruction",
+            ),
         ):
             with self.subTest(goal), program(FOUND) as it:
                 status, output, errors = said(file, goal)

@@ -60,16 +60,21 @@ class Goals(unittest.TestCase):
         first, *_, stepped, moved, of_way = self.said(
             LOST, "lost", "until count jobs > 0 50", "lost", "step 1", "back until tick = 0", "lost"
         )
-        self.assertEqual("no: lost what? a goal, as `lost finished`, `lost at worker 1`", first)
+        self.assertEqual(
+            "no: lost needs a goal, for example `lost finished`, `lost at worker 1`", first
+        )
         self.assertEqual(("ok at 6", "ok at 2 met"), (stepped, moved))
         self.assertEqual("still: the goal holds here", of_way)
 
     def test_what_is_no_goal(self) -> None:
         for line, why in (
             ("reach asleap", "no: word 1, 'asleap': expected an atom, .*did you mean `asleep`"),
-            ("reach sleeps worker", "no: the search through orders has no word for `sleeps`"),
+            ("reach sleeps worker", "no: the search does not support `sleeps`"),
             ("until count jobs>0 9", "no Syntax: word 2, .jobs>0.: .*; `count jobs > 0` would be"),
-            ("back until count jobs == 0", "no Syntax: word 3, '==': .*; `count jobs = 0` would"),
+            (
+                "back until count jobs == 0",
+                "no Syntax: word 3, '==': .*did you mean `count jobs = 0`",
+            ),
             ("until! asleap", "no Syntax: word 1, 'asleap': .*did you mean `asleep`"),
             ("rc! sleeps nobody", "no Syntax: word 2, 'nobody': expected the name of a task"),
             ("rc", "no Syntax: expected a goal, for example `rc asleep`"),

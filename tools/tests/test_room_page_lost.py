@@ -83,7 +83,9 @@ class Lost(OnPage):
         with web_room() as room:
             self.begin(room)
             self.click("#ask-lost")
-            self.said("lost -> no: lost what? a goal, as `lost finished`, `lost at worker 1`")
+            self.said(
+                "lost -> no: lost needs a goal, for example `lost finished`, `lost at worker 1`"
+            )
             self.assertEqual("goal", self.value("document.activeElement.id"))
             self.fill("#goal", "count jobs > 0")
             self.click("#back-until")
@@ -102,7 +104,9 @@ class Lost(OnPage):
             self.assertTrue(self.value(GONE))
             self.fill("#goal", "at worker one")
             self.click("#ask-lost")
-            self.said("lost at worker one -> no: word 3, 'one': the number of an instruction")
+            self.said(
+                "lost at worker one -> no: word 3, 'one': expected the number of an instruction"
+            )
 
     def test_runs_to_goals(self) -> None:
         with web_room() as room:

@@ -29,10 +29,10 @@ SYNTAX = {
     "forward 1,000": "`forward 1000`",
     "back": "`back 1`",
     "until count jobs>0": "word 2, 'jobs>0': expected the name of a queue (did you mean `count jobs > 0`"
-    " would",
+    "`?)",
     "until": "or another goal: `help until`",
     "until count jobs > 0 and phase worker": "it ends too early: expected a phase: run",
-    "until count jobs > 0 || phase worker wait 9": "`count jobs > 0 or phase worker wait` would",
+    "until count jobs > 0 || phase worker wait 9": "`count jobs > 0 or phase worker wait`?",
     "until w0 and w1": "word 1, 'w0': expected an atom, 'not' or '('",
     "until sleep worker": "`sleeps worker`?",
     "sleeps worker": "`until sleeps` runs there",

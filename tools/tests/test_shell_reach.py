@@ -110,7 +110,7 @@ class Lost(unittest.TestCase):
     def test_the_goal_before(self) -> None:
         with example("lost_item") as shell:
             for word in ("reach", "lost", "doomed"):
-                self.assertIn(f"{word} what? a goal, as `{word} ", said(shell, word)[0])
+                self.assertIn(f"{word} needs a goal, for example `{word} ", said(shell, word)[0])
             said(shell, *RUN)
             for line, goal in (
                 ("until! count jobs > 0 1", "count jobs > 0"),

@@ -48,7 +48,7 @@ class Rows(Traced):
     def test_what_cant_be_asked(self) -> None:
         for words, why in (
             (("--lost", "faild"), "--lost: word 1, 'faild': .* .did you mean `failed`"),
-            (("--lost", "sleeps worker"), "--lost: the search through orders has no word"),
+            (("--lost", "sleeps worker"), "--lost: the search does not support"),
             (("--lost", "failed", "--events", "x"), "--lost is for rows or --page of a run that"),
             (("--ask", "lost faild"), "--lost: word 1, 'faild'"),
             (("--ask", "reach failed"), "--ask is for a page: --page OUT.html; of rows it takes"),
