@@ -84,7 +84,7 @@ class Logs(InFile):
             client.begin(self.file, limit=9)
             client.lines(self.file, 14, logMessage="log {4 / taker.r2}")
             client.stopped("continue", threadId=2)
-            self.assertEqual(self.logged(client)[0], "log {4 / taker.r2} (it divides by 0)")
+            self.assertEqual(self.logged(client)[0], "log {4 / taker.r2} (division by 0)")
 
 
 class Ends(InFile):

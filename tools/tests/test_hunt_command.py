@@ -276,7 +276,7 @@ class Statuses(unittest.TestCase):
         with searches.program("", end=searches.KILLED):
             status, lines, errors = said(LOST, "stuck")
         self.assertEqual((2, []), (status, lines))
-        self.assertEqual(["rdbg hunt: the program was ended by SIGKILL"], errors)
+        self.assertEqual(["rdbg hunt: the search program was killed by SIGKILL"], errors)
         with searches.program("", "rdreach: no such option\n", "exit 2"):
             status, lines, errors = said(LOST, "stuck")
         self.assertEqual((2, [], ["rdbg: no such option"]), (status, lines, errors))

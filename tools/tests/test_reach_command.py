@@ -143,20 +143,20 @@ class Dead(unittest.TestCase):
             self.assertEqual((2, "", [f"rdbg reach: {why}"]), said(*ASKED))
 
     def test_a_signal(self) -> None:
-        self.check("the program was ended by SIGKILL")
-        self.check("the program was ended by SIGABRT", end="kill -6 $$")
+        self.check("the search program was killed by SIGKILL")
+        self.check("the search program was killed by SIGABRT", end="kill -6 $$")
         self.check(
             "the search program was killed by SIGKILL (known so far: not within 12 moves)", "", FAR
         )
 
     def test_in_the_midst_of_its_answer(self) -> None:
         # (an order that is cut off leads elsewhere)
-        self.check("the program was ended by SIGKILL", "found\nstep 0\n")
+        self.check("the search program was killed by SIGKILL", "found\nstep 0\n")
         self.check("the search program ended before it answered", "found\nstep 0\n", end="exit 1")
         self.check("the search program ended before it answered", end="exit 0")
 
     def test_another_status(self) -> None:
-        self.check("the program ended with status 101", end="exit 101")
+        self.check("the search program ended with status 101", end="exit 101")
 
     def test_none_to_start(self) -> None:
         with mock.patch.dict(os.environ, {"RDBG_REACH": "/none/rdreach"}):

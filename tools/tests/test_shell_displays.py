@@ -56,16 +56,16 @@ class Expressions(unittest.TestCase):
             for text, why in (
                 ("count jobs +", "it ends too early: expected a number"),
                 ("count job + 1", "word 2, 'job': expected the name of a queue (defined:"),
-                ("worker.r0 + wroker.r0", "word 6, 'wroker': the name of a task"),
+                ("worker.r0 + wroker.r0", "word 6, 'wroker': expected the name of a task"),
                 ("worker.r0 1", "word 4, '1': expected an operator or the end"),
                 ("(1 + 2", "missing ')'"),
                 (
                     "r0 + 1",
                     "word 1, 'r0': expected a number: 41, 0x29, `count QUEUE`, `TASK",
                 ),
-                ("1 / count jobs", "it divides by 0"),
-                ("1 << 40", "it shifts by 40; 32 is the most"),
-                ("1 < 2 < 3", "word 4, '<': an operator or the end"),
+                ("1 / count jobs", "division by 0"),
+                ("1 << 40", "shift by 40 (at most 32 is allowed)"),
+                ("1 < 2 < 3", "word 4, '<': expected an operator or the end"),
                 ("reg worker 9 + 1", "word 3, '9': expected a register number"),
                 ("asleep and", "it ends too early"),
                 ("1 ! 2", "word 2, '!'"),
@@ -114,11 +114,11 @@ class Displays(unittest.TestCase):
         with example("lost_item") as shell:
             self.assertIn("nothing is displayed", said(shell, "display")[0])
             self.assertIn("expected the name", said(shell, "display count jobz + 1")[0])
-            self.assertEqual(said(shell, "display 4 / count jobs"), ["# it divides by 0"])
+            self.assertEqual(said(shell, "display 4 / count jobs"), ["# division by 0"])
             self.assertEqual(shell.displays, {})
             said(shell, "until! count jobs > 0", "display 4 / count jobs")
             answers = said(shell, "back 1")
-            self.assertEqual(answers[1:], ["# 1: 4 / count jobs: it divides by 0"])
+            self.assertEqual(answers[1:], ["# 1: 4 / count jobs: division by 0"])
             for line in ("undisplay 2", "undisplay x"):
                 self.assertIn("There are: 1; ", said(shell, line)[0])
 

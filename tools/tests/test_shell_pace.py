@@ -286,7 +286,7 @@ class InAnEditor(unittest.TestCase):
             said = client.refused("launch", program=str(self.file), interrupts=["pign"])
             self.assertIn("the text names no interrupt pign", said)
             said = client.refused("launch", program=str(self.file), consts=["X=1"])
-            self.assertIn("-D X: no line has a const X", said)
+            self.assertIn("-D X: const 'X' is not defined", said)
 
 
 if __name__ == "__main__":
