@@ -198,7 +198,7 @@ class Statuses(unittest.TestCase):
         self.assertLess(time.monotonic() - began, 60)
 
     def test_a_limit_of_states(self) -> None:
-        why = "that isn't all: as many states as may be kept (--states)"
+        why = "incomplete: as many states as may be kept (--states)"
         asked: List[List[str]] = [[], ["--exhaustive"], ["--expect", "none"]]
         for words in asked:
             status, _, errors = said(LOST, "reg poller 7 = 1", "--states", "20", *words)
@@ -218,7 +218,7 @@ class Statuses(unittest.TestCase):
             ("count jobs", "it ends too early: expected '=', '<' or '>'"),
             ("jobs", "word 1, 'jobs': expected an atom, 'not' or '('"),
             ("w0", "word 1, 'w0': expected an atom, 'not' or '('"),
-            ("wakes worker", "word 1, 'wakes': this is said of a move"),
+            ("wakes worker", "word 1, 'wakes': this condition is about a move"),
             ("", "it ends too early: expected an atom, 'not' or '('"),
         ):
             with self.subTest(goal):

@@ -41,7 +41,7 @@ class Reach(unittest.TestCase):
             self.assertIn("`reach asleep`", said(shell, "reach")[0])
             self.assertIn("word 1, 'stuk'", said(shell, "reach stuk")[0])
             with searches.program("", end=searches.KILLED):
-                self.assertIn("was ended by SIGKILL", said(shell, "reach stuck")[0])
+                self.assertIn("was killed by SIGKILL", said(shell, "reach stuck")[0])
         with opened(None) as shell:
             self.assertIn("`rdbg sh FILE`", said(shell, "reach stuck")[0])
 
