@@ -152,11 +152,11 @@ class Rows(Traced):
         self.assertEqual([HEAD, ROWS[0]], output.getvalue().splitlines())
 
     def test_names_that_nothing_has(self) -> None:
-        nobody = "rdbg trace: --only: '{}' names no task, object or core; {}"
-        there = "there are worker, producer, poller, jobs, 0, 1, tick, edit, .."
+        nobody = "rdbg trace: --only: '{}' is not a task, object or core ({})"
+        there = "defined: worker, producer, poller, jobs, 0, 1, tick, edit, .."
         for names, name, meant in (
-            ("workr", "workr", "worker?"),
-            ("jobs, prodcuer", "prodcuer", "producer?"),
+            ("workr", "workr", "did you mean 'worker'?"),
+            ("jobs, prodcuer", "prodcuer", "did you mean 'producer'?"),
             ("left,core", "left", there),  # (which are words of effects)
             ("2", "2", there),
             ("", "", there),
