@@ -114,7 +114,7 @@ class Reads(unittest.TestCase):
             TEXT.split("interrupt ping")[0]
             + "task dsp priority 2\nend\ninterrupt none: send rx 41\n"
         )
-        said = "none is what leaves interrupts out, and the name of none"
+        said = "an interrupt cannot be named 'none', which stands for no interrupts"
         self.assertEqual([f"9:11: {said}"], faults(text.encode()))
 
     def test_names_and_a_profile(self) -> None:
