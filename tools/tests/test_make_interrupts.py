@@ -103,11 +103,9 @@ class Reads(unittest.TestCase):
                 self.assertEqual([said], self.told(line))
         for call in self.ROUND:
             name = call.split(" ")[0].split("(")[0]
-            said = (
-                f"no interrupt makes {name} here, which makes send Q HEX, notify K I N ACTION, or"
-            )
-            said += " give NAME: let a task of the highest priority play it, with wait for its time"
-            self.assertEqual([f"{said} (docs/guides/from-c.md)"], self.told(f"ping: {call}"))
+            said = f"an interrupt cannot call '{name}', only send Q HEX, notify K I N ACTION, or give"
+            said += " NAME (model it as a task of the highest priority that uses wait, see"
+            self.assertEqual([f"{said} docs/guides/from-c.md)"], self.told(f"ping: {call}"))
 
     def test_the_word_that_leaves_them_out_names_none(self) -> None:
         text = (
