@@ -149,8 +149,8 @@ test("the next instruction of a task, where it is known", () => {
 });
 
 test("who has the wheel", () => {
-  assert.equal(wheelWords("ann", undefined), "The wheel is free: everybody can move the target.");
-  assert.equal(wheelWords("ann", { name: "ann" }), "You have the wheel: nobody else can move the target.");
+  assert.equal(wheelWords("ann", undefined), "The wheel is free: anyone can move.");
+  assert.equal(wheelWords("ann", { name: "ann" }), "You have the wheel: only you can move.");
   const away = "bob has the wheel and is away: your moves are refused.";
   assert.equal(wheelWords("ann", { name: "bob", isHere: false }), away);
 });

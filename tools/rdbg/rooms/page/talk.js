@@ -58,8 +58,8 @@ class Talk {
 }
 
 function wheelWords(me, holder) {
-  if (!holder) return "The wheel is free: everybody can move the target.";
-  if (holder.name === me) return "You have the wheel: nobody else can move the target.";
+  if (!holder) return "The wheel is free: anyone can move.";
+  if (holder.name === me) return "You have the wheel: only you can move.";
   const away = holder.isHere ? "" : " and is away";
   return `${holder.name} has the wheel${away}: your moves are refused.`;
 }
