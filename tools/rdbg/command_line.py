@@ -1,4 +1,4 @@
-"""What is wrong with a command line that the program has refused, in a sentence."""
+"""Explains what is wrong with a command line that the program refused."""
 from typing import Dict, List, Optional, Sequence, Tuple
 
 from rdbg import invocation
@@ -6,7 +6,7 @@ from rdbg.digits import natural
 from rdbg.wording import nearest, shown
 
 MILLION = 1_000_000
-# Of each option: what stands behind it, and between which numbers it must be, if it is one.
+# For each option the name of its value, and its range if it is a number.
 OPTIONS: Dict[str, Tuple[str, Optional[Tuple[int, int]]]] = {
     "--app": ("FILE", None),
     "--port": ("PORT", (1, 65_535)),
@@ -22,39 +22,37 @@ NEEDED = {"run": (), "serve": ("--app", "--port", "--sessions")}
 
 
 def unknown(word: str, words: Sequence[str]) -> str:
-    """That a word is none of these, and which is near."""
+    """Says that a word is not one of these, with a suggestion."""
     near = nearest(word, words)
-    return f"'{word}' is no word of rdbg; " + (
-        f"{near}?" if near else f"see {invocation.command()} --help"
-    )
+    meant = f"did you mean '{near}'?" if near else f"see {invocation.command()} --help"
+    return f"unknown command '{word}' ({meant})"
 
 
 def wrong_value(option: str, value: Optional[str]) -> Optional[str]:
-    """What is wrong with the value of an option; none where that is missing counts as one."""
+    """Says what is wrong with the value of an option, also if it is missing."""
     name, limits = OPTIONS[option]
     if value is None:
-        return f"{option} lacks its {name}"
+        return f"{option} needs a value {name}"
     # (the program takes a plus sign before a number)
     if limits is not None and natural(value[value.startswith("+") :], limits[1], limits[0]) is None:
-        return f"{option} takes {limits[0]} to {limits[1]}, and not '{shown(value)}'"
+        return f"{option} must be {limits[0]} to {limits[1]}, found '{shown(value)}'"
     return None
 
 
 def wrong_option(command: str, option: str) -> str:
-    """Why a word can't stand where an option can."""
+    """Says why a word is not an option of a command."""
     options = OF_COMMAND[command]
     if option in OPTIONS:
-        return f"{command} takes no {option}"
+        return f"{command} has no option {option}"
     if not option.startswith("-"):
-        return f"'{option}' stands by itself; an application is given by --app FILE"
+        return f"unexpected '{option}' (to name a model, use --app FILE)"
     near = nearest(option, options)
-    return f"{command} takes no {option}; " + (
-        f"{near}?" if near else f"see {invocation.command()} help {command}"
-    )
+    meant = f"did you mean {near}?" if near else f"see {invocation.command()} help {command}"
+    return f"{command} has no option {option} ({meant})"
 
 
 def why(words: Sequence[str]) -> Optional[str]:
-    """Why the program refuses the words `run ..` or `serve ..`; none where nothing is seen."""
+    """Says why the program refuses the words `run ..` or `serve ..`, if a reason is found."""
     command, *rest = words
     seen: List[str] = []
     while rest:
@@ -62,10 +60,10 @@ def why(words: Sequence[str]) -> Optional[str]:
         if option not in OF_COMMAND[command]:
             return wrong_option(command, option)
         if option in seen:
-            return f"{option} stands twice"
+            return f"{option} is given twice"
         seen.append(option)
         found = wrong_value(option, value if has_value else rest.pop(0) if rest else None)
         if found is not None:
             return found
     lacking = [option for option in NEEDED[command] if option not in seen]
-    return f"{command} lacks {', '.join(lacking)}" if lacking else None
+    return f"{command} needs {', '.join(lacking)}" if lacking else None

@@ -1,4 +1,4 @@
-"""Finds the companion that the first word names, and runs it."""
+"""Runs the tool that the first word of the command line names."""
 import contextlib
 import importlib
 import io
@@ -13,21 +13,21 @@ from rdbg.failure import Failure
 from rdbg.printable import printable
 
 FOLDER = os.path.join(os.path.dirname(os.path.abspath(__file__)), "companions")
-# How the line begins on which a companion says what it is for.
+# How the line with the summary of a companion begins.
 SUMMARY = 'SUMMARY = "'
 # The exit status if the output cannot be written.
 CANNOT_WRITE = 2
 
 
 class Entry(NamedTuple):
-    """Words that may be written, and what they do."""
+    """Words of a command line, and what they do."""
 
     words: str
     text: str
 
 
 def names() -> List[str]:
-    """The companions that there are."""
+    """The names of all companions."""
     stems = [os.path.splitext(file) for file in os.listdir(FOLDER)]
     return sorted(stem for stem, end in stems if end == ".py" and stem != "__init__")
 
@@ -38,19 +38,19 @@ def companion(name: str) -> ModuleType:
 
 
 def summary(name: str) -> str:
-    """What a companion is for, by the text of its module: to import all would take long."""
+    """The summary of a companion, read from its source because importing all takes long."""
     with open(os.path.join(FOLDER, f"{name}.py"), encoding="utf-8") as file:
         line = next(line for line in file if line.startswith(SUMMARY))
     return line[len(SUMMARY) :].rstrip().rstrip('"')
 
 
 def entries() -> List[Entry]:
-    """Each companion, with a line on what it is for."""
+    """Each companion with its summary."""
     return [Entry(name, summary(name)) for name in names()]
 
 
 def hint(words: Sequence[str]) -> int:
-    """Says what is wrong with words that the program has refused, or that are none."""
+    """Reports what is wrong with a command line that the program refused or does not know."""
     from rdbg import command_line
 
     if words[0] in command_line.OF_COMMAND:
@@ -65,7 +65,7 @@ def hint(words: Sequence[str]) -> int:
 
 
 def warn_of_port(words: Sequence[str]) -> None:
-    """Says on standard error why `serve` cannot listen at the port in its words, if it cannot."""
+    """Reports on standard error why `serve` cannot listen on its port, if it cannot."""
     from rdbg import serve_port
 
     found = serve_port.warning(words)
@@ -74,7 +74,7 @@ def warn_of_port(words: Sequence[str]) -> None:
 
 
 def run(words: Sequence[str]) -> int:
-    """Does what the words ask for, and answers the exit status."""
+    """Executes a command line, and returns the exit status."""
     word = words[0] if words else ""
     if word in ("--help", "-h"):
         from rdbg.manual import help_text
@@ -99,7 +99,7 @@ def run(words: Sequence[str]) -> int:
     elif word in names():
         return int(companion(word).main(words[1:]))
     else:
-        raise Failure(f"'{word}' is no companion; there are {', '.join(names())}", 2)
+        raise Failure(f"unknown tool '{word}'; the tools are {', '.join(names())}", 2)
     return 0
 
 

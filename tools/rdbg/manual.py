@@ -1,6 +1,6 @@
-"""What `rdbg --help` says and the page rdbg(1), both made from one source."""
+"""The text of `rdbg --help` and the page rdbg(1), both made from one source."""
 import textwrap
-from typing import NamedTuple, Sequence, Tuple
+from typing import Iterator, NamedTuple, Sequence, Tuple
 
 from rdbg.main import Entry
 from rdbg.wording import rows
@@ -9,7 +9,7 @@ WIDTH = 79
 
 
 class Section(NamedTuple):
-    """A part of the manual: a text, then entries. The help leaves out what isn't `brief`."""
+    """A part of the manual: a text, then entries. The help leaves out those that are not brief."""
 
     title: str
     text: str = ""
@@ -22,76 +22,81 @@ def entries(table: str) -> Tuple[Entry, ...]:
     return tuple(Entry(words, text) for words, text in rows(table))
 
 
-ABOUT = "a reverse debugger for models of FreeRTOS applications"
+ABOUT = "a reverse debugger and model checker for FreeRTOS message passing"
 OPTIONS = entries(
     """
---app FILE | the application file; for run, the built-in one without it
---port PORT | of serve: the TCP port, 1 to 65535
---sessions COUNT | of serve: how many sessions are served, 1 to 64
---moves COUNT | how many moves may be done at a time, 1 to 1000000, else 100000
---history COUNT | how many entries the history may have, 2 to 1000000, else 100000
--h, --help | prints help
+--app FILE | model in JSON; run has a built-in model as default
+--port PORT | serve: TCP port of 127.0.0.1, 1 to 65535
+--sessions COUNT | serve: number of sessions, 1 to 64
+--moves COUNT | maximum number of moves, 1 to 1000000 [default: 100000]
+--history COUNT | maximum number of history entries, 2 to 1000000 [default: 100000]
+-h, --help | print help
 """
 )
-# Each way to call rdbg; the companions stand between.
+# The groups of companions in the help.
+GROUPS = {
+    "DEBUG": ("sh", "trace", "room", "dap"),
+    "ANALYSE": ("reach", "hunt", "join", "test"),
+    "MODELS": ("check", "make"),
+}
+# The commands of the program.
 STARTS = entries(
     """
-rdbg run [OPTIONS] | answers commands from standard input, one line each
+rdbg run [OPTIONS] | Execute commands from standard input
 rdbg serve --app FILE --port PORT --sessions COUNT [OPTIONS]
-  | answers the commands of several sessions on a TCP port of 127.0.0.1
+  | Execute commands from TCP sessions
 """
 )
 OTHERS = entries(
     """
-rdbg help WORD | says more of run, serve or a companion
-rdbg --version | says the version, the commit, the kit, and whether the program is proved
+rdbg help WORD | Show help for a command
+rdbg --version | Show the version, the commit, the kit, and whether the program is proved
 rdbg install PREFIX
-  | in a checkout: installs the programs, the tools, the pages and rdbg(1) in PREFIX
+  | Install below PREFIX (in a checkout)
 rdbg uninstall PREFIX
-  | in a checkout: removes what install put in PREFIX
+  | Remove what install put below PREFIX (in a checkout)
 rdbg prove
-  | in a checkout: proves and builds the programs, in half an hour or more; the other words run the
-  unproved build until then
+  | Prove and build the programs (in a checkout; takes half an hour or more). Until then, the
+  other commands run the unproved build
 rdbg --build
-  | in a checkout: prints where the program is, and builds it if necessary; with rdreach, where the
-  search program is
+  | Print the path of the program, and build it if necessary (in a checkout); with rdreach, the
+  path of the search program
 rdbg --proved .., rdbg --unproved ..
-  | run the proved build, or refuse if there is none; run the unproved build
+  | Run the proved build, or refuse if there is none; run the unproved build
 """
 )
 STATUSES = entries(
     """
-0 | the session has ended, or help was shown
-1 | the application was refused, there is no memory, or the port can't be had
-2 | a bad command line, or (of companions) a file or a port that isn't there
+0 | the session ended, or help was shown
+1 | the model was refused, memory ran out, or the port is not available
+2 | the command line is wrong, or (companions) a file or a port is not available
 """
 )
 ENVIRONMENT = entries(
     """
-RDBG_PROGRAM | the program that is started, in place of the one that was built
-RDBG_REACH | the same of the program that searches: reach, hunt and sh ask it
-RDBG_HISTORY | the file in which rdbg sh keeps the lines that were typed
-RDBG_TOKEN | the token of a room that asks for one; sh and dap with a name say it there
+RDBG_PROGRAM | program to run instead of the one that was built
+RDBG_REACH | search program to run instead of the one that was built, for reach, hunt and sh
+RDBG_HISTORY | file in which rdbg sh keeps its command history
+RDBG_TOKEN | token of a room that requires one, for sh and dap with a name
 """
 )
 PAGES = entries(
     """
-README.md | all pages: tutorials, guides, reference and explanation
+README.md | list of all pages: tutorials, guides, reference and explanation
 tutorials/first-fault.md | from C to a first fault, its cause and its fix
 guides/questions.md | which goal to ask for, and what to do if the answer is full
-guides/from-c.md | how pieces of C become scripts
+guides/from-c.md | how to write a model of C code
 reference/calls.md | every line and every call of a model
 reference/goals.md | every atom of a goal
 COMMANDS.md, FORMATS.md | commands, refusals, files, replies and limits
-SECURITY.md | who is let in at which port, and what is written
+SECURITY.md | which users may connect to a port, and which files are written
 MODEL.md, PROMISES.md | the rules of the kernel, and what is proved
 """
 )
 DESCRIPTION = (
     "rdbg runs a model of a multicore FreeRTOS application, whose tasks are short scripts of kernel"
-    " calls, forwards and backwards, a move at a time. Each line that it reads is a command, and"
-    " each command has one line as its answer. Companions stand beside it and drive it by its"
-    " lines."
+    " calls, forwards and backwards, one move at a time. The program reads one command per line and"
+    " answers with one line. The companions are tools that use the program through these lines."
 )
 
 
@@ -100,38 +105,52 @@ def synopsis(companions: Sequence[Entry]) -> Tuple[Entry, ...]:
     return (*STARTS, *(Entry(f"rdbg {it.words} ..", it.text) for it in companions), *OTHERS)
 
 
+def grouped(companions: Sequence[Entry]) -> Iterator[Section]:
+    """Yields the groups of commands; a companion without a group is one of the others."""
+    by_name = {it.words: Entry(f"rdbg {it.words} ..", it.text) for it in companions}
+    for title, names in GROUPS.items():
+        yield Section(title, entries=tuple(by_name.pop(it) for it in names if it in by_name))
+    yield Section("PROTOCOL", "For scripts and other tools:", STARTS)
+    yield Section("OTHER", entries=(*by_name.values(), *OTHERS))
+
+
 def sections(companions: Sequence[Entry]) -> Tuple[Section, ...]:
-    """The manual, with the companions that there are."""
+    """The sections of the manual, with these companions."""
     return (
         Section("DESCRIPTION", DESCRIPTION, is_brief=False),
-        Section("COMMANDS", entries=synopsis(companions)),
-        Section("OPTIONS", "Of run and serve:", OPTIONS),
+        *grouped(companions),
+        Section("OPTIONS", "For run and serve:", OPTIONS),
         Section("EXIT STATUS", entries=STATUSES, is_brief=False),
         Section("ENVIRONMENT", entries=ENVIRONMENT, is_brief=False),
-        Section("PAGES", "In docs, of a checkout or below PREFIX/share/rdbg:", PAGES),
+        Section("PAGES", "In docs, in a checkout or below PREFIX/share/rdbg:", PAGES),
     )
 
 
 def help_of(section: Section) -> str:
     """A section as lines for a terminal."""
-    indent, hang = " " * 2, " " * 10
+    indent, hang = " " * 2, " " * 22
     lines = [f"{section.title.capitalize()}:"]
     if section.text:
         lines += textwrap.wrap(section.text, WIDTH, initial_indent=indent, subsequent_indent=indent)
     for entry in section.entries:
-        lines.append(f"{indent}{entry.words}")
-        lines += textwrap.wrap(entry.text, WIDTH, initial_indent=hang, subsequent_indent=hang)
+        words = f"{indent}{entry.words}"
+        is_short = len(words) < len(hang) - 1
+        first = words.ljust(len(hang)) if is_short else hang
+        lines += [] if is_short else [words]
+        lines += textwrap.wrap(entry.text, WIDTH, initial_indent=first, subsequent_indent=hang)
     return "\n".join(lines)
 
 
 def help_text(companions: Sequence[Entry]) -> str:
-    """What `rdbg --help` prints."""
+    """Returns the text of `rdbg --help`."""
     brief = [help_of(section) for section in sections(companions) if section.is_brief]
-    return "\n\n".join([f"rdbg: {ABOUT}", *brief])
+    usage = "Usage: rdbg <COMMAND> [OPTIONS]"
+    new = "Run `rdbg help COMMAND` for details. New here? See docs/tutorials/first-fault.md."
+    return "\n\n".join([f"rdbg: {ABOUT}", usage, *brief, new])
 
 
 def roff(text: str) -> str:
-    """A text as roff has it."""
+    """Escapes a text for roff."""
     escaped = text.replace("\\", "\\e").replace("-", "\\-")
     return f"\\&{escaped}" if escaped[:1] in ".'" else escaped
 

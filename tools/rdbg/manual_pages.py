@@ -10,6 +10,8 @@ from rdbg.manual import Section, page, page_of, roff
 
 # Words that only a checkout has.
 OF_CHECKOUT = ("install", "uninstall", "prove")
+# How the paragraph about exit statuses begins.
+STATUS = "Exit status:"
 # A line of a table in a help text: what may be written, and two spaces or more before its text.
 ROW = re.compile(r" {2,6}(\S.*?)(?: {2,}(\S.*))?$")
 # What a positional argument that may be missing, or repeated, looks like in a synopsis.
@@ -55,10 +57,24 @@ def page_of_parser(word: str, parser: argparse.ArgumentParser, version: str) -> 
         Section("NAME", main.summary(word)),
         Section("ARGUMENTS", entries=tuple(arguments)),
         Section("OPTIONS", entries=tuple(options)),
-        Section("DESCRIPTION", " ".join((parser.epilog or "").split())),
+        *sections_of_epilog(parser.epilog or ""),
     ]
     sections = [it for it in sections if it.text or it.entries]
     return page_of_tool(word, f"rdbg {word} {named}", sections, version)
+
+
+def sections_of_epilog(text: str) -> Iterator[Section]:
+    """Yields the sections of an epilog: its paragraphs, then its examples."""
+    for block in text.split("\n\n"):
+        first, *rest = block.split("\n")
+        if rest:
+            yield Section(
+                first.rstrip(":").upper(), entries=tuple(Entry(it.strip(), "") for it in rest)
+            )
+        elif first.startswith(STATUS):
+            yield Section("EXIT STATUS", first[len(STATUS) :].strip())
+        else:
+            yield Section("DESCRIPTION", first)
 
 
 def rows_of(lines: List[str]) -> Tuple[Entry, ...]:

@@ -1,66 +1,90 @@
-"""The help texts of `run`, `serve`, `reach`, `install`, `uninstall` and `prove`, which need no program."""
+"""The help texts of `run`, `serve`, `reach`, `install`, `uninstall` and `prove`."""
 from typing import Dict
 
 RUN = """\
-Answers commands from standard input
+Execute commands from standard input
 
 Usage: rdbg run [OPTIONS]
 
 Options:
-      --app <FILE>       The application file [default: the built-in application]
-      --moves <COUNT>    How many moves may be done at a time, 1 to 1000000 [default: 100000]
-      --history <COUNT>  How many entries the history may have, 2 to 1000000 [default: 100000]
-  -h, --help             Print help"""
+      --app <FILE>       Model in JSON [default: a built-in model]
+      --moves <COUNT>    Maximum number of moves, 1 to 1000000 [default: 100000]
+      --history <COUNT>  Maximum number of history entries, 2 to 1000000 [default: 100000]
+  -h, --help             Print help
+
+Each line of standard input is one command, and gets one line as its reply (docs/COMMANDS.md).
+
+Example:
+  printf 'step 0\\nshow cores\\n' | rdbg run --app jobs.json"""
 SERVE = """\
-Answers the commands of several sessions on a TCP port
+Execute commands from TCP sessions
 
 Usage: rdbg serve [OPTIONS] --app <FILE> --port <PORT> --sessions <COUNT>
 
 Options:
-      --app <FILE>        The application file
-      --port <PORT>       The TCP port, 1 to 65535
-      --sessions <COUNT>  How many sessions are served, 1 to 64
-      --moves <COUNT>     How many moves may be done at a time, 1 to 1000000 [default: 100000]
-      --history <COUNT>   How many entries the history may have, 2 to 1000000 [default: 100000]
-  -h, --help              Print help"""
+      --app <FILE>        Model in JSON
+      --port <PORT>       TCP port of 127.0.0.1, 1 to 65535
+      --sessions <COUNT>  Number of sessions, 1 to 64
+      --moves <COUNT>     Maximum number of moves, 1 to 1000000 [default: 100000]
+      --history <COUNT>   Maximum number of history entries, 2 to 1000000 [default: 100000]
+  -h, --help              Print help
+
+Example:
+  rdbg serve --app jobs.json --port 7000 --sessions 2"""
 REACH = """\
-Answers what can still come in a model of a FreeRTOS application
+Search all interleavings for a state that satisfies a goal
 
 Usage: rdbg reach [OPTIONS] <FILE> <GOAL>...
        rdbg reach [OPTIONS] <FILE> --engine
 
 Arguments:
-  <FILE>     The application file, JSON or in lines (.fw)
-  <GOAL>...  What is looked for, as one word or several: 'count q = 2 and not asleep'
+  <FILE>     Model (.fw, .json, or .c with `// rdbg:` lines)
+  <GOAL>...  Goal, such as 'asleep and count jobs > 0' (docs/reference/goals.md)
 
-Options:
-      --lost              Where the run of --from lost the goal: the point of no return
-      --doomed            Whether an order leads to where the goal can come no more
-      --moves <N>         Orders of at most N moves alone, and not of any length
-      --surprises <N>     Orders of at most N surprises alone, 0 to 255
-      --pace <M..N>       Each busy core makes M to N moves from one tick to the next
-      --isr <CALLS>       An interrupt that may come: 'send rx 41', several calls with ;, or a name;
-                          without it all that the text declares, by none none
-      --times <N>         How often the --isr before it comes at most: 1 to 255 or any [default: 1]
-      --after <I>         The --isr before it comes more rarely than the Ith, the first being 0
-      --apart <T>         The --isr before it comes again no sooner than T ticks later, 0 to 255
-      --from <FILE>       The start is where these command lines lead, and not the boot
-      --states <N>        How many states are kept, 1 to 1000000000 [default: 10000000]
-      --memory <MIB>      For how many mebibytes states are kept, 1 to 1048576 [default: 1024]
-      --part <K/N>        The Kth of N parts of all orders alone, 1/1 to 255/255
-      --exact             Tells states apart to the last field, the tick and the turn among them
-      --within <SECONDS>  Ends the search after so long
-  -D <NAME=N>             Of a text in lines: the const NAME is N
-  -o <OUT>                Where the order that is found goes, too, as lines that rdbg run takes
-      --page <OUT.html>   Writes the order that is found, or the run of --lost, as one page of HTML
-      --report <FILE>     Writes what came of it as SARIF, or where FILE ends in .xml as JUnit's XML
-      --engine            Answer the lines of standard input, in place of a goal
+Question:
+      --lost              Find the move of the run in --from that made GOAL unreachable
+      --doomed            Find a run after which GOAL can no longer be reached
+      --from <FILE>       Start after the commands in FILE instead of at boot
+
+What may happen:
+      --pace <M..N>       Moves per busy core between two ticks [default: any number]
+      --isr <CALLS>       Interrupt that may occur, such as 'send rx 41', with ; between several
+                          calls, or the name of an interrupt of the model (repeatable)
+                          [default: the interrupts of the model; `--isr none` for none]
+      --times <N>         How often the preceding --isr may occur, 1 to 255 or any [default: 1]
+      --after <I>         The preceding --isr occurs at most as often as the --isr number I, where
+                          0 is the first
+      --apart <T>         Minimum ticks between two occurrences of the preceding --isr, 0 to 255
+      --surprises <N>     Allow at most N deviations from the default schedule, 0 to 255
+      --moves <N>         Consider only runs of at most N moves [default: any length]
+
+Limits:
+      --states <N>        Stored states, 1 to 1000000000 [default: 10000000]
+      --memory <MIB>      Memory for stored states in MiB, 1 to 1048576 [default: 1024]
+      --within <SECONDS>  Stop after this time
+      --part <K/N>        Search only part K of N, 1/1 to 255/255 (combine with `rdbg join`)
+      --exact             Distinguish states by every field, including the tick and the turn
+
+Output:
+  -o <OUT>                Also write the run to OUT, as commands that `rdbg run` replays
+      --page <OUT.html>   Write the run, or for --lost the run of --from, as an HTML page
+      --report <FILE>     Write the result as SARIF, or as JUnit XML if FILE ends in .xml
+
+Other options:
+  -D <NAME=N>             Set constant NAME in a .fw model (repeatable)
+      --engine            Answer the lines of standard input instead of one goal (docs/REACHING.md)
   -h, --help              Print help
 
-The first line is found, never, not within a bound, or full: not within one; the status is 1 where
-it is found, 0 where not, 2 where it can't be told; of --lost still (1), lost at (0) or full (2)
-(docs/NO_RETURN.md). Ctrl-C ends it as --within does. With --engine each line of standard input is
-answered, and an empty line ends each answer; the line help lists the others (docs/REACHING.md)."""
+The first line of the answer is `found`, `never`, `not within N moves`, or `full: ..` if a limit was
+reached; with --lost it is `still`, `lost at N`, or `full: ..`. Ctrl-C ends the search with the
+answer so far, as --within does.
+
+Exit status: 0 never, not within, or lost at; 1 found, or still; 2 undecided (a limit was reached)
+or an error.
+
+Examples:
+  rdbg reach jobs.fw 'asleep and count jobs > 0' --pace 20.. --page lost-job.html
+  rdbg reach jobs.fw 'reg worker 7 = 2' --lost --from run.commands"""
 INSTALL = """\
 Install rdbg in a folder
 
@@ -103,14 +127,16 @@ Exit status: 0 removed; 2 rdbg is not installed there, or a file could not be re
 Example:
   ./rdbg uninstall ~/.local"""
 PROVE = """\
-Proves the programs of this checkout and builds them
+Prove the programs of this checkout and build them
 
 Usage: ./rdbg prove
 
-In a checkout only. It takes half an hour or more, once until a source changes; what earlier runs
-proved is kept. No other word starts a proof: they run the proved build if there is one, and
-otherwise the unproved build, which takes one to three minutes to make. --proved as the first word
-refuses to run an unproved build, --unproved runs that one."""
+This takes half an hour or more, and is needed again only after a source has changed; results of
+earlier proofs are kept. No other command starts a proof. They run the proved build if there is one,
+and otherwise the unproved build, which takes one to three minutes to make. As the first word,
+--proved refuses to run an unproved build, and --unproved always runs the unproved one.
+
+Exit status: 0 proved and built; 1 a proof or the build failed."""
 OF: Dict[str, str] = {
     "run": RUN,
     "serve": SERVE,

@@ -1,5 +1,7 @@
-"""The record of the moves that are done: the lines that go back by it, and forth again."""
+"""Commands that go back and forth along the recorded moves."""
 from typing import Iterable, List
+
+from rdbg.wording import counted
 
 BACK, REDO, TRIM = "back", "redo", "trim"
 # Lines of these words make no move that is new.
@@ -32,10 +34,11 @@ def way(here: int, there: int) -> str:
 
 
 def at(place: int, undone: int) -> str:
-    """Where one is, where so many moves can be made again."""
-    return f"at {place}" + (f"; `{REDO}` can make {undone} more" if undone else "")
+    """Says where the target is, and how many undone moves `redo` can repeat."""
+    moves = counted(undone, "undone move")
+    return f"at {place}" + (f"; `{REDO}` can repeat {moves}" if undone else "")
 
 
 def given_up(what: str) -> str:
-    """What no record leads to any more."""
-    return f"`{TRIM}` gave up {what}"
+    """Says that `trim` dropped records."""
+    return f"`{TRIM}` dropped {what}"

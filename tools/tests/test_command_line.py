@@ -9,21 +9,21 @@ from rdbg.manual import help_text
 
 WRONG = (
     ("run rx.json", "'rx.json' stands by itself; an application is given by --app FILE"),
-    ("run --ap rx.json", "run takes no --ap; --app?"),
-    ("run --port 7000", "run takes no --port"),
-    ("run --moves 0", "--moves takes 1 to 1000000, and not '0'"),
-    ("run --moves=many", "--moves takes 1 to 1000000, and not 'many'"),
-    ("run --moves \u00b2", "--moves takes 1 to 1000000, and not '\u00b2'"),
-    ("run --moves \u0665", "--moves takes 1 to 1000000, and not '\u0665'"),
-    ("run --moves " + "5" * 5_000, f"--moves takes 1 to 1000000, and not '{'5' * 58}..'"),
-    ("serve --app x.json --port \u00b9", "--port takes 1 to 65535, and not '\u00b9'"),
-    ("run --history 1", "--history takes 2 to 1000000, and not '1'"),
-    ("run --moves 5 --moves 6", "--moves stands twice"),
-    ("run --app", "--app lacks its FILE"),
-    ("serve", "serve lacks --app, --port, --sessions"),
-    ("serve --app x.json --sessions 2", "serve lacks --port"),
-    ("serve --app x.json --port 80000 --sessions 2", "--port takes 1 to 65535, and not '80000'"),
-    ("serve --app x.json --port 1 --sessions 65", "--sessions takes 1 to 64, and not '65'"),
+    ("run --ap rx.json", "run has no option --ap (did you mean --app?)"),
+    ("run --port 7000", "run has no option --port"),
+    ("run --moves 0", "--moves must be 1 to 1000000, found '0'"),
+    ("run --moves=many", "--moves must be 1 to 1000000, found 'many'"),
+    ("run --moves \u00b2", "--moves must be 1 to 1000000, found '\u00b2'"),
+    ("run --moves \u0665", "--moves must be 1 to 1000000, found '\u0665'"),
+    ("run --moves " + "5" * 5_000, f"--moves must be 1 to 1000000, found '{'5' * 58}..'"),
+    ("serve --app x.json --port \u00b9", "--port must be 1 to 65535, found '\u00b9'"),
+    ("run --history 1", "--history must be 2 to 1000000, found '1'"),
+    ("run --moves 5 --moves 6", "--moves is given twice"),
+    ("run --app", "--app needs a value FILE"),
+    ("serve", "serve needs --app, --port, --sessions"),
+    ("serve --app x.json --sessions 2", "serve needs --port"),
+    ("serve --app x.json --port 80000 --sessions 2", "--port must be 1 to 65535, found '80000'"),
+    ("serve --app x.json --port 1 --sessions 65", "--sessions must be 1 to 64, found '65'"),
 )
 RIGHT = (
     "run",
@@ -57,7 +57,9 @@ class CommandLine(unittest.TestCase):
                 self.assertFalse(is_refused(line.split()))
 
     def test_unknown_words(self) -> None:
-        self.assertEqual(unknown("chekc", ["check", "run"]), "'chekc' is no word of rdbg; check?")
+        self.assertEqual(
+            unknown("chekc", ["check", "run"]), "unknown command 'chekc' (did you mean 'check'?)"
+        )
         self.assertIn("see ./rdbg --help", unknown("xyz", ["check", "run"]))
 
     def test_options_are_those_of_the_help(self) -> None:

@@ -104,7 +104,9 @@ class Zsh(unittest.TestCase):
         for choice in ("--proved", "--unproved"):
             told = self.told("rdbg", choice, "hunt", "")
             self.assertEqual(told[:2], ["2", "hunt"])
-        self.assertIn("--expect[what the status is 0 for]:EXPECT:(none found)", told)
+        self.assertIn(
+            "--expect[result with exit status 0 \\[default\\: none\\]]:EXPECT:(none found)", told
+        )
         self.assertIn("*:word:_files", told)
 
 

@@ -76,7 +76,7 @@ class Users(unittest.TestCase):
             timeout=PATIENCE,
         )
         self.assertEqual((ran.returncode, ran.stdout), (2, b""))
-        self.assertIn(b"--anyone goes with --port", ran.stderr)
+        self.assertIn(b"--anyone needs --port", ran.stderr)
 
 
 class Browsers(unittest.TestCase):

@@ -328,8 +328,8 @@ class Attached(Emacs):
                 "lost_item.json",
                 "entry | attached at 0",
                 "pause | still at 0",
-                "refused: rdbg replied no Held 1: session 1 has the wheel: views go on, moves once it"
-                " gives it",
+                "refused: rdbg replied no Held 1: session 1 holds the wheel; you can look, but not move,"
+                " until it gives the wheel back",
                 "wheel 1",
                 "moves 0 undone 0 kept 0",
             )

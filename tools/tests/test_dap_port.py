@@ -89,7 +89,7 @@ class Attached(Held):
             other.tell("wheel take")
             for command in ("next", "continue", "reverseContinue", "stepBack", "stepOut"):
                 said = client.refused(command, threadId=2)
-                self.assertIn("rdbg replied no Held 1: session 1 has the wheel", said)
+                self.assertIn("rdbg replied no Held 1: session 1 holds the wheel", said)
                 self.assertEqual(client.event("stopped")["description"], "still at 0")
             reference = client.scope(2, "Registers")
             asked = {"variablesReference": reference, "name": "r0", "value": "3"}
@@ -117,7 +117,7 @@ class Attached(Held):
             client.ask("initialize")
             turns = str(EXAMPLES / "turns.json")
             said = client.refused("attach", port=port, program=turns)
-            self.assertIn("isn't the application that the server has", said)
+            self.assertIn("is not the model of the server", said)
 
     def test_a_server_that_ends(self) -> None:
         with server() as (port, process), editor() as client:

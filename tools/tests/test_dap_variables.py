@@ -187,7 +187,7 @@ class Typed(Held):
             said = client.typed("until! count jobs > 0\nwhere").splitlines()
             self.assertIn("at 6 met: count jobs > 0", said[0])
             self.assertTrue(any(line.startswith("core 0") for line in said))
-            self.assertIn("near it is `jobs`", client.typed("show queue job"))
+            self.assertIn("did you mean 'jobs'?", client.typed("show queue job"))
             self.assertIn("no Syntax", client.typed("until count jobs>=1"))
             self.assertEqual(client.typed("goto 1").splitlines()[0], "ok at 1")
 

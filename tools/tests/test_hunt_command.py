@@ -251,12 +251,24 @@ class Statuses(unittest.TestCase):
             (["none.json", "stuck"], "cannot read none.json"),
             ([LOST, "stuck", "--part", "3/2"], "K/N with K of 1 to N"),
             ([LOST, "stuck", "--within", "0"], "a number of seconds"),
-            ([LOST, "stuck", "--exhaustive", "--surprises", "1"], "it takes no --surprises"),
+            (
+                [LOST, "stuck", "--exhaustive", "--surprises", "1"],
+                "--exhaustive cannot be combined with --surprises",
+            ),
             ([LOST, "stuck", "--surprises", "256"], "--surprises is a number, 0 to 255"),
             ([LOST, "stuck", "--states", "0"], "invalid value"),
-            ([LOST, "differs", "--pace", "1..2"], "--pace is of goals that are met"),
-            ([LOST, "stuck", "--exhaustive", "--smallest"], "it takes no --smallest"),
-            ([LOST, "stuck", "--smallest", "--all", "2"], "it takes no --all"),
+            (
+                [LOST, "differs", "--pace", "1..2"],
+                "--pace cannot be combined with the goal differs",
+            ),
+            (
+                [LOST, "stuck", "--exhaustive", "--smallest"],
+                "--exhaustive cannot be combined with --smallest",
+            ),
+            (
+                [LOST, "stuck", "--smallest", "--all", "2"],
+                "--smallest cannot be combined with --all",
+            ),
             ([LOST, "differs", "--smallest"], "none of differs"),
             ([LOST, "stuck", "-o", "/none/found.commands"], "cannot write /none/found.commands"),
             ([LOST, "stuck", "--moves", "-1"], "0 to 1000000, not '-1'"),

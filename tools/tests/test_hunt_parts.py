@@ -66,7 +66,7 @@ class Joined(AnswersOf):
         # (where others are lacking, too)
         status, lines, errors = self.join(one)
         self.assertEqual((1, "found"), (status, lines[0]))
-        lacking = [f"rdbg join: part {part} is lacking" for part in (2, 3)]
+        lacking = [f"rdbg join: part {part} is missing" for part in (2, 3)]
         self.assertEqual(lacking, errors)
 
     def test_never_and_not_within_are_said_of_all(self) -> None:
@@ -90,8 +90,8 @@ class Joined(AnswersOf):
     def test_a_part_that_is_lacking_is_told(self) -> None:
         status, lines, errors = self.join(f"never, part 1 of 2\n{COUNTS}")
         self.assertEqual((2, "full"), (status, lines[0]))
-        self.assertEqual("a part of the search is lacking", lines[1])
-        self.assertEqual(["rdbg join: part 2 is lacking"], errors)
+        self.assertEqual("a part of the search is missing", lines[1])
+        self.assertEqual(["rdbg join: part 2 is missing"], errors)
 
     def test_instructions_that_no_part_came_to(self) -> None:
         one = (

@@ -90,7 +90,7 @@ class Command(unittest.TestCase):
 
     def test_what_is_no_json_stays(self) -> None:
         for output in ("notes.txt", "echo.fw", "new", ""):
-            said = f"{output} doesn't end in .json; it isn't written"
+            said = f"the name of the output file must end in .json, found {output}"
             self.assertEqual((2, "", [said]), self.run_on("echo.fw", "-o", output))
         os.symlink("echo.fw", "linked.json")
         self.assertEqual(2, self.run_on("echo.fw", "-o", "linked.json")[0])
@@ -113,7 +113,7 @@ class Command(unittest.TestCase):
 
     def test_back(self) -> None:
         status, output, errors = self.run_on("--back", "lost.json")
-        said = "jumps with labels, where the text may have had loop, while or an if of lines"
+        said = "written as jumps to labels, not as loop, while or if"
         told = [f"rdbg make: {said}: worker 1; poller 1"]
         self.assertEqual((0, told), (status, errors))
         self.assertTrue(output.startswith("cores 2\n\nqueue jobs length 1 item 1\n\ntask worker"))
@@ -123,9 +123,9 @@ class Command(unittest.TestCase):
         self.assertEqual(json.loads(LOST), json.loads(pathlib.Path("lost.json").read_text()))
 
     def test_a_text_with_comments_stays(self) -> None:
-        said = "echo.fw is there already, and its comments would be lost"
+        said = "refusing to overwrite echo.fw, which may have comments"
         self.assertEqual((2, "", [said]), self.run_on("--back", "lost.json", "-o", "echo.fw"))
-        said = "out.json doesn't end in .fw; it isn't written"
+        said = "the name of the output file must end in .fw, found out.json"
         self.assertEqual((2, "", [said]), self.run_on("--back", "lost.json", "-o", "out.json"))
         self.unchanged()
 
@@ -140,8 +140,8 @@ class Command(unittest.TestCase):
         for words, said in (
             (["none.fw"], "cannot read none.fw: No such file or directory"),
             (["--back", "none.json"], "cannot read none.json: No such file or directory"),
-            (["notes.txt"], "notes.txt doesn't end in .fw, as a text in lines does"),
-            (["--back", "echo.fw"], "echo.fw is in lines already"),
+            (["notes.txt"], "the name of the input file must end in .fw, found notes.txt"),
+            (["--back", "echo.fw"], "echo.fw is a .fw model already"),
             (
                 ["echo.fw", "-o", "no/echo.json"],
                 "cannot write no/echo.json: No such file or directory",
@@ -158,7 +158,8 @@ class Command(unittest.TestCase):
         status, _, lines = self.run_on("long.fw")
         self.assertEqual(1, status)
         self.assertRegex(
-            lines[0], "^the JSON of long.fw has 1,[0-9,]+ bytes; rdbg reads 1,048,576$"
+            lines[0],
+            "^the JSON of long.fw would have 1,[0-9,]+ bytes, and rdbg reads at most 1,048,576$",
         )
         self.unchanged("long.fw")
 

@@ -51,8 +51,11 @@ class Manual(unittest.TestCase):
             self.assertIn(f"  rdbg {command} ", self.help)
 
     def test_the_page_has_what_the_help_has(self) -> None:
-        titles = {"Commands", "Options", "Pages"}
-        self.assertEqual(words_of(self.help) - words_of(self.page) - titles, set())
+        shown = [it.title.capitalize() for it in manual.sections(main.entries()) if it.is_brief]
+        frame = words_of("Usage: COMMAND OPTIONS Run rdbg help COMMAND for details.")
+        frame |= words_of("New here See docs/tutorials/first-fault.md.")
+        missing = words_of(self.help) - words_of(self.page)
+        self.assertEqual(missing - {*shown} - frame, set())
 
     def test_the_pages_are_there(self) -> None:
         named = {name for entry in manual.PAGES for name in re.findall(r"[\w/-]+\.md", entry.words)}

@@ -20,7 +20,6 @@ from tests.strangers import IS_ROOT, NOBODY, become
 LAID = "a link of another user"
 OF_ANOTHER = f"it is {LAID}"
 FOR_ALL = "it is a link in a folder that everybody may write to"
-THERE = "is there, and wasn't saved by this prompt: it stays as it is"
 
 
 def keep_talk(path: str) -> str:
@@ -131,7 +130,7 @@ class Links(Case):
                     self.assertFalse((self.folder / "nowhere").exists())
                     self.assertTrue(link.is_symlink())
                     if name == "saved" and aim == "there":
-                        self.assertIn(THERE, answer)
+                        self.assertIn("refusing to overwrite", answer)
                     elif name != "history":
                         self.assertTrue(answer.endswith(f"cannot write {link}: {why}"), answer)
 
@@ -318,7 +317,7 @@ class There(Case):
     def test_what_this_prompt_has_not_saved(self) -> None:
         file = self.folder / "found.commands"
         file.write_text("step 7\n")
-        why = f"# {file} {THERE}; `save! {file}` writes it anew"
+        why = f"# refusing to overwrite {file}, which this prompt did not save (use `save! {file}`)"
         with example("lost_item") as shell:
             self.assertEqual([why], said(shell, f"save {file}"))
             self.assertEqual("step 7\n", file.read_text())
@@ -340,7 +339,7 @@ class There(Case):
         file.write_text("notes")
         with example("lost_item") as shell:
             for word in ("save", "save!"):
-                self.assertIn("doesn't end in .commands", said(shell, f"{word} {file}")[0])
+                self.assertIn("does not end in .commands", said(shell, f"{word} {file}")[0])
         self.assertEqual("notes", file.read_text())
 
     def test_what_is_no_talk(self) -> None:

@@ -95,7 +95,7 @@ class Answers(InFolder):
     def test_what_goes_with_a_goal(self) -> None:
         for words in (("-o", "out"), ("--within", "5"), ("--page", "o.html"), ("--report", "r")):
             with self.subTest(words), program("ok\n\n") as it:
-                wanted = (2, "", ["rdbg reach: -o, --within, --page and --report go with a goal"])
+                wanted = (2, "", ["rdbg reach: -o, --within, --page and --report need a goal"])
                 self.assertEqual(wanted, said(LOST, "--engine", *words))
                 self.assertEqual("", it.words())
 
@@ -216,7 +216,7 @@ class Ended(InFolder):
                 self.assertTrue(output.startswith("full: not within 12 moves\n"), output)
 
     def test_before_anything_is_known(self) -> None:
-        why = "rdbg reach: it was stopped before it could say how far it was"
+        why = "rdbg reach: the search was stopped before it had a result"
         for answer in ("", "found\nstep 0\n"):
             with self.subTest(answer), program(answer, "", SLEEPS):
                 self.assertEqual((2, "", [why]), said(*ASKED, "--within", "1", "-o", "out"))
@@ -293,8 +293,11 @@ class Files(InFolder):
         for path, why in (
             ("/none/out", "cannot write /none/out: No such file or directory"),
             ("folder", "cannot write folder: Is a directory"),
-            ("-", "-o takes a file; the order is on standard output without it"),
-            ("application.json", f"-o application.json is {LOST} itself, which would be lost"),
+            ("-", "-o needs a file (the run is printed on standard output anyway)"),
+            (
+                "application.json",
+                f"-o application.json: refusing to overwrite the input file {LOST}",
+            ),
         ):
             with self.subTest(path), program(FOUND, end="exit 1") as it:
                 wanted = (2, "", [f"rdbg reach: {why}"])

@@ -78,7 +78,7 @@ class Goals(unittest.TestCase):
             ("until! asleap", "no Syntax: word 1, 'asleap': .*did you mean `asleep`"),
             ("rc! sleeps nobody", "no Syntax: word 2, 'nobody': expected the name of a task"),
             ("rc", "no Syntax: expected a goal, for example `rc asleep`"),
-            ("fly", "no Syntax: .fly. is no word"),
+            ("fly", "no Syntax: unknown command .fly."),
         ):
             with self.subTest(line):
                 self.assertRegex(self.said(LOST, line)[0], f"^{why}")

@@ -114,7 +114,7 @@ class Keys(OnPage):
                 ("show queue jobs", "show queue jobs -> queue jobs 0/1 items - recv -"),
                 (
                     "show queue job",
-                    "show queue job -> no NoSuch: there is no queue 'job'; near it is `jobs`",
+                    "show queue job -> no NoSuch: queue 'job' is not defined (did you mean 'jobs'?)",
                 ),
                 ("stepp 1", "stepp 1 -> no Syntax: "),
                 ("back 7", "back 7 -> no TooFar 1: only 1 moves can be taken back: `goto 0`"),

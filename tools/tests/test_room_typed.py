@@ -59,7 +59,7 @@ class Typed(unittest.TestCase):
             for line, why in (
                 ("step 7", "no NoSuch: there are 2 cores, from 0 on"),
                 ("step workr", "no: there is no task 'workr'"),
-                ("show queue job", "no NoSuch: there is no queue 'job'; near it is `jobs`"),
+                ("show queue job", "no NoSuch: queue 'job' is not defined (did you mean 'jobs'?)"),
                 ("stepp 1", "no Syntax: "),
                 ("back 7", "no TooFar 0: no move is done: this is boot"),
                 ("redo 1", "no NothingUndone: "),

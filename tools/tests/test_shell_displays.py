@@ -112,7 +112,7 @@ class Displays(unittest.TestCase):
 
     def test_what_is_wrong(self) -> None:
         with example("lost_item") as shell:
-            self.assertIn("nothing is displayed", said(shell, "display")[0])
+            self.assertIn("there are no displays", said(shell, "display")[0])
             self.assertIn("expected the name", said(shell, "display count jobz + 1")[0])
             self.assertEqual(said(shell, "display 4 / count jobs"), ["# division by 0"])
             self.assertEqual(shell.displays, {})
@@ -120,7 +120,7 @@ class Displays(unittest.TestCase):
             answers = said(shell, "back 1")
             self.assertEqual(answers[1:], ["# 1: 4 / count jobs: division by 0"])
             for line in ("undisplay 2", "undisplay x"):
-                self.assertIn("There are: 1; ", said(shell, line)[0])
+                self.assertIn("needs numbers of displays (1)", said(shell, line)[0])
 
     def test_they_are_kept_by_reload(self) -> None:
         with example("lost_item") as shell:
@@ -135,8 +135,8 @@ class Temporary(unittest.TestCase):
         with example("lost_item") as shell:
             said(shell, "tbreak producer:1", "break poller 0", "tbreak count jobs > 0")
             answers = said(shell, "c", "c", "info break")
-            self.assertIn("# watch 0 was met, and is dropped: pc producer = 1", answers)
-            self.assertIn("# watch 2 was met, and is dropped: count jobs > 0", answers)
+            self.assertIn("# removed watch 0 after its hit: pc producer = 1", answers)
+            self.assertIn("# removed watch 2 after its hit: count jobs > 0", answers)
             self.assertEqual(answers[-2:], ["# watch  now    condition", answers[-1]])
             self.assertRegex(answers[-1], "^# w1 ")
 
@@ -145,14 +145,14 @@ class Temporary(unittest.TestCase):
             said(shell, "forward 9", "tb count jobs > 0", "rc w0")
             self.assertEqual(shell.target.watches, {0: "count jobs > 0"})
             answers = said(shell, "goto 9", "rc")
-            self.assertIn("# watch 0 was met, and is dropped: count jobs > 0", answers)
+            self.assertIn("# removed watch 0 after its hit: count jobs > 0", answers)
             self.assertEqual(shell.target.watches, {})
 
     def test_another_watch_of_its_number_stays(self) -> None:
         with example("lost_item") as shell:
             said(shell, "tbreak producer 1", "delete 0", "break count jobs > 0", "c")
             self.assertEqual(shell.target.watches, {0: "count jobs > 0"})
-            self.assertIn("`until failed` runs there", said(shell, "tbreak failed")[0])
+            self.assertIn("`until failed` runs to this goal", said(shell, "tbreak failed")[0])
 
 
 if __name__ == "__main__":

@@ -121,7 +121,7 @@ class Examples(unittest.TestCase):
     def test_many_moves_show_the_last(self) -> None:
         with example("turns") as shell:
             answers = comments(said(shell, "set moves on", "forward 30"))
-            self.assertEqual(answers[0], ".. 25 moves before these: `moves 30` shows all")
+            self.assertEqual(answers[0], ".. 25 moves not shown; `moves 30` lists all")
             self.assertEqual(
                 [line.split()[0] for line in answers[1:]], ["26", "27", "28", "29", "30"]
             )

@@ -57,8 +57,8 @@ LOOKS = {
 }
 YOU = b"# you are ada, session 1; here: nobody else\n"
 FULL = "the history of the server is full, so that it executes nothing more: no HistoryFull"
-OTHER = "this is not a server of rdbg, or of another version: no Syntax"
-GARBAGE = "this is not a server of rdbg: it answered '\ufffd\\x1b[2J'"
+OTHER = "not an rdbg server, or another version of rdbg: no Syntax"
+GARBAGE = "not an rdbg server: it answered '\ufffd\\x1b[2J'"
 
 
 class NoServer(unittest.TestCase):
@@ -80,7 +80,7 @@ class NoServer(unittest.TestCase):
             self.check(lambda line: b"no Syntax\n", OTHER, *words)
             self.check(lambda line: b"\xff\x1b[2J\n", GARBAGE, *words)
             self.check(lambda line: b"no HistoryFull\n" if line else b"no Syntax\n", FULL, *words)
-        closed = "the server lets nobody else in: no HistoryFull"
+        closed = "the server accepts no more sessions: no HistoryFull"
         self.check(lambda line: b"no HistoryFull\n", closed)
 
     def test_it_answers_so_once_it_is_compared(self) -> None:

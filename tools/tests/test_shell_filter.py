@@ -77,7 +77,7 @@ class Filter(unittest.TestCase):
         self.assertEqual(
             (status, output), (0, "ok at 1\nok at 2\nno Syntax\nmoves 2 undone 0 kept 2\n")
         )
-        self.assertIn("is no word", errors)
+        self.assertIn("unknown command", errors)
 
     def test_quit_ends(self) -> None:
         self.assertEqual(run(b"step 0\nquit\nstep 0\n"), (0, "ok at 1\n", ""))

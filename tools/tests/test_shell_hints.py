@@ -4,44 +4,44 @@ import unittest
 from rdbg.driving.target import Limits
 from tests.shell_talk import both, example, said
 
-# Lines that are no commands, each with a part of its hint.
+# Lines that are not commands, each with a part of its hint.
 SYNTAX = {
-    "show job": "comes",
+    "show job": "expected `queue` or ",
     "show queues jobs": "`show queue jobs`",
-    "show": "behind `show` comes `queue` or ",
+    "show": "expected `queue` or ",
     "show task": "`info tasks` shows all tasks",
     "show queues": "`info objects`",
-    "show queue": "behind `show queue` comes a queue",
+    "show queue": "expected a queue after `show queue`",
     "until jobs > 0 50": "word 1, 'jobs': expected an atom, 'not' or '('",
     "watch worker wait": "`watch phase worker wait`",
     "back until worker pc = 1": " (did you mean `pc worker = 1`?)",
     "watch worker r3 >= 2": "`watch reg worker 3 > 1`",
     "unwatch w3": "`unwatch 3`",
-    "Step 0": "small letters: `step 0`",
+    "Step 0": "lower case: `step 0`",
     "SHOW CORES": "`show cores`",
-    "step\t0": "not by tabs: `step 0`",
-    "step": "a core's number, or a task's name",
-    "steb 0": "'steb' is no word: `step 0`",
-    "fly": "'fly' is no word",
-    "infoo tasks": "near it is `info`",
-    "forward": "its COUNT is missing: `forward 100`",
-    "forward 0": "a COUNT (a number, 1 to 1000000), and not '0'",
+    "step\t0": "not tabs: `step 0`",
+    "step": "a core number or the name of a task",
+    "steb 0": "unknown command 'steb': `step 0`",
+    "fly": "unknown command 'fly' ('help' lists all)",
+    "infoo tasks": "unknown command 'infoo' (did you mean 'info'?",
+    "forward": "COUNT is missing: `forward 100`",
+    "forward 0": "expected a COUNT (a number, 1 to 1000000) after `forward`, found '0'",
     "forward 1,000": "`forward 1000`",
     "back": "`back 1`",
     "until count jobs>0": "word 2, 'jobs>0': expected the name of a queue (did you mean `count jobs > 0`"
     "`?)",
-    "until": "or another goal: `help until`",
+    "until": "or another goal (see `help until`) after `until`",
     "until count jobs > 0 and phase worker": "it ends too early: expected a phase: run",
     "until count jobs > 0 || phase worker wait 9": "`count jobs > 0 or phase worker wait`?",
     "until w0 and w1": "word 1, 'w0': expected an atom, 'not' or '('",
     "until sleep worker": "`sleeps worker`?",
-    "sleeps worker": "`until sleeps` runs there",
-    "watch count jobs > 0 && tick = 3": "a watch is one condition, without `&&`: `until! GOAL`",
-    "watch count jobs>0": "spaces stand round an operator: `watch count jobs > 0`",
-    "watch count jobs >= 1": ">= 1 is > 0: `watch count jobs > 0`",
+    "sleeps worker": "`until sleeps` runs to it",
+    "watch count jobs > 0 && tick = 3": "a watch takes one condition, without `&&`; `until! GOAL`",
+    "watch count jobs>0": "put spaces around an operator: `watch count jobs > 0`",
+    "watch count jobs >= 1": "write > 0 for >= 1: `watch count jobs > 0`",
     "watch reg worker r1 = 0x10": "`watch reg worker 1 = 16`",
     "watch phase worker = wait": "`watch phase worker wait`",
-    "watch count jobs = 'x'": "comes a number",
+    "watch count jobs = 'x'": "expected a number",
     "until count jobs>0 50": "`count jobs > 0`?",
     "until count jobs >= 1 50": "`count jobs > 0`?",
     "until count jobs <= 1 50": "`count jobs < 2`?",
@@ -53,37 +53,40 @@ SYNTAX = {
     "until bla 50": "word 1, 'bla': expected an atom, 'not' or '('",
     "until count 'jobs' > 0 50;": "`count jobs > 0`?",
     "poke reg worker r0 1": "`poke reg worker 0 1`",
-    "poke reg worker 0 4294967296": "a number (0 to 4294967295), and not '4294967296'",
-    "isr notify worker 0 1 give": "an action (none, bits, inc, set or setif), and not 'give'",
-    "isr send jobs": "behind `isr send jobs` comes bytes",
-    "isr worker": "`send` or `notify`, and not 'worker'",
-    "poke data worker 4": "bytes (pairs of hexadecimal digits, or -), and not '4'",
+    "poke reg worker 0 4294967296": "a number (0 to 4294967295) after `poke reg worker 0`, found '4294967296'",
+    "isr notify worker 0 1 give": "an action (none, bits, inc, set or setif) after",
+    "isr send jobs": "expected bytes (pairs of hexadecimal digits, or -) after `isr send jobs`",
+    "isr worker": "expected `send` or `notify` after `isr`, found 'worker'",
+    "poke data worker 4": "bytes (pairs of hexadecimal digits, or -) after `poke data worker`, found '4'",
     "tick tick": "",
-    "wheel": "comes `take` or `give`",
-    "show cores now": "'now' is too much: `show cores`",
-    "bt": "a task has no frames",
+    "wheel": "expected `take` or `give` after `wheel`",
+    "show cores now": "unexpected 'now': the form is `show cores`",
+    "bt": "tasks have no stack frames",
 }
-# Lines of the right form, each with its reply and a part of its hint.
+# Well-formed lines that are refused, each with its reply and a part of its hint.
 REFUSED = {
-    "show queue job": ("no NoSuch", "there is no queue 'job'; near it is `jobs`"),
+    "show queue job": ("no NoSuch", "queue 'job' is not defined (did you mean 'jobs'?)"),
     "show queue worker": ("no NoSuch", "'worker' is a task: `show task worker`"),
-    "show stream rx": ("no NoSuch", "there is none"),
-    "show task wroker": ("no NoSuch", "near it is `worker`"),
+    "show stream rx": ("no NoSuch", "the model has no stream"),
+    "show task wroker": ("no NoSuch", "did you mean 'worker'?"),
     "until phase bob wait 5": ("no NoSuch", "there are worker, producer, poller"),
     "until bits jobs = 1 10": ("no NoSuch", "'jobs' is a queue: `count jobs OP N`"),
     "watch count worker = 1": ("no NoSuch", "'worker' is a task: `phase worker WORD`"),
-    "step 2": ("no NoSuch", "there are 2 cores, from 0 on"),
-    "poke reg worker 8 0": ("no NoSuch", "registers are 0 to 7"),
-    "poke note worker 1 0": ("no NoSuch", "there is one notification entry, from 0 on"),
-    "back 3": ("no TooFar 0", "no move is done: this is boot"),
-    "redo 1": ("no NothingUndone", "no move is taken back"),
+    "step 2": ("no NoSuch", "the target has 2 cores, numbered from 0"),
+    "poke reg worker 8 0": ("no NoSuch", "registers have the numbers 0 to 7"),
+    "poke note worker 1 0": ("no NoSuch", "each task has one notification entry, numbered from 0"),
+    "back 3": ("no TooFar 0", "the target is at boot"),
+    "redo 1": ("no NothingUndone", "no move can be redone"),
     "unwatch 3": ("no NoWatch", "info watches"),
     "wheel give": ("no NotHolder", "show wheel"),
-    "isr send nobody 41": ("no NoSuch", "there is no queue 'nobody'"),
-    "isr notify worker 1 0 set": ("no NoSuch", "there is one notification entry, from 0 on"),
+    "isr send nobody 41": ("no NoSuch", "queue 'nobody' is not defined"),
+    "isr notify worker 1 0 set": (
+        "no NoSuch",
+        "each task has one notification entry, numbered from 0",
+    ),
     "isr send jobs 41": ("no NoIsr", "the application has profile 1"),
-    "poke pc worker 9": ("no BadEdit", "only a task in phase run"),
-    "poke item jobs 0 41": ("no BadEdit", "the item must be there"),
+    "poke pc worker 9": ("no BadEdit", "the task must be in phase run"),
+    "poke item jobs 0 41": ("no BadEdit", "the item must exist"),
 }
 
 
@@ -112,7 +115,7 @@ class Hints(unittest.TestCase):
         with example("lost_item") as shell:
             output, hints = both(shell, "forward 13", "step 0")
             self.assertEqual(output[-1], "no NoTask")
-            waits = "the core is idle: poller on core 1, worker waits at recv:jobs"
+            waits = "no task is running on this core: poller on core 1, worker waits at recv:jobs"
             self.assertEqual(hints, [f"hint: {waits}"])
 
     def test_limits(self) -> None:
@@ -120,7 +123,7 @@ class Hints(unittest.TestCase):
             output, hints = both(shell, "forward 3", "step 0", "back 5")
             self.assertEqual(output, ["ok at 3", "no MovesFull", "no TooFar 3"])
             self.assertIn("--moves 1000000", hints[0])
-            self.assertIn("only 3 moves can be taken back", hints[1])
+            self.assertIn("only 3 moves can be undone", hints[1])
         with example("turns", Limits(history=3)) as shell:
             output, hints = both(shell, "step 0", "step 0")
             self.assertEqual(output, ["ok at 1", "no HistoryFull"])

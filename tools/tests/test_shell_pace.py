@@ -136,8 +136,8 @@ class Go(unittest.TestCase):
         with opened() as shell:
             said = shell_talk.said(shell, "set echo on", "go 7", "go 7 ticks", "pace")
         self.assertIn("> forward 7", said)
-        self.assertIn("# `go 10 ticks` goes at a pace: `pace 5..20` says one", said)
-        self.assertTrue(said[-1].startswith("# no pace: runs are the program's own"))
+        self.assertIn("# `go COUNT ticks` needs a pace; set one with `pace 5..20`", said)
+        self.assertTrue(said[-1].startswith("# no pace: a run makes one instruction"))
 
     def test_it_ends_where_there_is_no_move(self) -> None:
         text = TEXT.replace("cores 2", "cores 2\ntick 4294967290")
@@ -148,12 +148,12 @@ class Go(unittest.TestCase):
     def test_what_is_refused(self) -> None:
         with opened() as shell:
             for line, begins in (
-                ("pace 5", "# '5' is none: a pace is M..N, M.. or ..N"),
-                ("pace 1..2 3", "# `pace 5..20`, or `pace none`"),
+                ("pace 5", "# '5' is not a pace; a pace is M..N, M.. or ..N"),
+                ("pace 1..2 3", "# the form is `pace 5..20` or `pace none`"),
                 ("go", "# `go 10` makes ten moves at the pace"),
                 ("go 5 moves", "# `go 10` makes ten moves at the pace"),
-                ("interrupts pign", "# the text names no interrupt pign; ping is near"),
-                ("interrupts pong", "# pong comes after ping: `interrupts ping pong`"),
+                ("interrupts pign", "# interrupt 'pign' is not defined (did you mean 'ping'?)"),
+                ("interrupts pong", "# pong occurs only after ping; use `interrupts ping pong`"),
             ):
                 found = shell_talk.said(shell, line)
                 self.assertEqual(begins, found[0][: len(begins)])
@@ -284,7 +284,7 @@ class InAnEditor(unittest.TestCase):
             said = client.refused("launch", program=str(self.file), pace="5")
             self.assertIn("pace: '5' is none: a pace is M..N", said)
             said = client.refused("launch", program=str(self.file), interrupts=["pign"])
-            self.assertIn("the text names no interrupt pign", said)
+            self.assertIn("interrupt 'pign' is not defined (did you mean 'ping'?)", said)
             said = client.refused("launch", program=str(self.file), consts=["X=1"])
             self.assertIn("-D X: const 'X' is not defined", said)
 

@@ -85,7 +85,7 @@ class Attached(unittest.TestCase):
             self.assertEqual(said(shell, "poke reg poller 2 5")[-1], "# poke reg poller 2 5")
             # (others have moved core 1 since: all is looked at)
             other.tell("step 1")
-            moved = "# the target moved meanwhile: 2 -> 3"
+            moved = "# another session moved the target: 2 -> 3"
             ended = "# producer 2 end, left core 1 (ended), poller took core 1"
             self.assertEqual(said(shell, "step 1"), [moved, "ok at 4", ended])
             self.assertEqual(said(shell, "tick"), ["ok at 5", "# tick 1"])
@@ -102,7 +102,7 @@ class Attached(unittest.TestCase):
                     self.assertEqual(both(shell, line), both(own, line))
 
     def test_moves_by_others_are_told(self) -> None:
-        moved = "# the target moved meanwhile: {} -> {}"
+        moved = "# another session moved the target: {} -> {}"
         with two() as (shell, other):
             list(other.tell_all(["step 0", "step 1", "tick"]))
             self.assertEqual(said(shell, "step 0"), [moved.format(0, 3), "ok at 4"])
@@ -127,9 +127,9 @@ class Attached(unittest.TestCase):
             said(shell, "forward 3")
             other.tell("wheel take")
             output, hints = both(shell, "set moves on", "step 0", "forward 5000", "until stuck")
-            self.assertEqual(output, ["no Held 2", "no Held 2", "# rdbg says: no Held 2"])
-            self.assertTrue(all("session 2 has the wheel" in hint for hint in hints), hints)
-            self.assertEqual(said(shell, "moves"), ["# rdbg says: no Held 2"])
+            self.assertEqual(output, ["no Held 2", "no Held 2", "# rdbg refused it: no Held 2"])
+            self.assertTrue(all("session 2 holds the wheel" in hint for hint in hints), hints)
+            self.assertEqual(said(shell, "moves"), ["# rdbg refused it: no Held 2"])
             self.assertEqual(len(said(shell, "info tasks")), 4)
             other.tell("wheel give")
             self.assertEqual(said(shell, "step 0")[0], "ok at 4")
@@ -145,11 +145,11 @@ class Attached(unittest.TestCase):
             self.assertEqual(len(said(shell, "info tasks")), 4)
             list(other.tell_all(["step 0", "step 1"]))
             rows = said(shell, "info objects")
-            self.assertEqual(rows[0], "# the target moved meanwhile: 0 -> 2")
+            self.assertEqual(rows[0], "# another session moved the target: 0 -> 2")
             self.assertEqual(rows[2].split()[:3], ["#", "queue", "jobs"])
-            self.assertIn("isn't known", said(shell, "list worker")[0])
+            self.assertIn("is not known", said(shell, "list worker")[0])
             answers = said(shell, "set moves on", "step worker", "step producer")
-            self.assertIn("# worker is on no core: it waits at recv:jobs", answers[0])
+            self.assertIn("# cannot step worker: it waits at recv:jobs", answers[0])
             self.assertRegex(answers[2], "^# producer 1, r0 = 1, jobs 1/1, woke worker ")
 
     def test_names_that_were_not_told_are_asked(self) -> None:
@@ -177,7 +177,7 @@ class Attached(unittest.TestCase):
             other.tell("trim 0")
             output, hints = both(shell, "back 1")
             self.assertEqual(output, ["no TooFar 0"])
-            self.assertIn("`trim` gave up all before 5", hints[-1])
+            self.assertIn("`trim` dropped the records before place 5", hints[-1])
 
     def test_edits_by_others_are_saved(self) -> None:
         with two() as (shell, other), tempfile.TemporaryDirectory() as folder:
@@ -186,7 +186,7 @@ class Attached(unittest.TestCase):
             list(other.tell_all(["poke reg poller 3 7", "poke item jobs 0 42", "tick"]))
             answers = said(shell, f"save {file}")
             self.assertIn("replays them", answers[-1])
-            self.assertEqual(answers[0], "# the target moved meanwhile: 2 -> 5")
+            self.assertEqual(answers[0], "# another session moved the target: 2 -> 5")
             edits = ["poke reg poller 3 7", "poke item jobs 0 42"]
             self.assertEqual(file.read_text().splitlines()[2:4], edits)
             self.assertEqual(said(shell, "moves")[2], f"# 3  {edits[0]}")
@@ -199,7 +199,7 @@ class Ports(unittest.TestCase):
     def test_a_file_of_another_application(self) -> None:
         with server() as (port, _):
             turns = load(str(EXAMPLES / "turns.json"))
-            with self.assertRaisesRegex(Failure, "isn't the application that the server has"):
+            with self.assertRaisesRegex(Failure, "is not the model of the server"):
                 attach(port, turns)
 
     def test_a_server_that_ends(self) -> None:
@@ -236,7 +236,7 @@ class Ports(unittest.TestCase):
             errors = Waiting(listening)
             with contextlib.redirect_stderr(errors), self.assertRaisesRegex(Failure, "closed"):
                 attach(listening.getsockname()[1], None)
-            self.assertIn("the server doesn't answer", errors.getvalue())
+            self.assertIn("the server does not answer", errors.getvalue())
 
     def test_a_server_that_lets_nobody_in(self) -> None:
         listening = socket.socket()
@@ -247,7 +247,7 @@ class Ports(unittest.TestCase):
             session = mock.Mock()
             session.tell.return_value = "no Full"
             with mock.patch("rdbg.driving.opening.Session.attach", return_value=session):
-                with self.assertRaisesRegex(Failure, "lets nobody else in: no Full"):
+                with self.assertRaisesRegex(Failure, "accepts no more sessions: no Full"):
                     attach(port, None)
 
 

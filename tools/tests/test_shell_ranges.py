@@ -26,7 +26,7 @@ class Prompt(unittest.TestCase):
                 "moves 5000000",
                 "step worker 5000000",
             ):
-                self.assertIn(f"# {RANGE}; `", said(shell, line)[0], line)
+                self.assertIn(f"# {RANGE}; ", said(shell, line)[0], line)
             self.assertIn("a COUNT is 1 to 1000000", said(shell, "until! at worker 0 5000000")[0])
             # (what is no number has no range)
             self.assertNotIn("1000000", said(shell, "go far")[0])
@@ -38,13 +38,15 @@ class Prompt(unittest.TestCase):
 
     def test_run_says_where_the_target_is(self) -> None:
         with example("lost_item", Limits(20, 1_000)) as shell:
-            self.assertIn("stands at boot already", both(shell, "run")[1][0])
+            self.assertIn("is already at boot", both(shell, "run")[1][0])
             for word in ("run", "start"):
                 hint = both(shell, "goto 0", "forward 5", word)[1][0]
-                self.assertIn("the target is at 5: ", hint)
+                self.assertIn("the target is at 5; ", hint)
             hint = both(shell, "forward 15", "run")[1][0]
             self.assertEqual(
-                "hint: the target is at 20, the last place (--moves 20): `goto 0` is boot", hint
+                "hint: the target is at 20, the last place that --moves 20 allows; `goto 0` goes back to"
+                " boot",
+                hint,
             )
 
 

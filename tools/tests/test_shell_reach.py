@@ -124,7 +124,7 @@ class Lost(unittest.TestCase):
             ):
                 with self.subTest(line):
                     said(shell, line, "goto 9")
-                    self.assertEqual(f"# of `{goal}`, the goal before:", said(shell, "lost")[0])
+                    self.assertEqual(f"# goal: {goal} (the last one)", said(shell, "lost")[0])
 
     def test_doomed(self) -> None:
         with example("lost_item") as shell:
@@ -143,17 +143,17 @@ class Play(unittest.TestCase):
 
     def test_the_order_that_was_answered(self) -> None:
         with example("lost_item") as shell:
-            self.assertIn("`reach`, `lost` or `doomed` answered", said(shell, "play")[0])
+            self.assertIn("the last answer of `reach`, `lost` or `doomed`", said(shell, "play")[0])
             said(shell, "forward 2", "reach reg poller 0 = 1")
             said(shell, "play")
             self.assertEqual(["# still", "#   the goal holds here"], said(shell, "lost")[1:])
-            self.assertIn("`reach`, `lost` or `doomed` answered", said(shell, "play")[0])
+            self.assertIn("the last answer of `reach`, `lost` or `doomed`", said(shell, "play")[0])
 
     def test_it_begins_where_it_was_asked(self) -> None:
         with example("lost_item") as shell:
             said(shell, *RUN, "lost at worker 1")
             self.assertEqual(
-                "# the order begins at 7: `goto 7`, then `play`", said(shell, "play")[0]
+                "# the run begins at 7; use `goto 7`, then `play`", said(shell, "play")[0]
             )
             answers = said(shell, "set moves on", "goto 7", "play")
             self.assertEqual(["ok at 9", "# 8  tick 2"], answers[2:4])
@@ -182,33 +182,39 @@ class Again(unittest.TestCase):
             self.mend()
             answers = said(shell, "again")
             self.assertEqual("# all 0 moves are the same", answers[0][:26])
-            self.assertEqual("# stuck, from boot on: it was found, and is never", answers[1])
+            self.assertEqual("# stuck, from boot: was found, is now never", answers[1])
             self.assertEqual("# never", answers[2])
             # (the next time it is held against this)
             self.mend("meeting")
             answers = said(shell, "again")
-            self.assertEqual("# stuck, from boot on: it was never, and is found", answers[1])
+            self.assertEqual("# stuck, from boot: was never, is now found", answers[1])
 
     def test_from_a_place(self) -> None:
         with file(self.file) as shell:
             said(shell, "step 1", "reach stuck", "forward 3")
             answers = said(shell, "again")
-            self.assertIn("# stuck, from 1 on: it was found, and is found", answers)
+            self.assertIn("# stuck, from 1: was found, is now found", answers)
             self.mend()
             # (the first moves of both are others)
             answers = said(shell, "again")
-            self.assertIn("# stuck, from boot on: it was found, and is never", answers)
+            self.assertIn("# stuck, from boot: was found, is now never", answers)
 
     def test_what_cant_be(self) -> None:
         with file(self.file) as shell:
-            self.assertIn("asked last, of the file as it is now", said(shell, "again")[0])
+            self.assertIn(
+                "repeats the last `reach`, `lost` or `doomed` on the changed file",
+                said(shell, "again")[0],
+            )
             said(shell, "reach stuck")
-            self.assertIn("asked last, of the file as it is now", said(shell, "again stuck")[0])
+            self.assertIn(
+                "repeats the last `reach`, `lost` or `doomed` on the changed file",
+                said(shell, "again stuck")[0],
+            )
             self.file.write_text("{}")
             answers, _ = both(shell, "again")
             self.assertIn("the target stays as it is", " ".join(answers))
             self.mend("lost_item")
-            self.assertIn("it was found, and is never", " ".join(said(shell, "again")))
+            self.assertIn("was found, is now never", " ".join(said(shell, "again")))
 
 
 if __name__ == "__main__":

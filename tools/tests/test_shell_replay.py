@@ -15,7 +15,7 @@ from tests.shell_talk import both, example, file, opened, said
 
 LOST = EXAMPLES / "lost_item.json"
 TO_THE_FAULT = ["until count jobs > 0 50", "step 1", "step 1", "step 1", "step 0"]
-REPLAYED = "# the program replays them from boot to this place and state"
+REPLAYED = "# checked: a new program replays them to this place and state"
 
 
 class Folder(unittest.TestCase):
@@ -43,7 +43,7 @@ class Save(Folder):
         lines = [*TO_THE_FAULT, "back until count jobs > 0", "poke pc poller 1", "step 1", "back 1"]
         with example("lost_item") as shell:
             answers = said(shell, *lines, f"save {self.saved}")
-            self.assertEqual(answers[-2:], [f"# 8 moves are in {self.saved}", REPLAYED])
+            self.assertEqual(answers[-2:], [f"# saved 8 moves in {self.saved}", REPLAYED])
             self.assertEqual(said(shell, "show moves"), ["moves 8 undone 1 kept 8"])
             here = shell.target.look()
         commands = self.saved.read_text().splitlines()
@@ -73,12 +73,12 @@ class Save(Folder):
 
     def test_files_that_are_not_written(self) -> None:
         with example("builtin") as shell:
-            self.assertIn("stays as it is", said(shell, f"save {self.app}")[0])
+            self.assertIn("refusing to overwrite", said(shell, f"save {self.app}")[0])
             self.assertIn("cannot write", said(shell, f"save {self.folder}/no/x.commands")[0])
-            self.assertIn("to which file", said(shell, "save")[0])
+            self.assertIn("needs one file name", said(shell, "save")[0])
             long, nul = said(shell, f"save {'x' * 300}"), said(shell, "save a\0b")
             self.assertIn("cannot write xxx", long[0])
-            self.assertEqual(nul, ["# cannot write 'a\\x00b': no file has such a name"])
+            self.assertEqual(nul, ["# cannot write 'a\\x00b': not a valid file name"])
         self.assertEqual(self.app.read_text(), LOST.read_text())
 
     def test_a_long_run_takes_no_place_in_the_history(self) -> None:
@@ -86,7 +86,7 @@ class Save(Folder):
             said(shell, "forward 700", "step 0", "forward 2000", "back 100")
             before = shell.target.used
             answers = said(shell, f"save {self.saved}")
-            self.assertEqual([f"# 2601 moves are in {self.saved}", REPLAYED], answers[-2:])
+            self.assertEqual([f"# saved 2601 moves in {self.saved}", REPLAYED], answers[-2:])
             # (one look at each thing, whatever the number of moves)
             self.assertLess(shell.target.used - before, 20)
             self.assertEqual(said(shell, "show moves"), ["moves 2601 undone 100 kept 2601"])
@@ -116,7 +116,7 @@ class Reload(Folder):
     def test_a_number_changes_nothing_of_who_did_what(self) -> None:
         self.changes = ("recv jobs max", "recv jobs 10")
         answers = self.reload("show task worker", "show watches")
-        self.assertEqual(answers[0], f"# all 9 moves are the same on {self.app}, at 9")
+        self.assertEqual(answers[0], f"# all 9 moves are the same with the new {self.app}; at 9")
         self.assertIn("phase wait:recv:jobs:10", answers[1])
         self.assertEqual(answers[2], "watches 1:fails")
 
@@ -125,14 +125,16 @@ class Reload(Folder):
             self.changes = ("data 41", f"data {found}")
             with self.subTest(found):
                 answers = self.reload()
-                same = f"# all 9 moves are the same on {self.app}, at 9"
+                same = f"# all 9 moves are the same with the new {self.app}; at 9"
                 self.assertEqual(same, answers[0])
             self.edit("data 41", "data 41")
 
     def test_the_first_difference(self) -> None:
         self.changes = ('"recv jobs 0", "jump 0"', '"recv jobs 0", "end"')
         answers = self.reload("show moves", "redo 1")
-        self.assertEqual(answers[0], f"# 6 of 9 moves are the same on {self.app}; the next one")
+        self.assertEqual(
+            answers[0], f"# 6 of 9 moves are the same with the new {self.app}; the next one"
+        )
         self.assertEqual(answers[1], "#   was  7  core 1  poller 1 jump 0")
         self.assertEqual(answers[2], "#   is   7  core 1  poller 1 end, left core 1 (ended)")
         self.assertEqual(answers[3:], ["moves 6 undone 1 kept 6", "ok at 7"])
@@ -160,8 +162,8 @@ class Reload(Folder):
             self.edit("recv jobs max", "recv jobs 10")
             with mock.patch("rdbg.shell.replay.in_chunks", side_effect=Interrupted):
                 answers = said(shell, "reload", "show moves")
-            stopped = f"# stopped by Ctrl-C, at 9: the target is that of {self.app} as it was read"
-            self.assertEqual(answers, [f"{stopped} before", "moves 9 undone 0 kept 9"])
+            stopped = f"# stopped by Ctrl-C, at 9; the target still has the old {self.app}"
+            self.assertEqual(answers, [stopped, "moves 9 undone 0 kept 9"])
 
     def test_it_is_said_how_far_it_is(self) -> None:
         with file(self.app) as shell, mock.patch("rdbg.shell.shell.MOMENT", 0.0):
@@ -169,7 +171,9 @@ class Reload(Folder):
             said(shell, *TO_THE_FAULT)
             answers = said(shell, "reload")
             self.assertTrue(any("9 of 9 compared" in line for line in answers), answers)
-            self.assertTrue(answers[-1].endswith(f"# all 9 moves are the same on {self.app}, at 9"))
+            self.assertTrue(
+                answers[-1].endswith(f"# all 9 moves are the same with the new {self.app}; at 9")
+            )
 
     def test_a_file_that_has_gone(self) -> None:
         with file(self.app) as shell:
@@ -185,9 +189,9 @@ class Places(unittest.TestCase):
         with example("lost_item") as shell:
             self.assertEqual(said(shell, "moves"), ["# at 0"])
             answers = said(shell, "forward 30", "back 2", "moves 2")
-            self.assertEqual(answers[2], "# .. 26 moves before these")
+            self.assertEqual(answers[2], "# .. 26 earlier moves")
             self.assertEqual([row.split()[1] for row in answers[3:5]], ["27", "28"])
-            self.assertEqual(answers[5], "# at 28; `redo` can make 2 more")
+            self.assertEqual(answers[5], "# at 28; `redo` can repeat 2 undone moves")
             self.assertEqual(len(said(shell, "moves all")), 29)
             self.assertEqual(said(shell, "show moves"), ["moves 28 undone 2 kept 28"])
 
@@ -195,15 +199,15 @@ class Places(unittest.TestCase):
         with example("lost_item") as shell:
             lines = ["forward 9", "goto 4", "goto 4", "goto 9", "goto 10", "goto", "goto x"]
             answers = said(shell, *lines)
-            self.assertEqual(answers[:4], ["ok at 9", "ok at 4", "# at 4 already", "ok at 9"])
-            self.assertEqual(answers[4], "# 9 moves are done: there is no place 10")
+            self.assertEqual(answers[:4], ["ok at 9", "ok at 4", "# already at 4", "ok at 9"])
+            self.assertEqual(answers[4], "# there is no place 10: 9 moves done")
             self.assertEqual(len(answers), 7)
 
     def test_a_history_without_room(self) -> None:
         with example("lost_item", Limits(1000, 700)) as shell:
             answers, hints = both(shell, "forward 100", "moves all", "show moves")
             self.assertRegex(
-                answers[1], r"^# that takes \d+ places of the history, and 6\d\d are left$"
+                answers[1], r"^# it needs \d+ entries of the history, and 6\d\d are left$"
             )
             self.assertEqual(answers[2], "moves 100 undone 0 kept 100")
 

@@ -61,14 +61,16 @@ class Source(InFolder):
                 path = self.put("lines", "step 0", wrong, "step 1")
                 with self.subTest(wrong):
                     answers = said(shell, "goto 0", f"source {path}")
-                    self.assertEqual(answers[-1], f"# {path}:2: it ends here")
+                    self.assertEqual(
+                        answers[-1], f"# {path}:2: stopped here, because the line was refused"
+                    )
                     self.assertEqual(shell.target.place, 1)
 
     def test_files_that_do_each_other(self) -> None:
         path = self.put("lines", f"source {self.home}/lines")
         with example("lost_item") as shell:
             answers = said(shell, f"source {path}")
-            self.assertIn("is the one file too many", answers[0])
+            self.assertIn("`source` is nested more than 8 deep", answers[0])
             self.assertEqual(shell.sourced, [])
 
     def test_what_is_no_file(self) -> None:
@@ -76,7 +78,7 @@ class Source(InFolder):
             said_is = [f"# cannot read {self.home}: Is a directory"]
             self.assertEqual(said(shell, f"source {self.home}"), said_is)
             self.assertIn("No such file", said(shell, "source nothing")[0])
-            self.assertIn("source which file?", said(shell, "source")[0])
+            self.assertIn("`source` needs one file name", said(shell, "source")[0])
 
 
 class Start(InFolder):
@@ -113,7 +115,7 @@ class Start(InFolder):
         self.put("more", f"save! {self.home}/made.commands")
         self.put(sourcing.START, f"source {self.home}/more", "step 0")
         found = self.begun(b"tick\n")
-        self.assertEqual(found[0], "# a file that a prompt begins with saves nothing")
+        self.assertEqual(found[0], "# a start file cannot save files")
         self.assertEqual(found[-1], "ok at 1")
         self.assertFalse((self.home / "made.commands").exists())
 

@@ -46,7 +46,7 @@ class AtATerminal(unittest.TestCase):
 
     def test_a_session(self) -> None:
         terminal = self.terminal(LOST)
-        self.assertIn("`help` lists the words", self.greeting)
+        self.assertIn("`help` lists the commands", self.greeting)
         self.assertIn("core 1  producer  0 data 41", self.greeting)
         # Tab over words and names, Enter that repeats, and the moves that are told
         terminal.type(f"sh{TAB}ta{TAB}wo{TAB}")
@@ -63,7 +63,9 @@ class AtATerminal(unittest.TestCase):
         # Ctrl-C ends the line that is typed, and not the program
         terminal.type("quit")
         terminal.interrupt(r"\^C\n" + PROMPT)
-        self.assertIn("no Syntax\nhint: 'fly' is no word", terminal.ask("fly").replace("\r", ""))
+        self.assertIn(
+            "no Syntax\nhint: unknown command 'fly'", terminal.ask("fly").replace("\r", "")
+        )
         terminal.type(CONTROL_D)
         self.assertEqual(terminal.end(), 0)
         kept = self.history.read_text().splitlines()
@@ -71,7 +73,7 @@ class AtATerminal(unittest.TestCase):
         # (the next one has the lines of the one before)
         again = self.terminal(LOST)
         again.type(UP)
-        self.assertIn("hint: 'fly' is no word", again.ask(""))
+        self.assertIn("hint: unknown command 'fly'", again.ask(""))
         again.type("q\n")
         self.assertEqual(again.end(), 0)
 

@@ -77,8 +77,8 @@ class Pieces(unittest.TestCase):
             )
             self.assertEqual(output[:2], ["> forward 9000", "no MovesFull"])
             self.assertEqual(output[-2:], ["> forward 600", "no MovesFull"])
-            self.assertIn("only 3000 more moves fit", hints[0])
-            self.assertIn("only 500 more moves fit", hints[1])
+            self.assertIn("only 3000 moves left", hints[0])
+            self.assertIn("only 500 moves left", hints[1])
 
     def test_as_one_line(self) -> None:
         for seed in range(2):
@@ -95,7 +95,7 @@ class Pieces(unittest.TestCase):
             shell.is_terminal = True
             answers = said(shell, "step 0", "until tick = 99 20", "show moves", "until tick = 9 99")
             self.assertEqual(answers[:2], ["ok at 1", "no MovesFull"])
-            self.assertEqual(answers[2], "# nothing is made; what was tried, `redo` can make again")
+            self.assertEqual(answers[2], "# no move was made; `redo` makes the undone moves again")
             self.assertEqual(answers[3:], ["moves 1 undone 9 kept 1", "no MovesFull"])
 
 
@@ -157,7 +157,7 @@ class Walks(unittest.TestCase):
     def test_a_goal_at_the_wall(self) -> None:
         with example("turns", Limits(moves=37)) as shell:
             answers, _ = both(shell, "until failed")
-            end = "'failed' wasn't met in 37 moves, and there are no more: MovesFull"
+            end = "'failed' was not met in 37 moves, and rdbg refuses more: MovesFull"
             self.assertTrue(answers[0].startswith(f"# at 37 limit: {end}"), answers[0])
 
 

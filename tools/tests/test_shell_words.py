@@ -94,7 +94,7 @@ class Views(unittest.TestCase):
             self.assertEqual(said(shell, "p producer.data"), ["# producer: data = 41"])
             self.assertEqual(len(said(shell, "p $r0")), 2)
             self.assertIn("queue jobs  1/1  41", said(shell, "p jobs")[0])
-            self.assertIn("near it is 'jobs'", said(shell, "p job")[0])
+            self.assertIn("did you mean 'jobs'?", said(shell, "p job")[0])
 
     def test_one_task(self) -> None:
         with example("lost_item") as shell:
@@ -113,13 +113,12 @@ class Moves(unittest.TestCase):
         with example("lost_item") as shell:
             answers = said(shell, "step producer 2", "step worker", "step worker", "step pruducer")
             self.assertEqual(answers[:3], ["ok at 1", "ok at 2", "ok at 3"])
-            waits = (
-                "it waits at recv:jobs with no limit of time; poller on core 0, producer on core 1"
-            )
-            self.assertRegex(answers[3], "^ok at 4$|^# worker is on no core")
+            waits = "it waits at recv:jobs with no limit of time"
+            running = "(running: poller on core 0, producer on core 1)"
+            self.assertRegex(answers[3], "^ok at 4$|^# cannot step worker")
             answers = said(shell, "goto 0", "step worker", "step worker")
-            self.assertEqual(answers[-1], f"# worker is on no core: {waits}")
-            self.assertIn("near it is 'producer'", said(shell, "step pruducer")[0])
+            self.assertEqual(answers[-1], f"# cannot step worker: {waits} {running}")
+            self.assertIn("did you mean 'producer'?", said(shell, "step pruducer")[0])
             self.assertIn("it is ready", said(shell, "goto 0", "step poller")[1])
 
     def test_gdb_s_words(self) -> None:
@@ -149,17 +148,18 @@ class Moves(unittest.TestCase):
     def test_an_instruction_that_a_task_does_not_have(self) -> None:
         with example("lost_item") as shell:
             # (the worker has recv and jump, the producer data, send and end)
-            for line, number, has in (
-                ("break worker 99", 99, "worker has 0 to 1"),
-                ("b producer:3", 3, "producer has 0 to 2"),
-                ("break pc worker = 2", 2, "worker has 0 to 1"),
-                ("break pc worker > 1", 2, "worker has 0 to 1"),
-                ("until pc worker = 2", 2, "worker has 0 to 1"),
-                ("until! pc worker = 2", 2, "worker has 0 to 1"),
-                ("rc! pc worker > 1", 2, "worker has 0 to 1"),
+            last = {"worker": 1, "producer": 2}
+            for line, number, task in (
+                ("break worker 99", 99, "worker"),
+                ("b producer:3", 3, "producer"),
+                ("break pc worker = 2", 2, "worker"),
+                ("break pc worker > 1", 2, "worker"),
+                ("until pc worker = 2", 2, "worker"),
+                ("until! pc worker = 2", 2, "worker"),
+                ("rc! pc worker > 1", 2, "worker"),
             ):
                 with self.subTest(line):
-                    said_is = [f"# there is no instruction {number}: {has}"]
+                    said_is = [f"# {task} has no instruction {number}, only 0 to {last[task]}"]
                     self.assertEqual(said_is, said(shell, line))
             self.assertEqual("ok at 0", said(shell, "goto 0", "step 0", "back 1")[-1])
             self.assertEqual("ok watch 0", said(shell, "break worker 1")[0])
@@ -173,26 +173,28 @@ class Moves(unittest.TestCase):
         with opened(source("busy.fw", BUSY.encode())) as shell:
             answers = said(shell, "break busy.fw:10", "b 8", "d 1", "b other.fw:3", "b 99")
             self.assertEqual(answers[:2], ["# busy.fw:10  flash 1 recv log max", "ok watch 0"])
-            tip = "# `continue` runs to where a watch becomes so, `rc` goes back to where one did"
+            tip = "# `continue` runs to the next watchpoint hit, `rc` goes back to the last one"
             moved = ["# busy.fw:9  flash 0 recv never 2", "ok watch 1"]
-            dropped = ["ok watch 1", "# watch 1 is dropped: pc flash = 0"]
+            dropped = ["ok watch 1", "# removed watch 1: pc flash = 0"]
             self.assertEqual(answers[2:7], [tip, *moved, *dropped])
             self.assertIn("the file is busy.fw", answers[7])
-            self.assertIn("no instruction at line 99", answers[8])
+            self.assertIn("no instruction at or after line 99", answers[8])
         with example("lost_item") as shell:
-            self.assertIn("has 3 instructions: `break producer 0`", said(shell, "b 7")[0])
+            self.assertIn("has 3 instructions; use `break producer 0`", said(shell, "b 7")[0])
 
     def test_what_a_gdb_hand_types(self) -> None:
         with example("lost_item") as shell:
             refused, hints = both(shell, "break changes jobs", "break count job > 0")
-            wanted = "# a watch is a condition; `until changes jobs` runs there, `rc changes jobs`"
-            self.assertEqual(refused, [f"{wanted} goes back", "no NoSuch"])
+            wanted = (
+                "# a watch takes a condition; `until changes jobs` runs to this goal, `rc changes"
+            )
+            self.assertEqual(refused, [f"{wanted} jobs` goes back to it", "no NoSuch"])
             self.assertEqual(len(hints), 1)
             self.assertEqual(said(shell, "step 1 2", "goto 0"), ["ok at 1", "ok at 2", "ok at 0"])
             self.assertEqual(said(shell, "s producer", "s producer 2")[-1], "ok at 3")
             self.assertIn("`poke reg worker 7 3`", said(shell, "print r7=3")[0])
             self.assertIn("`poke reg poller 7 3`", said(shell, "p poller.r7 = 3")[0])
-            self.assertIn("registers are r0 to r7", said(shell, "print r9")[0])
+            self.assertIn("there is no register r9, only r0 to r7", said(shell, "print r9")[0])
             self.assertIn("queue jobs  1/1", said(shell, "info queue jobs")[0])
             self.assertIn("task worker, priority 2", said(shell, "info task worker")[0])
             self.assertEqual(len(said(shell, "info task")), 4)
@@ -210,13 +212,13 @@ class Moves(unittest.TestCase):
             self.assertRegex(
                 answers[1], r"^# 5  core 1  producer 1 send jobs 0 -> 1, jobs 1/1, woke "
             )
-            limit = "# at 10 limit: 'wakes worker' wasn't met in 5 moves"
+            limit = "# at 10 limit: 'wakes worker' was not met in 5 moves"
             self.assertTrue(answers[2].startswith(limit), answers[2])
-            self.assertEqual(answers[3], "# `goto 5` goes back to where this began")
+            self.assertEqual(answers[3], "# `goto 5` goes back to the start of this run")
             self.assertEqual(said(shell, "goto 6", "rc! phase worker again")[1][:10], "# at 5 met")
-            here = "# at 5 still: 'phase worker again' became so here, and not before"
+            here = "# still at 5: 'phase worker again' turned true here, and never before"
             self.assertEqual(said(shell, "rc! phase worker again"), [here])
-            none = r"^# at 5 still: 'failed' wasn't met before \(\d+ lines asked\)$"
+            none = r"^# still at 5: 'failed' was not met before \(\d+ lines asked\)$"
             self.assertRegex(said(shell, "rc failed")[0], none)
 
     def test_a_condition_without_a_count(self) -> None:
@@ -230,7 +232,7 @@ class Moves(unittest.TestCase):
         with example("turns") as shell:
             shell.is_terminal = True
             answers = said(shell, "step 0", "until tick = 90000")
-            back = "# `goto 1` goes back to where this began"
+            back = "# `goto 1` goes back to the start of this run"
             self.assertEqual(answers, ["ok at 1", "ok at 10001 limit", back])
 
     def test_an_interrupt_that_is_always_busy(self) -> None:
@@ -238,7 +240,7 @@ class Moves(unittest.TestCase):
         with opened(made) as shell:
             answers = said(shell, "until stuck 50", "goto 0", "until sleeps flash")
             self.assertIn("# not stuck: isr is busy on core 0, and never waits", answers[1])
-            self.assertIn("so `stuck` can't come", answers[2])
+            self.assertIn("so `stuck` never holds", answers[2])
             self.assertRegex(answers[5], r"^# at 10 met: sleeps flash")
             self.assertRegex(answers[6], "flash 1 .* left core 1 .waits with no limit of time.")
 
@@ -249,20 +251,20 @@ class Moves(unittest.TestCase):
             self.assertRegex(
                 answers[2], "^# display ended; motor waits at recv:orders with no limit of time; "
             )
-            self.assertRegex(answers[3], "^# asleep already; ")
+            self.assertRegex(answers[3], "^# already asleep; ")
             self.assertEqual(answers[4], answers[3])
             self.assertRegex(answers[6], "^# at 22 met: asleep")
             answers = said(shell, "goto 0", "c", "until finished", "rc! stuck")
             self.assertRegex(answers[1], r"^# at 22 met: asleep \(\d+ lines asked\)$")
-            self.assertRegex(answers[4], "^# asleep already; ")
-            self.assertRegex(answers[5], "^# at 22 still: 'stuck' became so here")
+            self.assertRegex(answers[4], "^# already asleep; ")
+            self.assertRegex(answers[5], "^# still at 22: 'stuck' turned true here")
 
     def test_a_target_that_has_finished(self) -> None:
         with example("builtin") as shell:
             answers = said(shell, "c", "until asleep", "rc! finished")
             self.assertRegex(answers[0], r"^# at \d+ met: finished \(\d+ lines asked\)$")
             self.assertRegex(answers[2], "ended")
-            self.assertRegex(answers[3], "^# finished already; ")
+            self.assertRegex(answers[3], "^# already finished; ")
 
     def test_many_ticks(self) -> None:
         with example("delay", Limits(moves=400)) as shell:
@@ -270,11 +272,13 @@ class Moves(unittest.TestCase):
             answers = said(shell, "tick 300", "moves 300")
             self.assertEqual(answers[0], "ok at 302")
             self.assertIn("woke blink, whose time was up", answers[1])
-            self.assertEqual(answers[2], "# 299 ticks woke and turned nobody")
+            self.assertEqual(answers[2], "# 299 ticks without effect on any task")
             self.assertRegex(answers[-2], r"^# \d+\.\.302  29\d ticks, up to tick 300$")
             output, hints = both(shell, "set moves off", "tick 300")
-            self.assertEqual(output, ["no MovesFull", "# the moves up to 400 are made"])
-            self.assertIn("no more moves are kept", hints[0])
+            self.assertEqual(
+                output, ["no MovesFull", "# stopped at 400; the moves up to there are done"]
+            )
+            self.assertIn("no moves left", hints[0])
 
     def test_words_that_are_wrong(self) -> None:
         wrong = [
@@ -316,7 +320,7 @@ class Help(unittest.TestCase):
             for name in [*names, *OTHERS]:
                 with self.subTest(name):
                     answers, hints = both(shell, f"help {name}")
-                    self.assertTrue(answers and "is no word" not in answers[0])
+                    self.assertTrue(answers and "no help for" not in answers[0])
             self.assertTrue(all(len(line) <= 100 for line in overview.splitlines()))
 
     def test_tab(self) -> None:

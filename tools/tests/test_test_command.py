@@ -63,9 +63,9 @@ class Answers(InFolder):
         self.assertEqual((1, []), (status, errors), output)
         heads = [line for line in output if not line.startswith(" ")]
         self.assertTrue(heads[0].startswith("ok"), heads)
-        asked = "meeting.json: reach asleep: never was expected; found came"
+        asked = "meeting.json: reach asleep: expected never, got found"
         self.assertEqual(f"wrong  {asked}", heads[1].rpartition(" (")[0])
-        asked = "meeting_mended.json: reach asleep: found was expected; never came"
+        asked = "meeting_mended.json: reach asleep: expected found, got never"
         self.assertEqual(f"wrong  {asked}", heads[2].rpartition(" (")[0])
         self.assertEqual("3 cases: 1 ok, 2 wrong", heads[3])
         # (the order, as `hunt` shows it, with the lines that make it)
@@ -117,7 +117,7 @@ class Answers(InFolder):
         status, output, errors = self.try_all(late)
         self.assertEqual((1, []), (status, errors), output)
         self.assertRegex(
-            output[0], "^wrong  slow.json: reach tick = 9999999: never was expected; full"
+            output[0], "^wrong  slow.json: reach tick = 9999999: expected never, got full"
         )
         self.assertIn("       incomplete: the time limit was reached", output)
 
@@ -170,7 +170,7 @@ class Refused(InFolder):
         """What is said, without the file's name, and the last line apart."""
         status, output, errors = self.try_all(*cases)
         self.assertEqual((2, []), (status, output), errors)
-        self.assertRegex(errors[-1], r"^rdbg test: .*goals.json has \d+ faults?; nothing is tried$")
+        self.assertRegex(errors[-1], r"^rdbg test: .*goals.json has \d+ errors?; no case was run$")
         return [line.partition("goals.json:")[2].partition(": ")[2] for line in errors[:-1]]
 
     def test_keys_and_values(self) -> None:
@@ -291,7 +291,7 @@ class Report(InFolder):
         )
         self.assertEqual(["system-out"], [it.tag for it in never])
         failure, output = found
-        self.assertEqual("never was expected, and found came", failure.get("message"))
+        self.assertEqual("expected never, got found", failure.get("message"))
         assert output.text is not None
         self.assertIn("\nfound: asleep, at 8, with 1 surprise\n", output.text)
         self.assertIn("\nforward 2\nstep 0\n", output.text)

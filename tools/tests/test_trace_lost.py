@@ -51,7 +51,10 @@ class Rows(Traced):
             (("--lost", "sleeps worker"), "--lost: the search does not support"),
             (("--lost", "failed", "--events", "x"), "--lost is for rows or --page of a run that"),
             (("--ask", "lost faild"), "--lost: word 1, 'faild'"),
-            (("--ask", "reach failed"), "--ask is for a page: --page OUT.html; of rows it takes"),
+            (
+                ("--ask", "reach failed"),
+                "--ask requires --page (without it, only 'lost GOAL' is possible)",
+            ),
         ):
             with self.subTest(words):
                 status, lines, errors = self.traced(RUN, *words)

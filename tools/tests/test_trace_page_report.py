@@ -234,8 +234,8 @@ class Words(unittest.TestCase):
     def test_words_that_cant_be(self) -> None:
         page = ("--page", os.devnull)
         for words, why in (
-            (("--title", "x"), "--title is for a page: --page OUT.html"),
-            (("--ask", "asleep", "--events", "-"), "--ask is for a page: --page OUT.html"),
+            (("--title", "x"), "--title requires --page"),
+            (("--ask", "asleep", "--events", "-"), "--ask requires --page"),
             (("--ask", "asleap", *page), "--ask: word 1, 'asleap'"),
             (("--at", "12", *page), "--at 12 is out of range: the page has places 0 to 3"),
             (("--at", "tick > 9", *page), "--at: 'tick > 9' holds at none of the places 0 to 3"),
@@ -254,10 +254,10 @@ class Words(unittest.TestCase):
     def test_reach_without_an_order(self) -> None:
         page = pathlib.Path(os.devnull)
         status, errors = told("reach", str(LOST), "failed", "--page", str(page))
-        wanted = f"rdbg reach: no order leads there, so {page} isn't written"
+        wanted = f"rdbg reach: no run to show, so {page} is not written"
         self.assertEqual((0, [wanted]), (status, errors))
         status, errors = told("reach", str(LOST), "asleep", "--page", "-")
-        self.assertEqual((2, True), (status, "--page takes a file" in errors[0]))
+        self.assertEqual((2, True), (status, "--page needs a file" in errors[0]))
 
     def test_version(self) -> None:
         said = "rdbg at commit 0123; kit; proved"

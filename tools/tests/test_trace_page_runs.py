@@ -180,7 +180,7 @@ class Words(unittest.TestCase):
         page = str(self.folder / "page.html")
         refused = "rdbg trace: --only is for rows; --page writes all"
         self.assertEqual([2, refused], self.status("--page", page, "--only", "jobs"))
-        refused = "rdbg trace: --events or --page, one at a time"
+        refused = "rdbg trace: --events cannot be combined with --page"
         self.assertEqual([2, refused], self.status("--page", page, "--events", page))
         nowhere = str(self.folder / "none" / "page.html")
         refused = f"rdbg trace: cannot write {nowhere}: No such file or directory"

@@ -80,9 +80,11 @@ class Terminal(unittest.TestCase):
     def test_a_wrong_command_line(self) -> None:
         seen = at_terminal("run", "--moves", "0")
         self.assertIn(
-            "rdbg: bad command line\nrdbg: --moves takes 1 to 1000000, and not '0'\n", seen
+            "rdbg: bad command line\nrdbg: --moves must be 1 to 1000000, found '0'\n", seen
         )
-        self.assertIn("'chekc' is no word of rdbg; check?", at_terminal("chekc", "x.json"))
+        self.assertIn(
+            "unknown command 'chekc' (did you mean 'check'?)", at_terminal("chekc", "x.json")
+        )
 
     def test_a_prompt_is_pointed_to(self) -> None:
         self.assertIn("'./rdbg sh' is a prompt", at_terminal("run", "--app", LOST))

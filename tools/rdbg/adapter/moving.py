@@ -17,7 +17,7 @@ from rdbg.adapter.threads import TIME
 from rdbg.driving import trail
 from rdbg.driving.target import Target, Unable
 from rdbg.replies import Refused
-from rdbg.shell.steps import why_on_none
+from rdbg.shell.steps import why_not_running
 
 
 def told(it: Debugger, text: str, task: str) -> str:
@@ -132,7 +132,7 @@ def core_of(it: Debugger, name: str) -> int:
     """Returns the core that a task is on. Raises `Wrong` if it is on none."""
     task = it.shell.target.ask(f"show task {name}", replies.Task)
     if task.core is None:
-        why = why_on_none(it.shell, task)
+        why = why_not_running(it.shell, task)
         more = (
             "" if task.phase.word in ("ended", "failed") else "; Step Out runs until it continues"
         )

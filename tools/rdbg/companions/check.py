@@ -1,4 +1,4 @@
-"""Says of application files where they are wrong, and what would be right."""
+"""Checks models: reports each error with its position and a suggested fix."""
 import argparse
 import json
 import sys
@@ -15,28 +15,29 @@ from rdbg.printable import printable
 from rdbg.tree import Fault
 from rdbg.wording import counted
 
-SUMMARY = "says of application files where they are wrong, and what would be right"
+SUMMARY = "Report errors in models, with suggestions"
 STANDARD_INPUT, NOTE = "-", "note: "
 Values = Dict[str, Any]
 LARGEST = 999_999_999
 EPILOG = (
-    "Each fault is one line on standard output, FILE:LINE:COLUMN: and what would be right; the last"
-    " line says what rdbg itself says of the file. The status is 0 where all files are accepted,"
-    " 1 where one is refused, or its C has gone another way than its lines, 2 where one can't be"
-    " read."
+    "Each error is one line on standard output, FILE:LINE:COLUMN: MESSAGE. The last line of a file"
+    " says whether rdbg accepts it.\n\n"
+    "Exit status: 0 all files are accepted; 1 a file is refused, or its C no longer matches its"
+    " model; 2 a file cannot be read.\n\n"
+    "Example:\n  rdbg check jobs.fw gateway.c"
 )
 
 
 def parser() -> Parser:
-    """The words of the command line."""
+    """The parser of the command line."""
     made = Parser("rdbg check", description=SUMMARY, epilog=EPILOG)
-    files = "JSON, a text in lines (.fw), or C with such lines (.c); - is standard input"
+    files = "model (.fw, .json, or .c with `// rdbg:` lines); - for standard input"
     made.word("files", "FILE", files, nargs="+")
-    made.flag("--first", "prints the first fault of each file, and nothing else")
-    made.flag("--json", "prints it as JSON (docs/check.schema.json)")
-    most = f"so many faults a file, else {MOST_SHOWN}"
+    made.flag("--first", "print only the first error of each file")
+    made.flag("--json", "print the errors as JSON (docs/check.schema.json)")
+    most = f"print at most N errors per file [default: {MOST_SHOWN}]"
     made.word("--most", "N", most, type=bounded(0, LARGEST), default=MOST_SHOWN)
-    made.word("--name", "FILE", "what standard input is called, and so how it is read")
+    made.word("--name", "FILE", "name of standard input, whose ending says how to read it")
     take_definitions(made)
     return made
 

@@ -1,19 +1,21 @@
-"""Prints the script by which a shell completes rdbg's words."""
+"""Prints a completion script for a shell."""
 import sys
 from typing import Sequence
 
 from rdbg.completing.table import SHELLS
 from rdbg.options import Parser
 
-SUMMARY = "prints the script by which bash or zsh completes the words of rdbg"
+SUMMARY = "Print the completion script for bash or zsh"
 EPILOG = (
-    "In bash: source <(rdbg completion bash). In zsh, behind compinit: source <(rdbg completion"
-    " zsh). An installed package has both where the shells look for them."
+    "`rdbg install` and the Debian package install both scripts where the shells look for them.\n\n"
+    "Examples:\n"
+    "  source <(rdbg completion bash)\n"
+    "  source <(rdbg completion zsh)     (after compinit)"
 )
 
 
 def parser() -> Parser:
-    """The words of the command line."""
+    """The parser of the command line."""
     made = Parser("rdbg completion", description=SUMMARY, epilog=EPILOG)
     made.word("shell", "SHELL", "bash or zsh", choices=SHELLS)
     return made

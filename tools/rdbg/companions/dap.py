@@ -8,19 +8,20 @@ from rdbg.adapter.server import Server
 from rdbg.options import Parser, port
 from rdbg.door import Door
 
-SUMMARY = "the debugger of an editor, with its buttons: breakpoints, steps, and both ways"
+SUMMARY = "Serve an editor over the Debug Adapter Protocol"
 EPILOG = (
-    "An editor starts it, and says by `launch` which file to debug, or by `attach` at which port:"
-    " docs/guides/editors.md. It talks the Debug Adapter Protocol over standard input and output, or, with"
-    " --port, with each editor that connects to that port of 127.0.0.1."
+    "An editor starts this command and talks to it over standard input and output, or, with --port,"
+    " over a connection to 127.0.0.1. The editor's `launch` request names the model; `attach` names"
+    " the port of a running `rdbg serve` or `rdbg room`. docs/guides/editors.md shows the setup for"
+    " each editor."
 )
 
 
 def parser() -> Parser:
-    """The words of the command line."""
+    """The parser of the command line."""
     made = Parser("rdbg dap", description=SUMMARY, epilog=EPILOG)
-    made.word("--port", "P", "listens at this port of 127.0.0.1", type=port)
-    anyone = "lets in every user of this machine at that port, and not yourself alone"
+    made.word("--port", "P", "listen on port P of 127.0.0.1 instead of standard input", type=port)
+    anyone = "accept connections of every user of this machine [default: only yours]"
     made.flag("--anyone", anyone)
     return made
 
@@ -34,10 +35,10 @@ def main(words: Sequence[str]) -> int:
         listen(number, Door(given.anyone))
         return 0
     if given.anyone:
-        made.error("--anyone goes with --port")
+        made.error("--anyone needs --port")
     if sys.stdin.isatty():
         print(
-            "rdbg dap: an editor starts this (docs/guides/editors.md); Ctrl-D ends it",
+            "rdbg dap: waiting for an editor (see docs/guides/editors.md); press Ctrl-D to end",
             file=sys.stderr,
         )
     # (streams of their own: no print comes between, and none is waited for at the end)

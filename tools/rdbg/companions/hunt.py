@@ -1,4 +1,4 @@
-"""Looks for an order of moves that comes to a goal."""
+"""Searches for a run with the fewest surprises that reaches a goal."""
 import argparse
 import contextlib
 import os
@@ -18,7 +18,7 @@ from rdbg.hunting.goals import Goal
 from rdbg.hunting.interrupts import handlers
 from rdbg.hunting.search import Search
 from rdbg.hunting.stage import Find, Stage
-from rdbg.options import APPLICATION, Parser, bounded
+from rdbg.options import APPLICATION, Paragraphs, Parser, bounded
 from rdbg.goals.scope import Scope
 from rdbg.reaching import beside, vacuity
 from rdbg.reaching.asking import CTRL_C, LOST, QUESTIONS, REACH, Asker, NoQuestion
@@ -27,30 +27,31 @@ from rdbg.reaching.said import Answer, Bound, Kind
 from rdbg.reaching.vacuity import Vacuous
 from rdbg.replies import Refused
 
-SUMMARY = "looks for an order of moves that comes to a goal, with the fewest surprises"
+SUMMARY = "Search for runs that reach a goal, with the fewest surprises first"
 EPILOG = (
-    "GOAL is a goal of reach (docs/REACHING.md), or differs: two orders end otherwise."
-    " The lines of what is found, which rdbg replays by itself, go to standard output, and what is"
-    " said of them to standard error; with -o to OUT, and to standard output. The status is 0 where"
-    " none is found (never, or not within what was asked for), 1 where one is, 2 where it can't be"
-    " told, 130 after Ctrl-C; with --expect found 0 where one is found, 1 where not."
+    "GOAL is a goal as for `rdbg reach`, or `differs`: two runs end differently. A run is printed"
+    " as commands that `rdbg run` replays, and remarks about it go to standard error; with -o, the"
+    " run goes to OUT and the remarks to standard output.\n\n"
+    "Exit status: 0 no run is found (never, or not within the limits asked for); 1 a run is found;"
+    " 2 undecided, or an error; 130 after Ctrl-C. With --expect found: 0 a run is found, 1 none"
+    " is.\n\n"
+    "Example:\n  rdbg hunt jobs.fw 'asleep and count jobs > 0' -o lost-job.commands"
 )
 ISR = (
-    "an interrupt that may come once, at any place: send Q HEX, notify K I N ACTION, or several"
-    " calls with ; between them; said twice, it may come twice; or one that the text names, which"
-    " comes as that says. Without it all come that the text names; none: none of them"
+    "interrupt that may occur once at any time, such as 'send rx 41', with ; between several calls;"
+    " or the name of an interrupt of the model, which occurs as declared (repeatable)"
+    " [default: the interrupts of the model; `--isr none` for none]"
 )
 NONE_FOUND, FOUND, CANT, STOPPED = 0, 1, 2, 130
 STANDARD = "-"
-# Options of the program that searches, which are passed on to it, each with how its value is
-# written, and what it is.
+# Options that are passed on to the search program, each with the name of its value and its help.
 PASSED = {
-    "--pace": ("M..N", "each busy core makes M to N moves from one tick to the next"),
-    "--states": ("N", "how many states are kept"),
-    "--memory": ("MIB", "for how many mebibytes states are kept"),
-    "--part": ("K/N", "one of N parts of the search"),
+    "--pace": ("M..N", "moves per busy core between two ticks [default: any number]"),
+    "--states": ("N", "stored states"),
+    "--memory": ("MIB", "memory for stored states in MiB"),
+    "--part": ("K/N", "search only part K of N, to divide the work between machines"),
 }
-# Those of them that are of a search through the orders of one goal.
+# Those of them that the goal `differs` does not support.
 OF_ONE_GOAL = ("--pace", "--part")
 
 
@@ -64,12 +65,12 @@ def seconds(text: str) -> float:
     """Reads a number of seconds, above 0."""
     value = digits.seconds(text)
     if value is None:
-        raise argparse.ArgumentTypeError(f"a number of seconds, not '{text}'")
+        raise argparse.ArgumentTypeError(f"must be a positive number of seconds, found '{text}'")
     return value
 
 
-class OneGoal(argparse.HelpFormatter):
-    """Shows several words that are one thing as that thing, once."""
+class OneGoal(Paragraphs):
+    """Shows an argument of several words once in the usage."""
 
     def _format_args(self, action: argparse.Action, default_metavar: str) -> str:
         if action.nargs == "+" and isinstance(action.metavar, str):
@@ -78,23 +79,27 @@ class OneGoal(argparse.HelpFormatter):
 
 
 def parser() -> Parser:
-    """The words of the command line."""
+    """The parser of the command line."""
     made = Parser("rdbg hunt", description=SUMMARY, epilog=EPILOG, formatter_class=OneGoal)
     word, count = made.word, bounded(1)
     word("file", "FILE", APPLICATION)
-    word("goal", "GOAL", "one goal; its words may be apart", nargs="+")
-    word("-o", "OUT", "where the lines of a find go", dest="output")
-    word("--page", "OUT.html", "writes the first find as one page of HTML")
-    report = "writes what came of it as SARIF, or where FILE ends in .xml as JUnit's XML"
+    word("goal", "GOAL", "goal, such as 'asleep and count jobs > 0'", nargs="+")
+    word("-o", "OUT", "write the runs to OUT", dest="output")
+    word("--page", "OUT.html", "write the first run as an HTML page")
+    report = "write the result as SARIF, or as JUnit XML if FILE ends in .xml"
     word("--report", "FILE", report)
-    word("--surprises", "N", "orders of so many surprises at the most", type=bounded(0))
-    word("--moves", "N", "orders of at most so many moves; 0: the start alone", type=bounded(0))
+    word(
+        "--surprises", "N", "allow at most N deviations from the default schedule", type=bounded(0)
+    )
+    word("--moves", "N", "consider runs of at most N moves (0: only the start)", type=bounded(0))
     word("--isr", "CALLS", ISR, action="append", default=[])
-    made.flag("--exhaustive", "surprises aren't counted: the fewest moves")
-    made.flag("--smallest", "shows that none has fewer surprises, or moves")
-    word("--all", "N", "the first N finds that end otherwise", type=count)
-    made.add_argument("--expect", choices=["none", "found"], help="what the status is 0 for")
-    word("--within", "SECONDS", "a limit of time", type=seconds)
+    made.flag("--exhaustive", "minimize moves instead of surprises")
+    made.flag("--smallest", "prove that no run has fewer surprises or, with as many, fewer moves")
+    word("--all", "N", "find the first N runs that end differently", type=count)
+    made.add_argument(
+        "--expect", choices=["none", "found"], help="result with exit status 0 [default: none]"
+    )
+    word("--within", "SECONDS", "stop after this time", type=seconds)
     for name, (value, what) in PASSED.items():
         word(name, value, what, type=part if name == "--part" else str)
     take_definitions(made)
@@ -108,16 +113,16 @@ def passed(given: argparse.Namespace) -> List[Tuple[str, str]]:
 
 
 def check_words(given: argparse.Namespace, goal: Goal) -> None:
-    """Raises `Failure` where words can't stand together."""
+    """Raises `Failure` if options cannot be combined."""
     options_given = (("--surprises", given.surprises is not None), ("--smallest", given.smallest))
     for name in (name for name, is_given in options_given if is_given and given.exhaustive):
-        raise Failure(f"--exhaustive goes through every order; it takes no {name}", CANT)
+        raise Failure(f"--exhaustive cannot be combined with {name}", CANT)
     if given.smallest and given.all is not None:
-        raise Failure("--smallest is of one find; it takes no --all", CANT)
+        raise Failure("--smallest cannot be combined with --all", CANT)
     smallest = ["--smallest"] if given.smallest else []
     names = [*smallest, *(name for name, _ in passed(given) if name in OF_ONE_GOAL)]
     if goal.compares and names:
-        raise Failure(f"{names[0]} is of goals that are met, and none of differs", CANT)
+        raise Failure(f"{names[0]} cannot be combined with the goal differs", CANT)
 
 
 @contextlib.contextmanager
@@ -131,7 +136,7 @@ def outputs(path: Optional[str], source: str) -> Iterator[Tuple[IO[str], IO[str]
         return
     with contextlib.suppress(OSError):
         if os.path.samefile(path, source):
-            raise Failure(f"-o {path} is the application itself, which would be lost", CANT)
+            raise Failure(f"-o {path}: refusing to overwrite the model", CANT)
     atomic_file.empty(path)
     with atomic_file.write_atomically(path, skips_empty=True) as file:
         yield file, sys.stdout
@@ -218,7 +223,7 @@ class Hunt:
 
         find, is_exhaustive = self.finds[0], self.given.exhaustive
         where = report.place_of(find, is_exhaustive)
-        said = f"Found: the order of this page leads there, {where}."
+        said = f"Found: the run on this page reaches it, {where}."
         told = () if is_exhaustive else find.told
         asked = Asked(f"hunt {self.goal.text}", (said, *told), find.place)
         page_of(self.source, find.lines, self.given.page, lambda _: asked)
@@ -248,9 +253,9 @@ def hunt(given: argparse.Namespace, source: Source, path: str) -> int:
     check_words(given, goal)
     may_come = handlers(given.isr, source.application)
     if goal.compares and any({*dict(it.when)} - {TIMES} for it in may_come):
-        why = "differs begins where interrupts have come, and counts anew: give their calls"
-        left_out = f"; {OPTION} {NO_INTERRUPT} leaves them out"
-        raise Failure(f"{OPTION} NAME after or apart: {why}{left_out}", CANT)
+        why = "the goal differs cannot use declared interrupts with `after` or `apart`"
+        remedy = f"write their calls, or use {OPTION} {NO_INTERRUPT}"
+        raise Failure(f"{why} ({remedy})", CANT)
     for output in (given.page, given.report):
         if output not in (None, STANDARD):
             atomic_file.check_writable(output)
@@ -279,9 +284,9 @@ def main(words: Sequence[str]) -> int:
             return hunt(given, source, path)
     except NoQuestion as refused:
         if str(refused):
-            raise Failure(f"rdreach refuses it: {refused}", CANT) from None
+            raise Failure(f"rdreach refused the question: {refused}", CANT) from None
         return CANT  # (it has said why)
     except Refused as refused:
-        raise Failure(f"rdbg refused it: no {refused}", CANT) from None
+        raise Failure(f"rdbg refused the run: no {refused}", CANT) from None
     except (Unable, Failure) as wrong:
         raise Failure(str(wrong), CANT) from None

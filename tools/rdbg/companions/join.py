@@ -1,4 +1,4 @@
-"""Joins the answers of the parts of one search."""
+"""Combines the answers of the parts of a divided search."""
 import contextlib
 import dataclasses
 import sys
@@ -15,25 +15,29 @@ from rdbg.options import APPLICATION, Parser
 from rdbg.reaching import said
 from rdbg.reaching.said import Answer, Bound, Kind
 
-SUMMARY = "joins the answers of the parts of one search"
+SUMMARY = "Combine the answers of the parts of a divided search"
 EPILOG = (
-    "Each ANSWER is a file with what one part has answered. The first line is found, never, not"
-    " within a bound, or full: not within one, as that of one search; the status is 1, 0, or 2. It"
-    " is found where one part has found it, and the order is the one with the fewest surprises, and"
-    " of those the fewest moves; never, and not within, are said where all parts are there and none"
-    " has found it, with the least bound of them. Parts that are lacking are told, and the status"
-    " is 2 then, unless another has found it."
+    "Each ANSWER is a file with the output of `rdbg reach --part K/N`. The combined answer is"
+    " printed in the same form. It is `found` if any part found a run, with the run that has the"
+    " fewest surprises and, of these, the fewest moves. It is `never` or `not within N moves` only"
+    " if all parts are given and none found a run. Missing parts are reported on standard"
+    " error.\n\n"
+    "Exit status: 0 the goal is never reached; 1 a run was found; 2 undecided (a part is missing or"
+    " reached a limit) or an error.\n\n"
+    "Example:\n  rdbg join jobs.fw part1.txt part2.txt"
 )
-# Why an answer isn't of all orders.
-LACKING = "a part of the search is lacking"
+# Why an answer is incomplete.
+LACKING = "a part of the search is missing"
 
 
 def parser() -> Parser:
-    """The words of the command line."""
+    """The parser of the command line."""
     made = Parser("rdbg join", description=SUMMARY, epilog=EPILOG)
     made.word("file", "FILE", APPLICATION)
-    made.word("answers", "ANSWER", "what a part has answered", nargs="+")
-    made.word("--isr", "CALLS", "as the parts were given it", action="append", default=[])
+    made.word("answers", "ANSWER", "file with the output of one part", nargs="+")
+    made.word(
+        "--isr", "CALLS", "the same --isr options as for the parts", action="append", default=[]
+    )
     take_definitions(made)
     return made
 
@@ -45,7 +49,7 @@ def read(path: str) -> Answer:
     with turned(of_words, Failure, of=path):
         answer = said.read(text.splitlines())
     if answer.part is None:
-        raise Failure(f"{path}: its first line says no part of a search", 2)
+        raise Failure(f"{path}: not the output of a part: the first line names no part K/N", 2)
     return answer
 
 
@@ -53,10 +57,10 @@ def check(answers: Sequence[Answer]) -> List[int]:
     """The parts that aren't among these. Raises `Failure` where they aren't parts of one search."""
     numbers = [it.part for it in answers if it.part is not None]
     if len({count for _, count in numbers}) > 1:
-        raise Failure("they are parts of searches in different numbers of parts", 2)
+        raise Failure("the answers belong to searches with different numbers of parts", 2)
     for part in {part for part, _ in numbers}:
         if sum(it[0] == part for it in numbers) > 1:
-            raise Failure(f"part {part} is there twice", 2)
+            raise Failure(f"part {part} is given twice", 2)
     return [part for part in range(1, numbers[0][1] + 1) if part not in {it for it, _ in numbers}]
 
 
@@ -89,6 +93,6 @@ def main(words: Sequence[str]) -> int:
     with turned(of_words, Unable), contextlib.closing(stage):
         answer = joined(answers, stage)
     for part in lacking:
-        print(f"rdbg join: part {part} is lacking", file=sys.stderr)
+        print(f"rdbg join: part {part} is missing", file=sys.stderr)
     print(*said.lines(answer), sep="\n")
     return answer.kind.value

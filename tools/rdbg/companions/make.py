@@ -1,5 +1,4 @@
-"""Makes the JSON of an application from its text in lines, which may stand in comments of C, or the
-text from the JSON."""
+"""Converts between .fw and JSON models, and extracts a model from comments of C."""
 import contextlib
 import os
 import sys
@@ -18,24 +17,28 @@ from rdbg.options import Parser
 from rdbg.printable import printable
 from rdbg.tree import MOST_BYTES, Place
 
-SUMMARY = "makes an application's JSON from a text in lines (.fw), or the text from the JSON"
+SUMMARY = "Convert between .fw and JSON models, or extract a model from C"
 EPILOG = (
-    "FILE.fw becomes FILE.json beside it, in place of the one that was there. Where the text has"
-    " faults they are printed on standard error, each as FILE:LINE:COLUMN: and what would be right,"
-    " and nothing is written. Lines that become several instructions are printed with these. The"
-    " status is 0, 1 for faults, or 2 for a file that can't be had."
+    "By default FILE.fw is converted to FILE.json in the same folder, and an existing FILE.json is"
+    " replaced. Errors in FILE are printed on standard error as FILE:LINE:COLUMN: MESSAGE, and"
+    " nothing is written then. Lines that expand to several instructions are listed with them.\n\n"
+    "Exit status: 0 written; 1 FILE has errors; 2 a file cannot be read or written.\n\n"
+    "Examples:\n"
+    "  rdbg make jobs.fw\n"
+    "  rdbg make --back jobs.json -o jobs.fw\n"
+    "  rdbg make --from-c gateway.c -o gateway.fw"
 )
 TEXT, JSON, C = ".fw", ".json", ".c"
 
 
 def parser() -> Parser:
-    """The words of the command line."""
+    """The parser of the command line."""
     made = Parser("rdbg make", description=SUMMARY, epilog=EPILOG)
-    file = "the text in lines, FILE.fw; with --back, FILE.json; with --from-c, FILE.c"
+    file = "FILE.fw; with --back FILE.json, with --from-c FILE.c"
     made.word("file", "FILE", file)
-    made.flag("--back", "makes the text from the JSON, on standard output")
-    made.word("-o", "OUT", "writes to OUT; - is standard output", dest="output")
-    lines = "takes the lines from comments of C, FILE.c: // rdbg: LINE; OUT may be FILE.fw, too"
+    made.flag("--back", "convert JSON to .fw, on standard output unless -o is given")
+    made.word("-o", "OUT", "output file; - for standard output", dest="output")
+    lines = "extract the model from `// rdbg:` comments of FILE.c, to JSON or to OUT.fw"
     made.flag("--from-c", lines, dest="is_c")
     take_definitions(made)
     return made
@@ -67,9 +70,9 @@ def main(words: Sequence[str]) -> int:
     """Makes one from the other."""
     given = parser().parse_args(words)
     if given.back and given.consts:
-        raise Failure("a JSON has no consts: -D goes with a text in lines (.fw)", 2)
+        raise Failure("-D cannot be combined with --back: a JSON model has no constants", 2)
     if given.back and given.is_c:
-        raise Failure("--back makes lines, and --from-c takes them: one at a time", 2)
+        raise Failure("--back cannot be combined with --from-c", 2)
     if given.back:
         return back(given.file, given.output)
     check_form(given.file, given.is_c)
@@ -79,21 +82,22 @@ def main(words: Sequence[str]) -> int:
 
 
 def check_form(path: str, is_c: bool) -> None:
-    """Raises `Failure` where a file is, by its name, not what lines are taken from."""
+    """Raises `Failure` if the name of the input file has the wrong ending."""
     if path.endswith(JSON):
-        back = f"its text in lines is made by: rdbg make --back {path}"
-        raise Failure(f"{path} is JSON already; {back}", 2)
+        remedy = f"to convert it to .fw: rdbg make --back {path}"
+        raise Failure(f"{path} is JSON already ({remedy})", 2)
     if path.endswith(C) and not is_c:
-        raise Failure(f"{path} is C: its lines are taken by: rdbg make --from-c {path}", 2)
-    ending, what = (C, "C") if is_c else (TEXT, "a text in lines")
+        remedy = f"to extract its model: rdbg make --from-c {path}"
+        raise Failure(f"{path} is C ({remedy})", 2)
+    ending = C if is_c else TEXT
     if not path.endswith(ending):
-        raise Failure(f"{path} doesn't end in {ending}, as {what} does", 2)
+        raise Failure(f"the name of the input file must end in {ending}, found {path}", 2)
 
 
 def make_lines(path: str, output: str, consts: Given) -> int:
-    """Makes a text in lines of a C source. One that is there stays."""
+    """Extracts the .fw model of a C file. An existing file is not overwritten."""
     if os.path.lexists(output):
-        raise Failure(f"{output} is there already, and it would be lost", 2)
+        raise Failure(f"refusing to overwrite {output}", 2)
     found, application = without_faults(path, consts)
     with write_atomically(output) as file:
         file.write(in_lines(found.text))
@@ -102,17 +106,18 @@ def make_lines(path: str, output: str, consts: Given) -> int:
 
 
 def make(path: str, output: Optional[str], consts: Given) -> int:
-    """Makes the JSON of a text, of which consts of these names are these numbers."""
+    """Converts a model to JSON, with these constants."""
     chosen = os.path.splitext(path)[0] + JSON if output is None else output
     if chosen != STANDARD_OUTPUT and not chosen.endswith(JSON):
-        raise Failure(f"{chosen} doesn't end in {JSON}; it isn't written", 2)
+        raise Failure(f"the name of the output file must end in {JSON}, found {chosen}", 2)
     with contextlib.suppress(OSError):
         if os.path.samefile(path, chosen):
-            raise Failure(f"{chosen} is {path} itself; it isn't written", 2)
+            raise Failure(f"the output file {chosen} is the input file {path}", 2)
     found, application = without_faults(path, consts)
     text = json_of(application)
     if len(text) > MOST_BYTES:
-        raise Failure(f"the JSON of {path} has {len(text):,} bytes; rdbg reads {MOST_BYTES:,}")
+        size = f"{len(text):,} bytes, and rdbg reads at most {MOST_BYTES:,}"
+        raise Failure(f"the JSON of {path} would have {size}")
     with write_atomically(chosen) as file:
         file.write(text)
     told = sys.stderr if chosen == STANDARD_OUTPUT else sys.stdout
@@ -124,14 +129,14 @@ def make(path: str, output: Optional[str], consts: Given) -> int:
 
 
 def back(path: str, output: Optional[str]) -> int:
-    """Makes the text of a JSON. A text that is there stays, for its comments."""
+    """Converts JSON to .fw. An existing file is not overwritten."""
     chosen = output or STANDARD_OUTPUT
     if path.endswith(TEXT):
-        raise Failure(f"{path} is in lines already", 2)
+        raise Failure(f"{path} is a .fw model already", 2)
     if chosen != STANDARD_OUTPUT and not chosen.endswith(TEXT):
-        raise Failure(f"{chosen} doesn't end in {TEXT}; it isn't written", 2)
+        raise Failure(f"the name of the output file must end in {TEXT}, found {chosen}", 2)
     if os.path.lexists(chosen) and chosen != STANDARD_OUTPUT:
-        raise Failure(f"{chosen} is there already, and its comments would be lost", 2)
+        raise Failure(f"refusing to overwrite {chosen}, which may have comments", 2)
     application = without_faults(path)[1]
     text = text_of(application)
     again = source("again.fw", text.encode()).application
@@ -142,6 +147,6 @@ def back(path: str, output: Optional[str]) -> int:
         file.write(text)
     jumps = [*jumps_of(application)]
     if jumps:
-        said = "jumps with labels, where the text may have had loop, while or an if of lines"
+        said = "written as jumps to labels, not as loop, while or if"
         print(f"rdbg make: {said}: {'; '.join(jumps)}", file=sys.stderr)
     return 0

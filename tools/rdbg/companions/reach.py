@@ -1,4 +1,4 @@
-"""Starts the search through orders, listens to it, and ends it in time."""
+"""Runs the search program, shows its answer, and stops it in time."""
 import argparse
 import contextlib
 import os
@@ -30,7 +30,7 @@ from rdbg.replies import Refused
 # The program refuses such words in the same way.
 NO_GOAL = f"no goal given (for the line protocol: reach FILE {ENGINE})"
 GOAL_WITH_ENGINE = f"{ENGINE} takes no goal on the command line: it reads goals from standard input"
-SUMMARY = "answers whether some order of moves comes to a goal; that none does is a theorem"
+SUMMARY = "Search all interleavings for a state that satisfies a goal"
 
 
 def question_of(asked: Words) -> Question:
@@ -41,16 +41,18 @@ def question_of(asked: Words) -> Question:
 def check_output(asked: Words) -> None:
     """Raises `Failure` where the order, its page or the report couldn't be written."""
     if REPORT in asked.own and asked.has(LOST):
-        raise Failure(f"{REPORT} is of what an order leads to; {LOST} asks of a run", 2)
+        raise Failure(f"{REPORT} cannot be combined with {LOST}", 2)
     for option, path in asked.own.items():
         if option == WITHIN:
             continue
         if path == STANDARD_OUTPUT:
-            raise Failure(f"{option} takes a file; the order is on standard output without it", 2)
+            raise Failure(
+                f"{option} needs a file (the run is printed on standard output anyway)", 2
+            )
         check_writable(path)
         for file in filter(os.path.exists, asked.files()):
             if os.path.exists(path) and os.path.samefile(file, path):
-                raise Failure(f"{option} {path} is {file} itself, which would be lost", 2)
+                raise Failure(f"{option} {path}: refusing to overwrite the input file {file}", 2)
 
 
 def with_remarks(asked: Words, output: str, answer: Answer, source: Source) -> str:
@@ -77,7 +79,7 @@ def say(asked: Words, outcome: running.Outcome, source: Optional[Source]) -> int
     if not outcome.is_stopped:
         said.check(output, status, known)
     elif outcome.last is None:
-        raise Failure("it was stopped before it could say how far it was", UNTOLD)
+        raise Failure("the search was stopped before it had a result", UNTOLD)
     else:
         output, status = "".join(f"{line}\n" for line in said.lines(known)), UNTOLD
     if not output or source is None:
@@ -146,7 +148,7 @@ def become_engine(asked: Words, words: Sequence[str]) -> NoReturn:
     Raises `Failure` if the program cannot be started, or if an option needs a goal.
     """
     if asked.own:
-        raise Failure(f"{OUTPUT}, {WITHIN}, {PAGE} and {REPORT} go with a goal", 2)
+        raise Failure(f"{OUTPUT}, {WITHIN}, {PAGE} and {REPORT} need a goal", 2)
     found = program()
     sys.stdout.flush()
     signal.signal(signal.SIGPIPE, signal.SIG_DFL)
@@ -184,9 +186,7 @@ def write_page(asked: Words, answer: Answer, source: Source) -> None:
     begin = [it.text for it in lines_in(text_of(from_path).text)] if from_path is not None else []
     lines = begin if question is LOST_AT else [*answer.order] or begin
     if not lines:
-        print(
-            f"rdbg reach: no order leads there, so {printable(path)} isn't written", file=sys.stderr
-        )
+        print(f"rdbg reach: no run to show, so {printable(path)} is not written", file=sys.stderr)
         return
     order = answer.order if question is LOST_AT else ()
     try:
@@ -197,7 +197,7 @@ def write_page(asked: Words, answer: Answer, source: Source) -> None:
     except Unable as unable:
         raise Failure(str(unable), 2) from None
     except Refused as refused:
-        raise Failure(f"rdbg refused it: no {refused}", 2) from None
+        raise Failure(f"rdbg refused the run: no {refused}", 2) from None
 
 
 def start_engine(asked: Words, words: Sequence[str]) -> NoReturn:
@@ -230,4 +230,4 @@ def main(words: Sequence[str]) -> int:
         ENDING.check()
         raise Failure(ending.give_up_output(error), UNTOLD) from None
     except MemoryError:
-        raise Failure("there is no memory", UNTOLD) from None
+        raise Failure("out of memory", UNTOLD) from None

@@ -1,4 +1,4 @@
-"""A room for several, each by a name, at one target: a port at which `sh` and `nc` are sessions."""
+"""Shares one target between several named sessions, which attach at a port."""
 import argparse
 import contextlib
 import signal
@@ -22,14 +22,18 @@ from rdbg.rooms.talk import Talk
 from rdbg.rooms.web import Served
 from rdbg.driving.target import Limits
 
-SUMMARY = "a room for several at one target, by names: what anyone does, all are told"
+SUMMARY = "Share one target between several engineers"
 EPILOG = (
-    "`rdbg sh --port P --name NAME` attaches to it, or any program that opens a connection, as nc."
-    f" Lines that begin with # are for the room: {remarks.WORDS}. Typed at the room itself, `free`"
-    " gives back the wheel of who is idle."
-    " Ctrl-C, or SIGTERM, ends it with rdbg's own audit. The exit status is 0; 1 if the application"
-    " is refused, rdbg ends early, or its audit finds something; 2 if a file cannot be read or"
-    " written, a port is taken, or the system has too little memory or too few descriptors."
+    "Attach with `rdbg sh --port P --name NAME`, or with any program that opens a connection, such"
+    f" as nc. Lines that begin with # are for the room: {remarks.WORDS}. Type `free` in the"
+    " terminal of the room to take the wheel from an idle session. Ctrl-C or SIGTERM ends the room with"
+    " an audit of the session records.\n\n"
+    "Exit status: 0 ended; 1 the model is refused, rdbg ended early, or the audit found an error; 2"
+    " a file cannot be read or written, a port is taken, or the system has too little memory or too"
+    " few descriptors.\n\n"
+    "Example:\n"
+    "  rdbg room jobs.fw --port 7000 --web\n"
+    "  rdbg sh --port 7000 --name ada        (in another terminal)"
 )
 # So many signals end it at once.
 ENOUGH = 3
@@ -50,27 +54,29 @@ def with_web_port(words: Sequence[str]) -> List[str]:
 
 
 def parser() -> Parser:
-    """The words of the command line."""
+    """The parser of the command line."""
     made = Parser("rdbg room", description=SUMMARY, epilog=EPILOG)
     word, most = made.word, MOST_SESSIONS
     word("file", "FILE", APPLICATION)
-    word("--port", "P", "where it is, on 127.0.0.1", type=port, required=True)
-    page = "also serve a page for browsers, at port Q of 127.0.0.1 [default: a free port]"
+    word("--port", "P", "listen on port P of 127.0.0.1", type=port, required=True)
+    page = "also serve a page for browsers on port Q of 127.0.0.1 [default: a free port]"
     word("--web", "Q", page, type=web_port, nargs="?", const=0)
-    anyone = "lets in every user of this machine, at both ports, and not yourself alone"
+    anyone = "accept connections of every user of this machine [default: only yours]"
     made.flag("--anyone", anyone)
-    word("--talk", "FILE", "keeps who said what, and the replies, there")
+    word("--talk", "FILE", "record all lines and replies in FILE")
     word(
         "--sessions",
         "N",
-        f"for how many at a time, 1 to {most}",
+        f"accept at most N sessions at a time, 1 to {most} [default: {most}]",
         type=bounded(1, most),
         default=most,
     )
-    idle = f"seconds without a line after which the wheel can be freed, else {IDLE}"
+    idle = f"seconds after which an idle session can lose the wheel [default: {IDLE}]"
     word("--idle", "S", idle, type=bounded(1), default=IDLE)
-    word("--moves", "N", "how many moves may be done", type=bounded(1))
-    word("--history", "N", f"entries of a history, else {HISTORY}", type=bounded(2))
+    word("--moves", "N", "maximum number of moves, 1 to 1000000 [default: 100000]", type=bounded(1))
+    word(
+        "--history", "N", f"maximum number of history entries [default: {HISTORY}]", type=bounded(2)
+    )
     take_definitions(made)
     return made
 
@@ -139,13 +145,15 @@ def tell(given: argparse.Namespace, door: Door, where: str) -> None:
     """Says where the room is, and how one comes in."""
     print(f"listening {given.port}{door.announcement}", flush=True)
     if door.token:
-        why = "whose a connection is can't be told here"
-        print(f"rdbg room: {why}: who comes says first {TOKEN} {door.token}", file=sys.stderr)
+        why = "this system cannot tell which user a connection belongs to"
+        print(
+            f"rdbg room: {why}; first line of each session: {TOKEN} {door.token}", file=sys.stderr
+        )
     if where:
         print(f"web {where}", flush=True)
     if sys.stdout.isatty():
         name = printable(given.file)
-        print(f"# rdbg sh --port {given.port} --name NAME {name}: a prompt in it", flush=True)
+        print(f"# to attach: rdbg sh --port {given.port} --name NAME {name}", flush=True)
 
 
 def main(words: Sequence[str]) -> int:
@@ -156,7 +164,7 @@ def main(words: Sequence[str]) -> int:
     limits = Limits(given.moves or Limits.moves, given.history or HISTORY)
     if limits.history < 4 * given.sessions:
         least = 4 * given.sessions
-        raise Failure(f"--history is {least} at the least for {given.sessions} sessions", 2)
+        raise Failure(f"--history must be at least {least} for {given.sessions} sessions", 2)
     door = Door(given.anyone)
     port = Port(given.port, door)
     talk = None if given.talk is None else Talk(given.talk)

@@ -1,4 +1,4 @@
-"""A prompt for rdbg: its own lines, and words that are made of them."""
+"""An interactive prompt on a model."""
 import os
 import sys
 from typing import Sequence
@@ -14,39 +14,48 @@ from rdbg.driving.opening import attach, begin, close
 from rdbg.shell.shell import Shell
 from rdbg.driving.target import Limits
 
-SUMMARY = "a prompt: rdbg's lines with history, Tab and help, and what each move did"
+SUMMARY = "Start an interactive prompt on a model"
 EPILOG = (
-    "If standard input or output is not a terminal, it is a filter: it prints what rdbg answers,"
-    " lines of its own begin with '# ', and hints go to standard error. The exit status is 0; 1 if"
-    " the application is refused, or rdbg or the room ends; 2 if a file or a port cannot be had, or"
-    " the server there belongs to another user, serves nobody else, or is not rdbg's."
+    "Type `help` at the prompt for its commands. If standard input or output is not a terminal, sh"
+    " works as a filter: it prints rdbg's replies, its own lines begin with '# ', and hints go to"
+    " standard error.\n\n"
+    "Exit status: 0 ended; 1 the model is refused, or rdbg or the room ended early; 2 a file cannot"
+    " be read, or the server cannot be reached, belongs to another user, accepts no more sessions,"
+    " or is not rdbg.\n\n"
+    "Examples:\n"
+    "  rdbg sh jobs.fw\n"
+    "  rdbg sh --port 7000 --name ada jobs.fw"
 )
 
 
 def parser() -> Parser:
-    """The words of the command line."""
+    """The parser of the command line."""
     made = Parser("rdbg sh", description=SUMMARY, epilog=EPILOG)
     made.word("file", "FILE", APPLICATION, nargs="?")
-    made.word("--app", "FILE", "the same")
-    made.word("--port", "P", "attaches to `rdbg serve` or `rdbg room` there", type=port)
-    made.word("--name", "NAME", "who one is at `rdbg room`")
+    made.word("--app", "FILE", "same as FILE")
+    made.word("--port", "P", "attach to `rdbg serve` or `rdbg room` on port P", type=port)
+    made.word("--name", "NAME", "your name in the room")
     made.flag("--anyone", ANYONE)
-    made.word("--moves", "N", "how many moves may be done", type=bounded(1))
-    made.word("--history", "N", "entries of the history", type=bounded(2))
-    made.flag("--nx", f"leaves out the files {START} (see `help source`)")
+    made.word("--moves", "N", "maximum number of moves [default: 100000]", type=bounded(1))
+    made.word(
+        "--history", "N", "maximum number of history entries [default: 1000000]", type=bounded(2)
+    )
+    made.flag("--nx", f"do not execute the files {START} (see `help source` at the prompt)")
     take_definitions(made)
     return made
 
 
 def main(words: Sequence[str]) -> int:
-    """Talks with who is at the terminal, or does each line of standard input."""
+    """Runs the prompt at a terminal, or executes the lines of standard input."""
     given = parser().parse_args(words)
     if given.file is not None and given.app is not None:
-        raise Failure(f"one file at a time: {given.app}, or {given.file}", 2)
+        raise Failure(f"two models given, {given.app} and {given.file}; sh takes one", 2)
     if given.port is not None and (given.moves or given.history):
-        raise Failure("--moves and --history are the server's own, where --port attaches to one", 2)
+        raise Failure(
+            "--moves and --history cannot be combined with --port: the server sets them", 2
+        )
     if given.name is not None and given.port is None:
-        raise Failure("--name is for a room; --port says where that is", 2)
+        raise Failure("--name requires --port", 2)
     if given.anyone and given.port is None:
         raise Failure("--anyone requires --port", 2)
     limits = Limits(given.moves or Limits.moves, given.history or Limits.history)

@@ -1,4 +1,4 @@
-"""Runs a folder of applications with their goals."""
+"""Checks a folder of models against their expected answers."""
 import argparse
 import contextlib
 import functools
@@ -19,28 +19,35 @@ from rdbg.testing.trial import Result, Verdict, tried, wrong_with
 from rdbg.wording import counted
 from rdbg.workers import side_by_side
 
-SUMMARY = "runs a folder of applications with their goals, each against what is expected"
+SUMMARY = "Check a folder of models against their expected answers"
 EPILOG = (
-    "PATH is a folder with a file goals.json, or such a file: a list of cases, each of an"
-    " application, a goal, how it is asked for, and what is expected (docs/COMPANIONS.md). Each"
-    " case is one line, ok or wrong, with what came instead and the order. The status is 0 where"
-    " all are as expected, 1 where something else came, 2 where a file, a goal or words are none,"
-    " 130 after Ctrl-C."
+    "PATH is a folder with a file goals.json, or such a file: a list of cases, each with a model, a"
+    " question, a goal and the expected answer (docs/COMPANIONS.md). Each case is reported on one"
+    " line as `ok` or `wrong`, the latter with the actual answer and its run.\n\n"
+    "Exit status: 0 all answers are as expected; 1 an answer is wrong; 2 a file, a goal or the"
+    " command line is invalid; 130 after Ctrl-C.\n\n"
+    "Example:\n  rdbg test models --jobs 4 --report results.xml"
 )
 AS_EXPECTED, OTHERWISE, NONE = 0, 1, 2
 
 
 def parser() -> Parser:
-    """The words of the command line."""
+    """The parser of the command line."""
     made = Parser("rdbg test", description=SUMMARY, epilog=EPILOG)
-    made.word("path", "PATH", "the folder or the file, else this one", nargs="?", default=".")
+    made.word(
+        "path",
+        "PATH",
+        "folder with goals.json, or such a file [default: .]",
+        nargs="?",
+        default=".",
+    )
     jobs, count = len(os.sched_getaffinity(0)), bounded(1)
-    side_by_side = "so many cases side by side, else as many as there are processors"
+    side_by_side = "run N cases in parallel [default: the number of processors]"
     made.word("--jobs", "N", side_by_side, type=count, default=jobs)
-    parts = "the Kth of N parts of the cases alone, so that N machines try all"
+    parts = "run only part K of N of the cases, to divide them between machines"
     made.word("--part", "K/N", parts, type=part, default=(1, 1))
-    made.word("--report", "FILE", "writes what became of them as JUnit's XML")
-    made.flag("--strict", 'a vacuous answer is wrong, unless the case has "vacuous": true')
+    made.word("--report", "FILE", "write the results as JUnit XML")
+    made.flag("--strict", 'report a vacuous answer as wrong, unless the case has "vacuous": true')
     return made
 
 
@@ -56,7 +63,7 @@ def checked(path: str) -> Tuple[str, List[Case]]:
         said = [f"{name}:{it.place}: {printable(wrong)}" for it, wrong in pairs if wrong]
     if said:
         print(*said, sep="\n", file=sys.stderr)
-        raise Failure(f"{file} has {counted(len(said), 'fault')}; nothing is tried", NONE)
+        raise Failure(f"{file} has {counted(len(said), 'error')}; no case was run", NONE)
     return file, found
 
 
@@ -73,7 +80,7 @@ def results_of(
     work = functools.partial(tried, folder, is_strict)
     answers = side_by_side(lambda: contextlib.nullcontext(work), found, jobs)
     for done, case in enumerate(found):
-        draw(f"{done} of {len(found)} done, waiting for {case.file}"[:78], sys.stderr)
+        draw(f"{done} of {len(found)} done, running {case.file}"[:78], sys.stderr)
         result = next(answers)
         draw("", sys.stderr)
         yield case, result
@@ -83,10 +90,10 @@ def why_wrong(case: Case, result: Result, joined: str) -> str:
     """Returns what came, and why that is wrong; `joined` stands between what was expected and
     came."""
     if not case.is_met(result.came):
-        return f"{case.expect} was expected{joined}{result.came} came"
+        return f"expected {case.expect}{joined}got {result.came}"
     if result.vacuous:
         return f"{result.came}, but {result.vacuous.text}"
-    return f"{result.came}, but it isn't vacuous, as was expected"
+    return f"{result.came}, but expected a vacuous answer"
 
 
 def warning_of(file: str, case: Case, result: Result) -> str:
@@ -101,7 +108,7 @@ def said_of(case: Case, result: Result) -> Iterator[str]:
     """What is said of a case."""
     what = f"{case.file}: {case.question} {case.goal}: "
     if result.verdict is Verdict.WRONG:
-        what += why_wrong(case, result, "; ")
+        what += why_wrong(case, result, ", ")
     elif result.verdict is Verdict.REFUSED:
         what += f"{case.expect}: {result.came}"
     else:
@@ -126,7 +133,7 @@ def element(case: Case, result: Result, warning: str) -> ElementTree.Element:
     """A case, with the warning or the note that its answer is vacuous."""
     name = f"{case.question} {case.goal}: {case.expect}"
     is_wrong = result.verdict is Verdict.WRONG
-    why = why_wrong(case, result, ", and ") if is_wrong else f"refused: {result.came}"
+    why = why_wrong(case, result, ", ") if is_wrong else f"refused: {result.came}"
     told = [result.came, *result.told] if result.told else []
     wrong = (ELEMENTS[result.verdict], why)
     made = junit.case(case.file, name, wrong, told, time=f"{result.seconds:.3f}")

@@ -1,94 +1,101 @@
-"""Says of a run who did what: a row a move, events for a viewer of traces, or a page."""
+"""Prints or exports what each move of a run did."""
 import argparse
 from typing import Sequence
 
 from rdbg.failure import Failure
 from rdbg.files.definitions import take_definitions
-from rdbg.options import ANYONE, Parser, bounded, port
+from rdbg.options import ANYONE, APPLICATION, Parser, bounded, port
 
-SUMMARY = "says who did what in a run: a row a move, events for a viewer of traces, or a page"
+SUMMARY = "Print or export what each move of a run did"
 EPILOG = (
-    "COMMANDS are lines of rdbg, as `save` of rdbg sh writes them; `#` begins a comment, - is"
-    " standard input, which is read, too, where no file is named. They are told to programs of"
-    " trace's own. Lines that rdbg refuses are said on standard error. The status is 0, 1 where the"
-    " application is refused or rdbg has ended, 2 where a file or a port can't be had."
+    "COMMANDS is a file with commands of rdbg, such as `save` in rdbg sh writes; # starts a"
+    " comment, and - is standard input (the default). trace replays them in a new program, and"
+    " reports commands that rdbg refuses on standard error.\n\n"
+    "Exit status: 0 done; 1 the model is refused, or rdbg ended early; 2 a file cannot be read or"
+    " written, or the server cannot be reached.\n\n"
+    "Examples:\n"
+    "  rdbg trace jobs.fw lost-job.commands --only worker,jobs\n"
+    "  rdbg trace jobs.fw lost-job.commands --page lost-job.html --lost 'reg worker 7 = 2'"
 )
 
 
 def parser() -> Parser:
-    """The words of the command line."""
+    """The parser of the command line."""
     made = Parser("rdbg trace", description=SUMMARY, epilog=EPILOG)
     word = made.word
-    word("file", "FILE", "the application, JSON or .fw", nargs="?")
-    word("commands", "COMMANDS", "the lines of the run", nargs="?")
-    word("--port", "P", "the moves that are done at `rdbg serve` there", type=port)
+    word("file", "FILE", APPLICATION, nargs="?")
+    word("commands", "COMMANDS", "commands of the run [default: standard input]", nargs="?")
+    made.section("run")
+    word("--port", "P", "trace the moves made at the `rdbg serve` on port P", type=port)
     made.flag("--anyone", ANYONE)
-    only = "rows of these tasks, objects and cores: jobs,worker,0; of rows alone"
+    word("--moves", "N", "maximum number of moves [default: 100000]", type=bounded(1))
+    take_definitions(made)
+    made.section("rows")
+    only = "print only rows about these tasks, objects and cores, such as jobs,worker,0"
     word("--only", "NAMES", only)
-    when = "rows of moves behind which it holds: 'count jobs > 0 and not runs worker'; as above"
+    when = "print only moves after which GOAL holds, such as 'count jobs > 0 and not runs worker'"
     word("--when", "GOAL", when)
-    word("--from", "N", "from place N on", dest="first", type=bounded(0))
-    word("--to", "N", "up to place N", dest="last", type=bounded(0))
-    word("--events", "OUT", "writes Chrome trace events to OUT; - is standard output")
-    word("--page", "OUT.html", "writes the run as one page of HTML; - as above")
-    other = "another run of the same application below it, and where they first differ"
-    word("--against", "COMMANDS2", f"of a page: {other}")
-    word("--title", "TEXT", "of a page: its title")
-    word("--note", "FILE", "of a page: what is said of it, in Markdown; - as above")
-    word("--at", "PLACE", "of a page: where it opens, a number, or a goal that holds there")
+    word("--from", "N", "start at place N", dest="first", type=bounded(0))
+    word("--to", "N", "stop at place N", dest="last", type=bounded(0))
+    made.section("files")
+    word("--events", "OUT", "write Chrome trace events to OUT; - for standard output")
+    word("--page", "OUT.html", "write the run as an HTML page; - for standard output")
+    made.section("with --page")
+    other = "show another run of the model below, and where the two first differ"
+    word("--against", "COMMANDS2", other)
+    word("--title", "TEXT", "title of the page")
+    word("--note", "FILE", "text for the page, in Markdown; - for standard input")
+    word("--at", "PLACE", "place where the page opens: a number, or a goal that holds there")
     question = made.add_mutually_exclusive_group()
-    ask = "the question that it answers, 'lost GOAL', 'reach GOAL' or 'doomed GOAL'"
-    question.add_argument("--ask", metavar="QUESTION", help=f"of a page: {ask}")
-    lost = "--ask 'lost GOAL', also of rows: at which move that was lost for good"
+    ask = "show the answer to 'lost GOAL', 'reach GOAL' or 'doomed GOAL' on the page"
+    question.add_argument("--ask", metavar="QUESTION", help=ask)
+    lost = "same as --ask 'lost GOAL'; also marks the row of the move that lost GOAL"
     as_ask = "lost {}".format
     question.add_argument("--lost", dest="ask", type=as_ask, metavar="GOAL", help=lost)
-    word("--moves", "N", "how many moves may be done", type=bounded(1))
-    take_definitions(made)
     return made
 
 
-# What is said of a page alone.
+# Options that need --page.
 OF_PAGES = ("title", "note", "at", "against")
 
 
 def check_words(given: argparse.Namespace) -> None:
-    """Raises `Failure` where words can't stand together."""
+    """Raises `Failure` if options cannot be combined."""
     if given.anyone and given.port is None:
         raise Failure("--anyone requires --port", 2)
     if given.port is not None and given.commands is not None:
-        raise Failure("--port is for the moves that are done there; it takes no COMMANDS", 2)
+        raise Failure("--port cannot be combined with COMMANDS", 2)
     if given.port is not None and given.moves is not None:
-        raise Failure("--moves is the server's own, where --port attaches to one", 2)
+        raise Failure("--moves cannot be combined with --port: the server sets it", 2)
     for option, value in (("--only", given.only), ("--when", given.when)):
         if value is not None and (given.events or given.page):
             word = "--events" if given.events else "--page"
-            raise Failure(f"{option} is for rows; {word} writes all", 2)
+            raise Failure(f"{option} cannot be combined with {word}", 2)
     for name in OF_PAGES:
         if getattr(given, name) is not None and not given.page:
-            raise Failure(f"--{name} is for a page: --page OUT.html", 2)
+            raise Failure(f"--{name} requires --page", 2)
     if given.against is not None and given.port is not None:
-        raise Failure("--against is of a run by its lines; --port takes none", 2)
+        raise Failure("--against cannot be combined with --port", 2)
     if given.ask is not None:
         check_question(given)
     if given.note == "-" and given.port is None and given.commands in (None, "-"):
-        why = "standard input is COMMANDS already; name a file for one of them"
-        raise Failure(f"--note -: {why}", 2)
+        raise Failure("COMMANDS and --note cannot both be standard input", 2)
     if given.events and given.page:
-        raise Failure("--events or --page, one at a time", 2)
+        raise Failure("--events cannot be combined with --page", 2)
     if given.first is not None and given.last is not None and given.first > given.last:
-        raise Failure(f"--from {given.first} lies behind --to {given.last}: no move is between", 2)
+        raise Failure(f"--from {given.first} is after --to {given.last}", 2)
 
 
 def check_question(given: argparse.Namespace) -> None:
-    """Raises `Failure` where a question can't stand with the other words."""
+    """Raises `Failure` if --ask or --lost cannot be combined with the other options."""
     is_lost = given.ask.startswith("lost ")
     if is_lost and (given.events or given.port is not None):
         word = "--events" if given.events else "--port"
-        raise Failure(f"--lost is for rows or --page of a run that is told here, not {word}", 2)
+        raise Failure(f"--lost cannot be combined with {word}", 2)
     if not is_lost and not given.page:
-        raise Failure("--ask is for a page: --page OUT.html; of rows it takes 'lost GOAL' alone", 2)
+        raise Failure("--ask requires --page (without it, only 'lost GOAL' is possible)", 2)
     if given.port is not None:
-        raise Failure("--ask is of a run by its lines; --port takes none", 2)
+        raise Failure("--ask cannot be combined with --port", 2)
 
 
 def main(words: Sequence[str]) -> int:

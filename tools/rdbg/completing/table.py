@@ -1,20 +1,20 @@
-"""The words that stand behind `rdbg`, with their options, gathered from where each is read."""
+"""The commands of rdbg with their options, collected from their parsers and help texts."""
 import argparse
 import re
 from typing import Iterator, List, NamedTuple, Optional, Tuple
 
 from rdbg import main, program_help
 
-# What is behind an option or a word: a file, or a folder.
+# Names of values that are files or folders.
 FILES = "FILE OUT OUT.html OUT.json COMMANDS ANSWER FOLDER PATH PREFIX IN".split()
-# An option as the help of a program has it, with its value.
+# An option with its value, as in the help of a program.
 TOLD = re.compile(r"^ +(?:(-\w), )?(--?[\w-]+)(?: <?([\w.\-/=]+)>?)?  +(\S.*)$", re.MULTILINE)
 PLACED = re.compile(r"[<\[]?\b([A-Z]+)\b[>\]]?")
 SHELLS = ("bash", "zsh")
 
 
 class Option(NamedTuple):
-    """An option; what its value is called is empty where it takes none."""
+    """An option; the name of its value is empty if it has none."""
 
     names: Tuple[str, ...]
     value: str
@@ -24,7 +24,7 @@ class Option(NamedTuple):
 
 
 class Word(NamedTuple):
-    """A word behind `rdbg`: what it is for, its options, and what may stand behind it."""
+    """A command: its summary, its options, and what may follow it."""
 
     name: str
     text: str
@@ -34,19 +34,19 @@ class Word(NamedTuple):
 
 
 def option_of(action: argparse.Action) -> Option:
-    """An option of a command line that is read here."""
-    # (the word after an option whose value may be left out can be any word)
+    """An option of a tool, from its parser."""
+    # (an option with an optional value may be followed by any word)
     has_value = action.nargs not in (0, "?")
     value = str(action.metavar or action.dest.upper()) if has_value else ""
     choices = tuple(map(str, action.choices or ()))
     text = (action.help or "").replace("%%", "%")
-    # (it may stand more than once where it gathers what stands behind it)
+    # (an option that collects its values may be repeated)
     is_repeated = isinstance(action.default, (list, dict))
     return Option(tuple(action.option_strings), value, text, choices, is_repeated)
 
 
 def of_parser(name: str, parser: argparse.ArgumentParser) -> Word:
-    """A companion, by the words that it reads."""
+    """A companion, from its parser."""
     actions = parser._actions  # pylint: disable=protected-access
     placed = [it for it in actions if not it.option_strings]
     choices = tuple(str(word) for it in placed for word in it.choices or ())
@@ -56,7 +56,7 @@ def of_parser(name: str, parser: argparse.ArgumentParser) -> Word:
 
 
 def of_help(name: str, text: str) -> Word:
-    """A word of a program, by its help."""
+    """A command of a program, from its help text."""
     options = tuple(
         Option(tuple(filter(None, names)), value, said, is_repeated=True)
         for *names, value, said in TOLD.findall(text)
@@ -68,20 +68,20 @@ def of_help(name: str, text: str) -> Word:
 
 
 def words() -> List[Word]:
-    """All words, but options of the wrapper's own."""
+    """All commands, without the options of the wrapper."""
     found = [of_help(name, text) for name, text in program_help.OF.items()]
     known = {it.name for it in found}
     others = ((name, main.companion(name)) for name in main.names() if name not in known)
     found += [of_parser(name, it.parser()) for name, it in others if hasattr(it, "parser")]
     names = tuple(sorted(it.name for it in found))
-    found.append(Word("help", "says more of a word", choices=names))
+    found.append(Word("help", "Show help for a command", choices=names))
     return sorted(found, key=lambda it: it.name)
 
 
 def own() -> Iterator[Option]:
-    """The wrapper's own options, in place of a word."""
-    yield Option(("--help",), "", "says which words there are")
-    yield Option(("--version",), "", "says what it is, and whether it is proved")
-    yield Option(("--proved",), "", "runs the proved build, or refuses if there is none")
-    yield Option(("--unproved",), "", "runs the unproved build")
-    yield Option(("--build",), "", "prints where the program is, and builds it if necessary")
+    """The options that the wrapper takes instead of a command."""
+    yield Option(("--help",), "", "Show the commands")
+    yield Option(("--version",), "", "Show the version and whether the program is proved")
+    yield Option(("--proved",), "", "Run the proved build, or refuse if there is none")
+    yield Option(("--unproved",), "", "Run the unproved build")
+    yield Option(("--build",), "", "Print the path of the program, and build it if necessary")

@@ -10,7 +10,7 @@ from typing import Iterator, List, Optional
 PATIENCE = 3
 # The signal that wakes the prompt.
 WAKE = signal.SIGUSR1
-NOTE = b"\n# rdbg is at work on one line, which can't be ended; Ctrl-C once more ends rdbg sh\n"
+NOTE = b"\n# rdbg is executing a line that cannot be stopped; press Ctrl-C again to end rdbg sh\n"
 
 
 class Interrupted(Exception):

@@ -11,6 +11,7 @@ from rdbg.failure import Failure
 from rdbg.files import source as sources
 from rdbg.files.source import Source
 from rdbg.replies import Refused, Unreadable, read
+from rdbg.wording import counted
 
 # The application that rdbg has without a file.
 BUILTIN = b"""{"profile": 1, "cores": 1, "queues": [{"name": "q0", "length": 2, "item": 1}],
@@ -18,11 +19,11 @@ BUILTIN = b"""{"profile": 1, "cores": 1, "queues": [{"name": "q0", "length": 2, 
 "code": ["data 41", "send q0 0", "send q0 0", "send q0 0", "end"]}]}"""
 # So many seconds pass before it is said that a server doesn't answer.
 PATIENCE = 3
-NOTE = "# the server doesn't answer: are as many attached as it was started for (--sessions)?"
+NOTE = "# the server does not answer; has it reached its number of sessions (--sessions)?"
 # What a refusal of the first looks means.
 REFUSALS = {
-    "HistoryFull": "the history of the server is full, so that it executes nothing more",
-    "Syntax": "this is not a server of rdbg, or of another version",
+    "HistoryFull": "the history of the server is full, so it executes no more commands",
+    "Syntax": "not an rdbg server, or another version of rdbg",
 }
 OTHER = "the server refuses to show its target"
 # What those that start programs of their own give them.
@@ -33,7 +34,7 @@ class NotLetIn(Failure):
     """A server has refused a session; `refusal` is its reason, such as `NoMemory`."""
 
     def __init__(self, refusal: str) -> None:
-        super().__init__(f"the server lets nobody else in: no {refusal}")
+        super().__init__(f"the server accepts no more sessions: no {refusal}")
         self.refusal = refusal
 
 
@@ -116,7 +117,7 @@ def expecting_rdbg(port: int) -> Iterator[None]:
     except NotLetIn as failure:
         raise Failure(f"port {port}: {failure}", 2) from None
     except Unreadable as unreadable:
-        why = f"this is not a server of rdbg: it answered '{unreadable.line}'"
+        why = f"not an rdbg server: it answered '{unreadable.line}'"
         raise Failure(f"port {port}: {why}", 2) from None
     except Refused as refused:
         raise Failure(
@@ -126,21 +127,23 @@ def expecting_rdbg(port: int) -> Iterator[None]:
 
 def compare(target: Target, application: Application, path: str) -> None:
     """Raises `Failure` where what the target has isn't what an application says."""
-    other = f"{path} isn't the application that the server has"
+    other = f"{path} is not the model of the server"
     lines = target.names.lines()
     for line, answer in zip(lines, target.tell_all(lines)):
         if answer == "no NoSuch":
-            raise Failure(f"{other}: it has no {line[len('show '):]}", 2)
+            raise Failure(f"{other}: the server has no {line[len('show '):]}", 2)
     look = target.look()
     if len(look.cores.running) != application.cores:
-        raise Failure(f"{other}: it has {len(look.cores.running)} cores", 2)
+        raise Failure(f"{other}: the server has {counted(len(look.cores.running), 'core')}", 2)
     for task in application.tasks:
         if look.tasks[task.name].pc >= len(task.code):
-            raise Failure(f"{other}: {task.name} is at {look.tasks[task.name].pc}", 2)
+            raise Failure(
+                f"{other}: there {task.name} is at instruction {look.tasks[task.name].pc}", 2
+            )
 
 
 def close(target: Target) -> None:
     """Ends a session. Raises `Failure` where its program ends with another status than 0."""
     status = target.session.close()
     if status:
-        raise Failure(f"rdbg has ended, with status {status}")
+        raise Failure(f"the rdbg program ended with status {status}")

@@ -12,7 +12,7 @@ from rdbg.replies import Cores
 PACE = re.compile(r"([0-9]{1,3})?\.\.([0-9]{1,3})?")
 MOST = 255
 NONE = "none"
-IS = f"a pace is M..N, M.. or ..N, where M is 0 to {MOST} and N is 1 to {MOST}, and at least M"
+IS = f"a pace is M..N, M.. or ..N with M from 0 to {MOST} and N from 1 to {MOST}, at least M"
 
 
 class TickPace(NamedTuple):

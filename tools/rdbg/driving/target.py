@@ -29,7 +29,7 @@ read_line = functools.lru_cache(maxsize=4_096)(commands.read)
 
 
 class Unable(Exception):
-    """Why a word of sh's own can't be done, in a sentence. Nothing has changed."""
+    """A command of sh cannot be executed; the message says why. Nothing has changed."""
 
 
 @dataclasses.dataclass(frozen=True)
@@ -104,8 +104,8 @@ class Target:
 
     def trimmed(self, place: int) -> str:
         """Why there is no way back to a place before the base."""
-        what = f"what leads back to {place}"
-        return f"{record.given_up(what)}: `goto {self.base}` is the furthest"
+        what = f"the records before place {self.base}"
+        return f"cannot go back to {place}: {record.given_up(what)}; `goto {self.base}` is possible"
 
     def left(self) -> Optional[int]:
         """How many entries the history has room for; none where that isn't known."""
@@ -114,7 +114,7 @@ class Target:
     def afford(self, lines: int) -> None:
         """Raises `Unable` where so many lines would leave too little of the history."""
         if not self.can_afford(lines):
-            raise Unable(f"that takes {lines} places of the history, and {self.left()} are left")
+            raise Unable(f"it needs {lines} entries of the history, and {self.left()} are left")
 
     def can_afford(self, lines: int) -> bool:
         """Whether so many lines leave enough of the history."""

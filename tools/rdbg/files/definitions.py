@@ -1,4 +1,4 @@
-"""Consts that are given beside a text in lines: `-D NAME=N` on a command line."""
+"""Constants of a .fw model set on the command line: `-D NAME=N`."""
 import argparse
 from typing import Tuple
 
@@ -12,20 +12,20 @@ OPTION = "-D"
 
 
 def definition(text: str) -> Tuple[str, int]:
-    """A const with its number: `JOBS=3`, `MASK=1<<4`."""
+    """Parses a constant and its value, such as `JOBS=3` or `MASK=1<<4`."""
     name, sign, number = text.partition("=")
     if not sign or not NAME.fullmatch(name):
-        raise argparse.ArgumentTypeError(f"NAME=N, as JOBS=3, and not '{shown(text)}'")
+        raise argparse.ArgumentTypeError(f"must be NAME=N, such as JOBS=3, found '{shown(text)}'")
     kept = Kept(Constants(), [])
     reader = Numbers(next(Scanner(number, kept.refusals).lines()), kept)
     with turned(argparse.ArgumentTypeError, Refusal, of=name):
         value = reader.number() if reader.tokens else 0
     if kept.refusals or reader.next() is not None or not reader.tokens:
-        raise argparse.ArgumentTypeError(f"{name}: '{shown(number)}' is no number")
+        raise argparse.ArgumentTypeError(f"{name}: '{shown(number)}' is not a number")
     return name, value
 
 
 def take_definitions(parser: Parser) -> None:
-    """Has a command line take `consts`. The last of one name counts, as in C."""
-    text = "of a text in lines: the const NAME is N; said again, there are more"
+    """Adds the option -D, which fills `consts`. The last value of a name counts."""
+    text = "set constant NAME in a .fw model (repeatable)"
     parser.word(OPTION, "NAME=N", text, dest="consts", type=definition, action="append", default=[])

@@ -45,24 +45,25 @@ class Question(NamedTuple):
 REACH = Question(
     "reach",
     True,
-    "search for a run from here that reaches GOAL",
-    "Searches every run from here, of any length. The answer is found with a run, never, which is a\n"
-    "proved result, or full if a limit of memory, states or time was reached.",
+    "can any run from here reach GOAL?",
+    "It searches every interleaving from this place, for runs of any length. `found` comes with\n"
+    "a run that `play` makes. `never` is a theorem. `full` means that the memory or state limit\n"
+    "was reached.",
 )
 LOST = Question(
     "lost",
     False,
-    "find the move that made GOAL unreachable",
-    "Searches the moves made so far for the first place from which no run of any length reaches GOAL,"
-    "\nand shows the move that led there and a run from before it; or answers still, with a run from"
-    " here.",
+    "which move made GOAL unreachable?",
+    "It examines the moves made so far. `lost at N`: no run from place N on reaches GOAL; the\n"
+    "answer names the move that led to N, with a run to GOAL from before it. `still`: a run from\n"
+    "here reaches GOAL, and comes with the answer.",
 )
 DOOMED = Question(
     "doomed",
     False,
-    "search for a run after which GOAL is unreachable",
-    "The answer is found, with a run to a place from which no run of any length reaches GOAL, or\n"
-    "never: every place that can be reached has a run to GOAL.",
+    "can any run make GOAL unreachable?",
+    "`found` comes with a run to a place from which no run of any length reaches GOAL. `never`:\n"
+    "GOAL can be reached from every place that a run from here reaches.",
     "no run from here reaches the goal",
 )
 # Each is one row; what its answer begins with is a row of `said.HEADS`.

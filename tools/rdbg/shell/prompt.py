@@ -88,15 +88,17 @@ class Lines:
 
 
 def greet(shell: Shell) -> None:
-    """Prints what is debugged, and how to get help."""
-    what = shell.source.name if shell.source else "the built-in application"
+    """Prints the name of the model, and how to get help."""
+    what = shell.source.name if shell.source else "the built-in model"
     if not shell.target.is_own:
         what = f"attached, {what}" if shell.source else "attached"
-    shell.say(f"{what}; `help` lists the words, Tab completes, Ctrl-D ends")
+    shell.say(f"{what}; `help` lists the commands, Tab completes, Ctrl-D ends")
     if shell.notices.is_room:
-        shell.say("`# who`, `# say TEXT` and `# wheel` are for the room")
+        shell.say(
+            "in the room: `# who` lists the sessions, `# say TEXT` sends a message, `# wheel` asks for the wheel"
+        )
     if shell.target.application is None:
-        shell.say("the scripts aren't known without their file: `rdbg sh --port P FILE` shows them")
+        shell.say("to see scripts, start with the model's file: `rdbg sh --port P FILE`")
     shell.line("where", is_typed=False)
 
 

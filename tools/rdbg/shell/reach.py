@@ -1,5 +1,4 @@
-"""`reach`, `lost`, `doomed` and `again`: what can still come from here, and at which move it was
-lost, asked of the program that searches."""
+"""The questions `reach`, `lost` and `doomed` to the search program, and `again` and `play`."""
 from typing import Callable, List, Sequence, Tuple
 
 from rdbg.driving import trail
@@ -15,17 +14,17 @@ from rdbg.shell.shell import Order, Reached, Shell
 
 
 def asks(question: Question) -> Callable[[Shell, Sequence[str]], None]:
-    """What asks one of the program's questions about a goal, from here."""
+    """Makes the command that asks one of the questions about a goal, from here."""
 
     def ask(shell: Shell, words: Sequence[str]) -> None:
         goal = " ".join(words) or shell.goal
         if not goal:
-            raise Unable(f"{question.lacks_goal('worker')}; help {question.word} says more")
+            raise Unable(f"{question.lacks_goal('worker')}; see `help {question.word}`")
         with shell.wheel():
             lines, place = replay.lines_to(shell), shell.target.places().done
-        answer, more = asked(shell, question, goal, lines)
+        answer, more = ask_program(shell, question, goal, lines)
         if not words:
-            shell.say(f"of `{goal}`, the goal before:")
+            shell.say(f"goal: {goal} (the last one)")
         say(shell, question, answer, more, place)
         shell.goal = goal
         shell.reached = Reached(question, goal, place, answer.head())
@@ -34,28 +33,28 @@ def asks(question: Question) -> Callable[[Shell, Sequence[str]], None]:
 
 
 def again(shell: Shell, words: Sequence[str]) -> None:
-    """`again`: the file is read anew, and asked for the same goal."""
+    """Executes `again`: reads the file again and repeats the last question."""
     before = shell.reached
-    what = "what `reach`, `lost` or `doomed`"
     if words or before is None:
-        raise Unable(f"`again` asks {what} asked last, of the file as it is now")
+        questions = "`reach`, `lost` or `doomed`"
+        raise Unable(f"`again` repeats the last {questions} on the changed file; ask one first")
     replay.reload(shell, [])
     place = before.place if shell.target.places().done >= before.place else 0
-    answer, more = asked(shell, before.question, before.goal, replay.lines_to(shell, place))
-    where = f"from {place} on" if place else "from boot on"
-    shell.say(f"{before.goal}, {where}: it was {before.said}, and is {answer.head()}")
+    answer, more = ask_program(shell, before.question, before.goal, replay.lines_to(shell, place))
+    where = f"from {place}" if place else "from boot"
+    shell.say(f"{before.goal}, {where}: was {before.said}, is now {answer.head()}")
     say(shell, before.question, answer, more, place)
     shell.reached = before._replace(place=place, said=answer.head())
 
 
-def asked(
+def ask_program(
     shell: Shell, question: Question, goal: str, lines: List[str]
 ) -> Tuple[Answer, List[str]]:
-    """What is answered behind these lines, at the pace of the prompt, with what there is to say of
-    it. The interrupts that come by themselves here may come, or all where it wasn't said which."""
+    """Returns the answer after these lines, at the pace of the prompt, and remarks on it. The
+    interrupts chosen at the prompt may occur, or all of the model if none were chosen."""
     source = shell.source
     if source is None or shell.target.application is None:
-        raise Unable(f"`{question.word}` needs the application's file: `rdbg sh FILE`")
+        raise Unable(f"`{question.word}` needs the model's file; start `rdbg sh FILE`")
     names = shell.may_come()
     pace = [f"pace {shell.pace.text}"] if shell.pace is not None else []
     with turned(Unable, Failure):
@@ -67,13 +66,13 @@ def asked(
     empty = vacuity.find(shell.scope(), goal, question, answer)
     more += [empty.note] if empty else []
     if question is LOST and any(line.split(" ")[0] == WORD for line in lines):
-        more.append("note: from each place on interrupts may come as if none had come yet")
+        more.append("note: at each place, the search ignores interrupts that occurred before it")
     return answer, more
 
 
 def say(shell: Shell, question: Question, answer: Answer, more: List[str], place: int) -> None:
-    """Says an answer, and the order in it, which begins at a place; of a goal that was lost, by
-    which move, and the order begins before that. `more` is said behind it."""
+    """Shows an answer and the remarks in `more`, and keeps its run, which begins at `place`. For
+    `lost`, shows the move that lost the goal; the run begins before that move."""
     shell.say(answer.head())
     loss = losing.loss_of(answer)
     shell.lost, order = None, answer.order
@@ -91,13 +90,13 @@ def say(shell: Shell, question: Question, answer: Answer, more: List[str], place
 
 
 def play(shell: Shell, words: Sequence[str]) -> None:
-    """`play`: makes the moves of the order that was answered."""
+    """Executes `play`: makes the moves of the run in the last answer."""
     order = shell.order
-    which = "that `reach`, `lost` or `doomed` answered"
+    which = "the last answer of `reach`, `lost` or `doomed`"
     if words or order is None or not order.lines:
-        raise Unable(f"`play` makes the moves of the order {which}")
+        raise Unable(f"`play` makes the moves of the run in {which}; there is none")
     if shell.target.places().done != order.place:
-        raise Unable(f"the order begins at {order.place}: `goto {order.place}`, then `play`")
+        raise Unable(f"the run begins at {order.place}; use `goto {order.place}`, then `play`")
     with shell.wheel():
         start = shell.target.places().done
         reply = ""
@@ -108,5 +107,5 @@ def play(shell: Shell, words: Sequence[str]) -> None:
                 break
         shell.answer(reply)
         if reply.startswith("no "):
-            shell.say(f"the moves up to {shell.target.place} are made")
+            shell.say(f"stopped at {shell.target.place}; the moves up to there are done")
         shell.after(start, None)

@@ -1,4 +1,4 @@
-"""The moves that were made as a list, as a file of commands, and on an edited file."""
+"""Commands about the moves made so far: `moves` lists, `save` writes, and `reload` repeats them."""
 import contextlib
 import itertools
 import os
@@ -39,10 +39,10 @@ def check_existing(shell: Shell, path: str, existing: os.stat_result, is_anew: b
     that this prompt has not saved."""
     name = printable(path)
     if not path.endswith(ENDING):
-        raise Unable(f"{name} is there, and doesn't end in {ENDING}: it stays as it is")
+        raise Unable(f"refusing to overwrite {name}: its name does not end in {ENDING}")
     if not is_anew and identity(existing) not in shell.saved:
-        why = f"{name} is there, and wasn't saved by this prompt: it stays as it is"
-        raise Unable(f"{why}; `save! {name}` writes it anew")
+        why = f"refusing to overwrite {name}, which this prompt did not save"
+        raise Unable(f"{why} (use `save! {name}`)")
 
 
 def write(shell: Shell, path: str, text: str, is_anew: bool) -> None:
@@ -58,17 +58,17 @@ def write(shell: Shell, path: str, text: str, is_anew: bool) -> None:
             file.write(text)
             made = os.fstat(file.fileno())
     except ValueError:
-        raise Unable(f"cannot write {path!r}: no file has such a name") from None
+        raise Unable(f"cannot write {path!r}: not a valid file name") from None
     # (the system may give the number of a replaced file to another one)
     shell.saved.difference_update(map(identity, replaced))
     shell.saved.add(identity(made))
 
 
 def moves(shell: Shell, words: Sequence[str]) -> None:
-    """`moves [COUNT]`: the last moves, each with what it did."""
+    """Executes `moves [COUNT|all]`: lists the last moves, each with what it did."""
     is_all = words == ["all"]
     if not is_all and (words[1:] or not all(map(commands.is_count, words))):
-        forms = "`moves` shows the last 20, `moves 100` the last 100, `moves all` all"
+        forms = "`moves` lists the last 20 moves, `moves 100` the last 100, `moves all` all"
         raise Unable(f"{commands.out_of_range(words)}{forms}")
     count = int(words[0]) if words and not is_all else DEFAULT_MOVES
     if shell.notices.is_room and not is_all and count <= MOST_MOVES:
@@ -84,7 +84,7 @@ def moves(shell: Shell, words: Sequence[str]) -> None:
             last = shell.target.places().done
             found, _ = trail.moves(shell.walk, first, last, None, shell.progress)
     if first > 1:
-        shell.say(f".. {counted(first - 1, 'move')} before these")
+        shell.say(f".. {counted(first - 1, 'earlier move')}")
     for row in trail.rows(found):
         shell.say(row)
     shell.say(record.at(done, shell.target.places().undone))
@@ -94,7 +94,7 @@ def check_untrimmed(shell: Shell) -> None:
     """Raises `Unable` if the records of the first moves were given up."""
     shell.target.places()  # (others may have trimmed)
     if shell.target.base:
-        raise Unable(f"the first {shell.target.base} moves were trimmed, and can't be told")
+        raise Unable(f"the records of the first {counted(shell.target.base, 'move')} were trimmed")
 
 
 def lines_to(shell: Shell, place: Optional[int] = None) -> List[str]:
@@ -156,16 +156,18 @@ def lines_at_port(shell: Shell) -> List[str]:
     found, _ = trail.moves(shell.walk, 1, done, shell.target.names, shell.progress)
     unknown = next((move for move in found if not move.line), None)
     if unknown is not None:
-        raise Unable(f"move {unknown.place} is an edit by another session, which can't be told")
+        raise Unable(
+            f"move {unknown.place} is an edit by another session, which sh cannot determine"
+        )
     return [move.line for move in found]
 
 
 def save(shell: Shell, words: Sequence[str], is_anew: bool = False) -> None:
-    """`save FILE`: the moves as lines that rdbg replays; `save! FILE`, onto one that is there."""
+    """Executes `save FILE` and `save! FILE`: writes the moves as commands that rdbg replays."""
     if shell.is_starting:
-        raise Unable("a file that a prompt begins with saves nothing")
+        raise Unable("a start file cannot save files")
     if len(words) != 1:
-        raise Unable("save to which file? `save found.commands`")
+        raise Unable("`save` needs one file name, such as `save found.commands`")
     file = words[0]
     if os.path.exists(file):
         check_existing(shell, file, os.stat(file), is_anew)
@@ -173,9 +175,9 @@ def save(shell: Shell, words: Sequence[str], is_anew: bool = False) -> None:
         lines = lines_of_moves(shell)
         look = shell.target.look()
     write(shell, file, "".join(f"{line}\n" for line in lines), is_anew)
-    shell.say(f"{len(lines)} moves are in {printable(file)}")
+    shell.say(f"saved {counted(len(lines), 'move')} in {printable(file)}")
     if shell.target.application is None:
-        shell.say("the application's file isn't known here, so they weren't tried")
+        shell.say("not checked, because sh does not know the model's file")
         return
     target = begin(shell.source, shell.target.limits or Limits(commands.MOST_COUNT))
     with target.session:
@@ -183,15 +185,17 @@ def save(shell: Shell, words: Sequence[str], is_anew: bool = False) -> None:
         again = target.look()
     wrong = next((at for at, answer in enumerate(answers) if answer.startswith("no ")), None)
     if wrong is not None:
-        shell.say(f"but the program answers line {wrong + 1} '{lines[wrong]}': {answers[wrong]}")
+        shell.say(
+            f"but a new program answers line {wrong + 1}, '{lines[wrong]}', with {answers[wrong]}"
+        )
     elif again != look:
-        shell.say("but the program comes to another state with them: somebody's edit is unknown")
+        shell.say("but a new program ends in another state: an edit by another session is missing")
     else:
-        shell.say("the program replays them from boot to this place and state")
+        shell.say("checked: a new program replays them to this place and state")
 
 
 def in_chunks(shell: Shell, target: Target, lines: Sequence[str], done: str) -> List[str]:
-    """The replies to many lines; at a terminal it is said how far it is."""
+    """Returns the replies to many lines, and shows the progress at a terminal."""
     answers: List[str] = []
     for at in range(0, len(lines), CHUNK):
         shell.interrupt.check()
@@ -201,12 +205,12 @@ def in_chunks(shell: Shell, target: Target, lines: Sequence[str], done: str) -> 
 
 
 def reload(shell: Shell, words: Sequence[str]) -> None:
-    """`reload`: the same moves on the file as it is now, up to the first difference."""
+    """Executes `reload`: repeats the moves with the changed file, up to the first difference."""
     if shell.notices.is_room:
         shell.target.session.remark("# reload")
         return
     if shell.source is None or shell.target.limits is None:
-        raise Unable("`reload` is for a file that is debugged here: `rdbg sh FILE`")
+        raise Unable("`reload` needs a program of its own; start `rdbg sh FILE` without --port")
     with staying():
         source = load(shell.source.path, shell.source.given)
     if source.faults or source.application is None:
@@ -215,15 +219,16 @@ def reload(shell: Shell, words: Sequence[str]) -> None:
     try:
         replayed(shell, source, shell.target.limits)
     except Interrupted:
-        before = f"the target is that of {shell.source.name} as it was read before"
-        shell.stopped(f"at {shell.target.place}: {before}")
+        before = f"the target still has the old {shell.source.name}"
+        shell.stopped(f"at {shell.target.place}; {before}")
 
 
 def replayed(shell: Shell, source: Source, limits: Limits) -> None:
-    """Makes the same moves on a source, and goes on with it."""
+    """Repeats the moves with a new source, and continues with it."""
     done = shell.target.places().done
     if shell.target.base:
-        raise Unable(f"the first {shell.target.base} moves were trimmed, and can't be made again")
+        first = counted(shell.target.base, "move")
+        raise Unable(f"cannot repeat the moves: the records of the first {first} were trimmed")
     # (who was woken and moved is seen from tasks alone; of very many moves only who ran on which
     # core is laid side by side)
     tasks = Names(shell.target.names.tasks)
@@ -234,7 +239,7 @@ def replayed(shell: Shell, source: Source, limits: Limits) -> None:
         target = begin(source, limits)
     with closed_if_wrong(target.session):
         for number, text, reply in watch_again(target.tell, dict(shell.target.watches)):
-            shell.say(f"watch {number}, {text}, is dropped: {reply}")
+            shell.say(f"removed watch {number}, {text}: {reply}")
         for answer in in_chunks(shell, target, [move.line for move in old[:same]], "made again"):
             read(answer)
         left = old[same:]
@@ -242,9 +247,11 @@ def replayed(shell: Shell, source: Source, limits: Limits) -> None:
     shell.target.session.close()
     shell.take(target, source)
     if not left:
-        shell.say(f"all {done} moves are the same on {source.name}, at {target.place}")
+        shell.say(f"all {done} moves are the same with the new {source.name}; at {target.place}")
         return
-    shell.say(f"{target.place} of {done} moves are the same on {source.name}; the next one")
+    shell.say(
+        f"{target.place} of {done} moves are the same with the new {source.name}; the next one"
+    )
     shell.say(f"  was  {was}\n  is   {now}")
 
 
@@ -276,7 +283,7 @@ def count_same(
 
 
 def first_difference(shell: Shell, target: Target, move: Move) -> Tuple[str, str]:
-    """What a move was, and is on a target that is at it. Stays before it; `redo 1` makes it then."""
+    """Returns what a move did before and what it does on a new target, which then undoes it."""
     was = trail.moves(shell.walk, move.place, move.place)[0][0]
     before, place = target.look(), target.place
     answer = target.tell(move.line)

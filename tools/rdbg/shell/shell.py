@@ -1,4 +1,4 @@
-"""What `rdbg sh` does with a line: rdbg's own go to rdbg as they are, its own words are done."""
+"""Executes the lines of `rdbg sh`: passes rdbg's commands on, and executes its own."""
 import contextlib
 import dataclasses
 import re
@@ -242,7 +242,7 @@ class Shell:
             self.stopped(f"at {self.target.place}")
         except Refused as refused:
             self.is_refused = True
-            self.refuse(f"rdbg says: no {refused}")
+            self.refuse(f"rdbg refused it: no {refused}")
             self.hint_on(self.asked, f"no {refused}")
         self.notice()
         here = self.target, self.target.place
@@ -263,12 +263,14 @@ class Shell:
         drift, self.target.drift = self.target.drift, None
         # (in a room what moved it was told)
         if drift is not None and drift[0] != drift[1] and not self.notices.is_room:
-            self.say(f"the target moved meanwhile: {drift[0]} -> {drift[1]}")
+            self.say(f"another session moved the target: {drift[0]} -> {drift[1]}")
 
     def command(self, text: str) -> bool:
         """Asks rdbg a line, says the reply and what the moves did. Answers whether it was done."""
         if len(text.encode("utf-8", "replace")) > commands.MOST_BYTES:
-            self.hint("a line has at most 1024 bytes; rdbg would end the session: it wasn't sent")
+            self.hint(
+                "not sent: a line may have at most 1024 bytes, and rdbg ends a session for more"
+            )
             return False
         command = commands.read(text)
         before = self.before(command)
@@ -290,9 +292,9 @@ class Shell:
             self.is_refused = True
             self.hint_on(text, reply)
             if self.is_terminal and self.pieces.is_again:
-                self.say("nothing is made; what was tried, `redo` can make again")
+                self.say("no move was made; `redo` makes the undone moves again")
             elif self.target.is_own and self.target.place != place:
-                self.say(f"the moves up to {self.target.place} are made")
+                self.say(f"stopped at {self.target.place}; the moves up to there are done")
             return False
         if command is not None and command.form.moves:
             if command.condition is not None:
@@ -311,7 +313,7 @@ class Shell:
             text = self.temporary.pop(number, "")
             if text and self.target.watches.get(number) == text:
                 self.target.tell(f"unwatch {number}")
-                self.say(f"watch {number} was met, and is dropped: {text}")
+                self.say(f"removed watch {number} after its hit: {text}")
 
     def look(self) -> Look:
         """A look at the target as it is, which isn't taken twice where nobody else moves it."""
@@ -372,9 +374,9 @@ class Shell:
             elif here < place:
                 self.say(f"at {here}, next: {self.next_moves()}")
         except Refused as refused:
-            self.say(f"what this did can't be looked at: no {refused}")
+            self.say(f"cannot show what this did: no {refused}")
         except Unable as unable:
-            self.say(f"what this did isn't shown: {unable}; see 'help history'")
+            self.say(f"cannot show what this did: {unable}; see `help history`")
             self.shows_moves = False
 
     def _as_told(self, reply: str) -> None:
@@ -393,14 +395,14 @@ class Shell:
             else:
                 after = self._part(Names(tuple(before.tasks), tuple(before.objects)))
                 self.notice()
-            others = "others have moved the target since: `moves` shows what was done"
+            others = "another session has moved the target since; `moves` shows what was done"
             is_last = after.place == here
             self.say(trail.between(self.target, before, after).text() if is_last else others)
             return
         first = place + 1 if here - place <= MANY else here - FEW + 1
         if first > place + 1:
             earlier = counted(first - place - 1, "move")
-            self.say(f".. {earlier} before these: `moves {here - place}` shows all")
+            self.say(f".. {earlier} not shown; `moves {here - place}` lists all")
         with self.wheel():
             found, look = trail.moves(self.walk, first, here)
         self._keep(look)
@@ -435,8 +437,8 @@ class Shell:
             return
         if self._warned < len(NEARLY) and left * NEARLY[self._warned] <= limits.history:
             self._warned += 1
-            room = f"the history has room for {left} more lines, looks among them"
-            self.hint(f"{room}: see help history")
+            room = f"the history has room for {left} more lines, looks included"
+            self.hint(f"{room}; see `help history`")
 
 
 def parted(text: str) -> Tuple[str, List[str]]:

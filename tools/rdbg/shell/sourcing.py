@@ -1,5 +1,4 @@
-"""Executes lines of files as if they were typed: `source FILE`, and the files that a prompt starts
-with."""
+"""Executes lines of files as if they were typed: `source FILE`, and the start files."""
 import os
 from typing import List, Sequence
 
@@ -10,30 +9,30 @@ from rdbg.printable import printable
 from rdbg.shell.shell import Shell
 
 START = ".rdbginit"
-# How many files may execute each other's lines at a time.
+# The maximum nesting of `source`.
 MOST_DEEP = 8
 
 
 def source(shell: Shell, words: Sequence[str]) -> None:
     """Executes `source FILE`."""
     if len(words) != 1:
-        raise Unable("source which file? `source lines.rdbg`; its name has no spaces")
+        raise Unable("`source` needs one file name without spaces, such as `source lines.rdbg`")
     with turned(Unable, Failure, ValueError), trying(f"read {words[0]}"):
         content = read_bounded(os.path.expanduser(words[0]))
     do_all(shell, words[0], content)
 
 
 def do_all(shell: Shell, path: str, content: bytes) -> None:
-    """Executes each line, up to one that is refused."""
+    """Executes each line up to the first that is refused."""
     name = printable(path)
     if len(shell.sourced) >= MOST_DEEP:
-        raise Unable(f"{name} is the one file too many of those that do each other's lines")
+        raise Unable(f"cannot execute {name}: `source` is nested more than {MOST_DEEP} deep")
     shell.sourced.append(path)
     try:
         for number, line in enumerate(content.decode("utf-8", "replace").splitlines(), 1):
             shell.do(line)
             if shell.is_refused:
-                raise Unable(f"{name}:{number}: it ends here")
+                raise Unable(f"{name}:{number}: stopped here, because the line was refused")
             if shell.is_done:
                 return
     finally:
@@ -50,7 +49,7 @@ def start_files(shell: Shell) -> List[str]:
 
 
 def begin(shell: Shell) -> None:
-    """Executes the lines of the start files. A file that others can have written is refused."""
+    """Executes the start files. Refuses a file that another user may have written."""
     for path in start_files(shell):
         shell.is_starting = True
         try:

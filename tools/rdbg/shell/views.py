@@ -1,5 +1,5 @@
-"""What there is, as tables and sentences: `info`, `where`, `list`, `print`; and `display`, by which
-something is printed again behind each line that has moved the target."""
+"""Commands that show the target: `info`, `where`, `list`, `print`, and `display`, which shows an
+expression again after each line that moves the target."""
 import re
 from typing import Callable, Dict, Iterator, List, Optional, Sequence
 
@@ -13,13 +13,13 @@ from rdbg.looks import Key, Look, Object, hexadecimal, holding, time_of
 from rdbg.operands import to_text
 from rdbg.replies import Refused
 from rdbg.shell.shell import Shell
-from rdbg.wording import nearest
+from rdbg.wording import counted, nearest
 
-# What stands between columns, and before a line that goes on with a row.
+# The gap between columns, and the indent of a continued row.
 GAP, INDENT = "  ", "    "
 REGISTERS = tuple(f"r{number}" for number in range(8))
 FIELDS = ("data", "pc", "phase", "notes")
-# What sets a register in C, and in gdb's `print`.
+# An assignment to a register, as in C and in gdb's `print`.
 SETTING = re.compile(r"\$?(?:(\w+)\.)?r([0-7])\s*(?:\w+\s*)?=\s*(\w+)")
 
 
@@ -35,7 +35,7 @@ def fitted(cells: Sequence[Sequence[str]], width: Optional[int]) -> List[str]:
     cut; one that is longer than a line goes on in the next one."""
     if width is None:
         return table(cells)
-    # (a table of one row has no head)
+    # (a table of one row has no header)
     below = cells[1:] or cells
     kept = [at for at in range(len(cells[0])) if at == 0 or any(r[at] != "-" for r in below)]
     rows = [[row[at] for at in kept] for row in cells]
@@ -49,7 +49,7 @@ def fitted(cells: Sequence[Sequence[str]], width: Optional[int]) -> List[str]:
         used += widest + (len(GAP) if parts[-1] else 0)
         parts[-1].append(at)
     tables = [table([[row[at] for at in part] for row in rows]) for part in parts]
-    # (a line that goes on with a row says something)
+    # (a continuation line with no value is left out)
     lines = (
         (row[0], *(f"{INDENT}{it}" for it in row[1:] if it.strip(" -"))) for row in zip(*tables)
     )
@@ -72,11 +72,11 @@ def script_of(application: Optional[Application], name: str) -> Sequence[Instruc
 
 
 def check_instruction(shell: Shell, name: str, number: int) -> None:
-    """Raises `Unable` where a script is known, and has no instruction of this number."""
+    """Raises `Unable` if a script is known and does not have an instruction of this number."""
     script = script_of(shell.target.application, name)
     if script and number >= len(script):
         has = to_text(0, len(script) - 1)
-        raise Unable(f"there is no instruction {number}: {name} has {has}")
+        raise Unable(f"{name} has no instruction {number}, only {has}")
 
 
 def written(application: Optional[Application], task: replies.Task) -> str:
@@ -93,7 +93,7 @@ def next_moves(application: Optional[Application], look: Look) -> str:
     """What each busy core would do next, in words."""
     seats = ((core, look.tasks.get(name or "")) for core, name in enumerate(look.cores.running))
     found = [f"{it.name} {next_of(application, it)} (core {core})" for core, it in seats if it]
-    return ", ".join(found) or "no core is busy: tick"
+    return ", ".join(found) or "no core is busy; only `tick` is left"
 
 
 def place_in_file(shell: Shell, task: replies.Task) -> str:
@@ -186,15 +186,15 @@ def objects(shell: Shell) -> None:
     """All objects that are known, as a table."""
     found = shell.look().objects
     if not found:
-        shell.say("no object is known" if shell.source is None else "there are no objects")
+        shell.say("no objects are known" if shell.source is None else "the model has no objects")
         return
-    rows = [["object", "has", "contents", "who waits"]]
+    rows = [["object", "has", "contents", "blocked tasks"]]
     rows += [object_text(key, it) for key, it in found.items()]
     shell.say("\n".join(fitted(rows, shell.width())))
 
 
 def task(shell: Shell, name: str) -> List[str]:
-    """All of one task, as lines."""
+    """Everything about a task, as lines."""
     it = shell.look().tasks[name]
     application = shell.target.application
     known = application.task(name) if application else None
@@ -211,7 +211,7 @@ def task(shell: Shell, name: str) -> List[str]:
 
 
 def where(shell: Shell, words: Sequence[str]) -> None:
-    """Each core's task with its next instruction, and who is ready."""
+    """Executes `where`: shows each core's task with its next instruction, and the ready tasks."""
     look = shell.look()
     rows = []
     for core, name in enumerate(look.cores.running):
@@ -226,16 +226,16 @@ def where(shell: Shell, words: Sequence[str]) -> None:
 
 
 def listing(shell: Shell, words: Sequence[str]) -> None:
-    """The scripts of tasks, with their places marked: of those on the cores without words."""
+    """Executes `list`: shows the scripts of tasks, by default of the running ones."""
     look = shell.look()
     names = list(words) or present(look.cores.running)
     if not names:
-        raise Unable(f"no core is busy: list which task? {', '.join(look.tasks)}")
+        raise Unable(f"no core is busy; `list` needs a task: {', '.join(look.tasks)}")
     for name in names:
         check_name(shell, name, "task")
         script = script_of(shell.target.application, name)
         if not script:
-            raise Unable(f"the script of {name} isn't known: `rdbg sh --port P FILE` says it")
+            raise Unable(f"the script of {name} is not known; start `rdbg sh --port P FILE`")
         it = look.tasks[name]
         where = "" if shell.source is None else f"  {shell.source.name}"
         shell.say(f"{name}, {phase_text(it)}{where}")
@@ -256,16 +256,16 @@ def listed(script: Sequence[Instruction], pc: int, has_lines: bool) -> Iterator[
 
 
 def check_name(shell: Shell, name: str, kind: str = "") -> str:
-    """The kind of the thing of this name. Raises `Unable` where there is none (of `kind`)."""
+    """Returns the kind of the task or object of this name. Raises `Unable` if there is none."""
     known = [kind] if kind else list(kinds.OF_WORD)
     if shell.target.application is None and commands.is_name(name):
-        # (rdbg may know of more than has been told)
+        # (rdbg may know names that it has not shown yet)
         shell.target.tell_all([f"show {each} {name}" for each in known])
     there = shell.target.names.kinds_of(name)
     if kind in there or (there and not kind):
         return kind or there[0]
     near = nearest(name, [it for each in known for it in shell.target.names.of_kind(each)])
-    hint = f"; near it is '{near}'" if near else ""
+    hint = f" (did you mean '{near}'?)" if near else ""
     hint = f": it is a {there[0]}" if there else hint
     raise Unable(f"there is no {kind or 'task or object'} '{name}'{hint}")
 
@@ -275,16 +275,16 @@ def values(shell: Shell, words: Sequence[str]) -> List[str]:
     given = SETTING.fullmatch(" ".join(words))
     if given:
         edit = f"poke reg {given[1] or 'worker'} {given[2]} {given[3]}"
-        raise Unable(f"`print` shows alone; `{edit}`")
+        raise Unable(f"`print` cannot change anything; use `{edit}`")
     parts = [part for word in words for part in word.lstrip("$").split(".") if part]
     register = next((part for part in parts if re.fullmatch("r[0-9]+", part)), None)
     if register not in (None, *REGISTERS):
-        raise Unable(f"there is no {register}: registers are r0 to r7")
+        raise Unable(f"there is no register {register}, only r0 to r7")
     wanted = [part for part in parts if part in (*FIELDS, *REGISTERS)]
     names = [part for part in parts if part not in wanted]
     look = shell.look()
     if not parts:
-        raise Unable("print what? `print r0 worker`, `print data`, `print jobs`")
+        raise Unable("`print` needs an expression: `print r0 worker`, `print data`, `print jobs`")
     if not wanted:
         return [line for name in names for line in about(shell, name)]
     found = []
@@ -298,13 +298,13 @@ def values(shell: Shell, words: Sequence[str]) -> List[str]:
 
 
 def show(shell: Shell, words: Sequence[str]) -> None:
-    """`show NAME`: rdbg's own view of each thing of this name."""
+    """Executes `show NAME`: rdbg's view of each task or object of this name."""
     for kind in shell.target.names.kinds_of(words[0]):
         shell.command(f"show {kind} {words[0]}")
 
 
 def about(shell: Shell, name: str, only: str = "") -> List[str]:
-    """All of a task or of the objects of a name, or of the one of a kind, as lines."""
+    """Everything about the task or objects of a name, or of one kind, as lines."""
     check_name(shell, name, only)
     lines: List[str] = []
     for kind in [only] if only else shell.target.names.kinds_of(name):
@@ -312,12 +312,12 @@ def about(shell: Shell, name: str, only: str = "") -> List[str]:
             lines += task(shell, name)
         else:
             *found, waiting = object_text((kind, name), shell.look().objects[(kind, name)])
-            lines.append("  ".join([*found, f"waits: {waiting}"]))
+            lines.append("  ".join([*found, f"blocked: {waiting}"]))
     return lines
 
 
 def texts(shell: Shell, words: Sequence[str]) -> List[str]:
-    """What parts of tasks, names or an expression say, as lines."""
+    """The values of parts of tasks, of names, or of an expression, as lines."""
     text, scope, names = " ".join(words), shell.scope(), shell.target.names
     known = (*FIELDS, *REGISTERS, *names.tasks, *(name for _, name in names.objects))
     parts = [part for word in words for part in word.lstrip("$").split(".")]
@@ -333,32 +333,32 @@ def texts(shell: Shell, words: Sequence[str]) -> List[str]:
 
 
 def tell(shell: Shell, words: Sequence[str]) -> None:
-    """`print`."""
+    """Executes `print`."""
     shell.say("\n".join(texts(shell, words)))
 
 
 def display(shell: Shell, words: Sequence[str]) -> None:
-    """`display EXPR`, or all that are there."""
+    """Executes `display [EXPR]`."""
     if words:
-        texts(shell, words)  # (which says what is wrong)
+        texts(shell, words)  # (which raises an error if EXPR is wrong)
         shell.displays[max(shell.displays, default=0) + 1] = " ".join(words)
     elif not shell.displays:
-        raise Unable("nothing is displayed; `display count jobs` does from here on")
+        raise Unable("there are no displays; `display count jobs` adds one")
     displayed(shell, max(shell.displays) if words else 0)
 
 
 def undisplay(shell: Shell, words: Sequence[str]) -> None:
-    """`undisplay N ..`, or all."""
+    """Executes `undisplay [N ..]`."""
     numbers = [int(word) for word in words if commands.is_number(word)]
     if len(numbers) < len(words) or not {*numbers} <= {*shell.displays}:
         there = ", ".join(map(str, shell.displays)) or "none"
-        raise Unable(f"undisplay which? There are: {there}; without a number all are dropped")
+        raise Unable(f"`undisplay` needs numbers of displays ({there}), or none to remove all")
     for number in numbers or list(shell.displays):
         shell.displays.pop(number, None)
 
 
 def displayed(shell: Shell, only: int = 0) -> None:
-    """Says what is displayed, or one of it."""
+    """Shows all displays, or one."""
     shown = {only: shell.displays[only]} if only else shell.displays
     for number, text in shown.items():
         try:
@@ -373,9 +373,9 @@ def displayed(shell: Shell, only: int = 0) -> None:
 
 
 def watches(shell: Shell) -> None:
-    """The watches, with their conditions."""
+    """Shows the watches and their conditions."""
     if not shell.target.watches:
-        shell.say("no watches; `watch COND` or `break TASK PC` makes one")
+        shell.say("there are no watches; `watch COND` or `break TASK PC` sets one")
         return
     holds = dict(shell.target.ask("show watches", replies.Watches).holds)
     found = sorted(shell.target.watches.items())
@@ -384,14 +384,14 @@ def watches(shell: Shell) -> None:
 
 
 def history(shell: Shell) -> None:
-    """How much was asked, and what the history has room for."""
+    """Shows how many lines were sent, and how many the history has room for."""
     left = shell.target.left()
     room = "" if left is None else f"; the history has room for {left} more"
-    shell.say(f"{shell.target.lines} lines were asked, looks among them{room}")
+    shell.say(f"{counted(shell.target.lines, 'line')} sent to rdbg, looks included{room}")
 
 
 def info(shell: Shell, words: Sequence[str]) -> None:
-    """A table, or all of a task or an object."""
+    """Executes `info`: shows a table, or everything about a task or an object."""
     word = words[0] if words else ""
     singular = word[:-1] if word.endswith("s") else word
     kind = singular if singular in kinds.OF_WORD and not shell.target.names.kinds_of(word) else ""
@@ -406,7 +406,9 @@ def info(shell: Shell, words: Sequence[str]) -> None:
     elif word:
         shell.say("\n".join(about(shell, word)))
     else:
-        raise Unable(f"info what? {', '.join(INFO_WORDS)}, or a task's or an object's name")
+        raise Unable(
+            f"`info` needs one of {', '.join(INFO_WORDS)}, or the name of a task or object"
+        )
 
 
 TABLES: Dict[str, Callable[[Shell], None]] = {
