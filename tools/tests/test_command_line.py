@@ -8,7 +8,7 @@ from rdbg.command_line import OF_COMMAND, OPTIONS, unknown, why
 from rdbg.manual import help_text
 
 WRONG = (
-    ("run rx.json", "'rx.json' stands by itself; an application is given by --app FILE"),
+    ("run rx.json", "unexpected 'rx.json' (to name a model, use --app FILE)"),
     ("run --ap rx.json", "run has no option --ap (did you mean --app?)"),
     ("run --port 7000", "run has no option --port"),
     ("run --moves 0", "--moves must be 1 to 1000000, found '0'"),

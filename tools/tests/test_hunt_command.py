@@ -75,7 +75,7 @@ class Said(unittest.TestCase):
         words = ["application.json", "stuck", *QUICK, "-o", "./application.json"]
         status, _, errors = said(*words)
         self.assertEqual(2, status)
-        self.assertIn("-o ./application.json is the application itself", errors[0])
+        self.assertIn("-o ./application.json refusing to overwrite the model", errors[0])
         self.assertEqual(text, pathlib.Path("application.json").read_text())
 
     def test_it_is_emptied_before_the_search(self) -> None:
@@ -89,7 +89,7 @@ class Said(unittest.TestCase):
         status, lines, _ = said("--help")
         self.assertEqual(0, status)
         usage = " ".join(" ".join(lines).split())
-        self.assertIn("FILE GOAL looks for", usage)
+        self.assertIn("FILE GOAL Search for", usage)
         self.assertNotIn("GOAL [GOAL ...]", usage)
 
     def test_none_found_says_of_which_orders(self) -> None:
@@ -249,8 +249,8 @@ class Statuses(unittest.TestCase):
             ([LOST, "stuk"], "(did you mean `stuck`?)"),
             ([LOST, "reg worker 8 = 0"], "expected a register number, 0 to 7"),
             (["none.json", "stuck"], "cannot read none.json"),
-            ([LOST, "stuck", "--part", "3/2"], "K/N with K of 1 to N"),
-            ([LOST, "stuck", "--within", "0"], "a number of seconds"),
+            ([LOST, "stuck", "--part", "3/2"], "K/N with K from 1 to N"),
+            ([LOST, "stuck", "--within", "0"], "a positive number of seconds"),
             (
                 [LOST, "stuck", "--exhaustive", "--surprises", "1"],
                 "--exhaustive cannot be combined with --surprises",
@@ -269,9 +269,9 @@ class Statuses(unittest.TestCase):
                 [LOST, "stuck", "--smallest", "--all", "2"],
                 "--smallest cannot be combined with --all",
             ),
-            ([LOST, "differs", "--smallest"], "none of differs"),
+            ([LOST, "differs", "--smallest"], "with the goal differs"),
             ([LOST, "stuck", "-o", "/none/found.commands"], "cannot write /none/found.commands"),
-            ([LOST, "stuck", "--moves", "-1"], "0 to 1000000, not '-1'"),
+            ([LOST, "stuck", "--moves", "-1"], "0 to 1000000, found '-1'"),
             ([LOST], "the following arguments are required"),
         ):
             with self.subTest(why):

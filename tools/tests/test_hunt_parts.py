@@ -104,7 +104,7 @@ class Joined(AnswersOf):
     def test_what_are_no_parts(self) -> None:
         part = f"never, part 1 of 2\n{COUNTS}"
         for answers, why in (
-            ([f"never\n{COUNTS}"], "its first line says no part of a search"),
+            ([f"never\n{COUNTS}"], "the first line names no part K/N"),
             (["nothing"], "unexpected answer of the search program: 'nothing'"),
             ([""], "unexpected answer"),
             ([part, part], "part 1 is there twice"),

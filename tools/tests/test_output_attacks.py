@@ -64,7 +64,7 @@ def write_commands(path: str) -> str:
     """Writes commands by `save!`, and returns the first line that is said."""
     with example("lost_item") as shell:
         answer = said(shell, "step 1", f"save! {path}")[1]
-    return "" if "moves are in" in answer else answer
+    return "" if answer.startswith("# saved ") else answer
 
 
 WAYS = {"report.html": write_page, "hunt.commands": write_finds, "saved.commands": write_commands}

@@ -322,11 +322,11 @@ class There(Case):
             self.assertEqual([why], said(shell, f"save {file}"))
             self.assertEqual("step 7\n", file.read_text())
             said(shell, "tick")
-            self.assertEqual(f"# 1 moves are in {file}", said(shell, f"save! {file}")[0])
+            self.assertEqual(f"# saved 1 move in {file}", said(shell, f"save! {file}")[0])
             self.assertEqual("tick\n", file.read_text())
             # (from now on it is this prompt's, until another one stands there)
             said(shell, "back 1")
-            self.assertEqual(f"# 0 moves are in {file}", said(shell, f"save {file}")[0])
+            self.assertEqual(f"# saved 0 moves in {file}", said(shell, f"save {file}")[0])
             self.assertEqual("", file.read_text())
             another = self.folder / "another"
             another.write_text("step 8\n")

@@ -360,8 +360,8 @@ class Ends(InFolder):
             with mock.patch("sys.stderr", stream):
                 self.assertEqual([*results_of("/none", cases, 1)][1][0], cases[1])
             text = stream.getvalue()
-            self.assertEqual(is_shown, "0 of 2 done, waiting for one.fw" in text)
-            self.assertEqual(is_shown, "1 of 2 done, waiting for two.fw" in text)
+            self.assertEqual(is_shown, "0 of 2 done, running one.fw" in text)
+            self.assertEqual(is_shown, "1 of 2 done, running two.fw" in text)
 
     def test_signals(self) -> None:
         program = sleeper(self.folder)

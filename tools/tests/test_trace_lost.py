@@ -53,7 +53,7 @@ class Rows(Traced):
             (("--ask", "lost faild"), "--lost: word 1, 'faild'"),
             (
                 ("--ask", "reach failed"),
-                "--ask requires --page (without it, only 'lost GOAL' is possible)",
+                "--ask requires --page",
             ),
         ):
             with self.subTest(words):
@@ -61,7 +61,7 @@ class Rows(Traced):
                 self.assertEqual((2, []), (status, lines))
                 self.assertRegex(errors[0], f"^rdbg trace: {why}")
         _, _, errors = self.said("--port", "7", "--lost", "failed")
-        self.assertIn("told here, not --port", errors[0])
+        self.assertIn("cannot be combined with --port", errors[0])
 
 
 @unittest.skipUnless(real(), "no program that searches")
