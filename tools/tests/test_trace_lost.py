@@ -49,7 +49,7 @@ class Rows(Traced):
         for words, why in (
             (("--lost", "faild"), "--lost: word 1, 'faild': .* .did you mean `failed`"),
             (("--lost", "sleeps worker"), "--lost: the search does not support"),
-            (("--lost", "failed", "--events", "x"), "--lost is for rows or --page of a run that"),
+            (("--lost", "failed", "--events", "x"), "--lost cannot be combined with"),
             (("--ask", "lost faild"), "--lost: word 1, 'faild'"),
             (
                 ("--ask", "reach failed"),
