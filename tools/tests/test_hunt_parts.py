@@ -107,8 +107,8 @@ class Joined(AnswersOf):
             ([f"never\n{COUNTS}"], "the first line names no part K/N"),
             (["nothing"], "unexpected answer of the search program: 'nothing'"),
             ([""], "unexpected answer"),
-            ([part, part], "part 1 is there twice"),
-            ([part, f"never, part 2 of 3\n{COUNTS}"], "in different numbers of parts"),
+            ([part, part], "part 1 is given twice"),
+            ([part, f"never, part 2 of 3\n{COUNTS}"], "with different numbers of parts"),
             (["never, part 1 of 2"], "is incomplete"),
         ):
             status, lines, errors = self.join(*answers)
