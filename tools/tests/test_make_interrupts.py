@@ -103,7 +103,9 @@ class Reads(unittest.TestCase):
                 self.assertEqual([said], self.told(line))
         for call in self.ROUND:
             name = call.split(" ")[0].split("(")[0]
-            said = f"an interrupt cannot call '{name}', only send Q HEX, notify K I N ACTION, or give"
+            said = (
+                f"an interrupt cannot call '{name}', only send Q HEX, notify K I N ACTION, or give"
+            )
             said += " NAME (model it as a task of the highest priority that uses wait, see"
             self.assertEqual([f"{said} docs/guides/from-c.md)"], self.told(f"ping: {call}"))
 
