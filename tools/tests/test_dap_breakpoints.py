@@ -142,7 +142,7 @@ class Lines(Held):
             client.begin(self.file, limit=50)
             stop = client.stopped("continue", threadId=2)
             self.assertEqual(stop["description"], "at 50: no breakpoint was hit in 50 moves")
-            self.assertIn(".. 45 moves not shown", client.output())
+            self.assertIn(".. 45 moves before these", client.output())
 
     def test_the_end(self) -> None:
         with editor() as client:

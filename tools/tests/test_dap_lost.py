@@ -115,7 +115,7 @@ class Stops(Held):
             for name, why in (
                 ("lost at worker 7", "word 3, '7': expected the number of an instruction"),
                 ("lost asleap", "did you mean `asleep`?"),
-                ("lost sleeps worker", "no word for `sleeps`"),
+                ("lost sleeps worker", "the search does not support `sleeps`"),
             ):
                 found = named(client, name)[0]
                 self.assertFalse(found["verified"])

@@ -88,7 +88,7 @@ class Digits(unittest.TestCase):
                 file.write_text('{"profile": 1, "cores": "%s", "tasks": []}' % digits)
                 with contextlib.redirect_stdout(io.StringIO()) as output:
                     main(["check", str(file)])
-                self.assertEqual(is_told, "a number has no quotes" in output.getvalue())
+                self.assertEqual(is_told, "remove the quotes" in output.getvalue())
 
 
 if __name__ == "__main__":

@@ -77,7 +77,8 @@ class Commands(unittest.TestCase):
             for name in codes([calls]):
                 said = freertos.sentence(name)
                 assert said is not None, name
-                self.assertIn(f"{name} is the command {form.split('`')[1]}, in profile 2", said)
+                self.assertIn(f"'{name}' is not an instruction", said)
+                self.assertIn(f"use the command {form.split('`')[1]} in profile 2", said)
                 found = commands.read(line_of(form.split("`")[1]))
                 self.assertIsNotNone(found, form)
 
