@@ -142,7 +142,7 @@ class Mends(unittest.TestCase):
         self.assertEqual(f"{len(cases)} cases: {len(cases)} wrong", output[-1])
         for case in cases:
             told = order_of(output, f"wrong  {case['file']}: ")
-            self.assertIn("was expected; found came", told[0])
+            self.assertRegex(told[0], "expected .*, got found")
             self.assertIn(["place", "tick"], [line.split()[:2] for line in told])
             self.assertIn("lines:", [line.strip() for line in told])
 

@@ -75,7 +75,7 @@ class Said(unittest.TestCase):
         words = ["application.json", "stuck", *QUICK, "-o", "./application.json"]
         status, _, errors = said(*words)
         self.assertEqual(2, status)
-        self.assertIn("-o ./application.json refusing to overwrite the model", errors[0])
+        self.assertIn("-o ./application.json: refusing to overwrite the model", errors[0])
         self.assertEqual(text, pathlib.Path("application.json").read_text())
 
     def test_it_is_emptied_before_the_search(self) -> None:

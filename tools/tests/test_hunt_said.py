@@ -103,7 +103,7 @@ class OfWhichOrders(Asked):
         self.assertEqual((0, "never"), (status, errors[1]))
         status, errors = self.none(COUNTS, goal="differs")
         self.assertEqual(2, status)
-        self.assertIn("nothing is at rest in forward's order of 100 moves", errors[-1])
+        self.assertIn("the default run of 100 moves does not come to rest", errors[-1])
         self.assertEqual(1, said(written(self.folder, COUNTS), "tick = 400")[0])
         self.assertEqual((0, "never"), self.head(ROUND))
 
