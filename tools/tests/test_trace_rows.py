@@ -166,7 +166,7 @@ class Rows(Traced):
                 self.assertEqual((2, [], [nobody.format(name, meant)]), said)
 
     def test_places_without_a_move_between(self) -> None:
-        behind = "rdbg trace: --from 5 lies behind --to 2: no move is between"
+        behind = "rdbg trace: --from 5 is after --to 2"
         self.assertEqual((2, [], [behind]), self.traced(RUN, "--from", "5", "--to", "2"))
         self.assertEqual(2, self.said("--port", "5000", "--from", "5", "--to", "4")[0])
         self.assertEqual([HEAD, ROWS[4]], self.traced(RUN, "--from", "5", "--to", "5")[1])

@@ -223,7 +223,7 @@ class Cases(InFolder):
         for words in ((), ("--strict",)):
             said = "ok     poller.json: reach asleep: never, vacuous as expected"
             self.assertEqual(["0", said], self.try_case(*words, vacuous=True))
-        said = "wrong  poller.json: reach failed: never, but it isn't vacuous, as was expected"
+        said = "wrong  poller.json: reach failed: never, but expected a vacuous answer"
         self.assertEqual(["1", said], self.try_case(goal="failed", vacuous=True))
 
     def test_junit(self) -> None:
