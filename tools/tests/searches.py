@@ -19,7 +19,7 @@ NEVER = "never\nstates 5 moves 9 deepest 4\n"
 FAR = "progress within 12 states 345 moves 6789 deepest 24 bytes 1048576\n"
 FURTHER = "progress within 13 states 400 moves 8000 deepest 26 bytes 2097152\n"
 # How far that is, as it is answered.
-SAID_FURTHER = "full: not within 13 moves\nit was stopped\nstates 400 moves 8000 deepest 26\n"
+SAID_FURTHER = "full: not within 13 moves\nstopped\nstates 400 moves 8000 deepest 26\n"
 # How a program ends: by a signal, or not by itself.
 KILLED, SLEEPS = "kill -9 $$", "exec sleep 1000"
 TEXT = """#!/bin/sh

@@ -306,7 +306,7 @@ class AtThePrompt(unittest.TestCase):
                 lost = shell_talk.said(shell, "lost ended t")
         # (of a run it is asked from each place on)
         self.assertEqual("# still", lost[0])
-        note = "#   note: from each place on interrupts may come as if none had come yet"
+        note = "#   note: at each place, the search ignores interrupts that occurred before it"
         self.assertEqual(note, lost[-1])
         self.assertEqual(
             ["# found", "# never"], [it for it in said if it in ("# found", "# never")]

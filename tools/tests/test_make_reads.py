@@ -174,8 +174,13 @@ class Reads(unittest.TestCase):
         self.assertEqual(("send q 02",), found.interrupts[0].calls)
         self.assertEqual("data 05", application(text, {"STOP": 5}).tasks[0].code[0].text)
         for name, value, said in (
-            ("BIG", 256, "BIG is 256, and a byte is 0 to 255"),
-            ("AB", 3, "AB is a const, and could be bytes: write 0xAB for these, or 0x03"),
+            ("BIG", 256, "a byte must be 0 to 255, found 'BIG', which is 256"),
+            (
+                "AB",
+                3,
+                "'AB' is both a const and valid bytes (write 0xAB for the bytes, or 0x03 for the"
+                " const)",
+            ),
         ):
             wrong = f"cores 1\nconst {name} {value}\ntask t priority 1\ndata {name}\nend\n"
             told = f'4:6: task t, instruction 0: "data {name}": {said}'

@@ -68,8 +68,8 @@ class Come(InFolder):
         pathlib.Path(self.file).write_text(STOP.replace("button:", "button apart 3:"))
         status, _, errors = hunts.said(self.file, "differs")
         self.assertEqual(2, status)
-        self.assertTrue(errors[0].endswith("give their calls; --isr none leaves them out"), errors)
-        self.assertNotIn("give their calls", hunts.said(self.file, "differs", "--isr", "none")[2])
+        self.assertTrue(errors[0].endswith("(write their calls, or use --isr none)"), errors)
+        self.assertNotIn("write their calls", hunts.said(self.file, "differs", "--isr", "none")[2])
 
     def test_a_folder(self) -> None:
         case = {"file": "stop.fw", "goal": GOAL}

@@ -23,7 +23,7 @@ OPTION = re.compile(r"--[a-z]+")
 VALUE = re.compile(r"(--[a-z]+) <(.+?)>")
 # Seconds of a processor that a small search may take from its start to its end.
 QUICK = 0.05
-FAR_SHOWN = "within 12 moves, deepest 24: 345 states, "
+FAR_SHOWN = "searching: all runs of 12 moves, longest 24: 345 states, "
 
 
 class Starts(unittest.TestCase):
@@ -192,7 +192,7 @@ class Real(unittest.TestCase):
         long = [str(EXAMPLES / "soak.json"), "tick = 4294967295", "--moves", "100000"]
         ran = run(WRAPPER, "reach", *long, "--within", "3")
         self.assertEqual((2, ""), (ran.returncode, ran.stderr))
-        wanted = r"full: not within \d+ moves\nit was stopped\nstates \d+ moves \d+ deepest \d+\n"
+        wanted = r"full: not within \d+ moves\nstopped\nstates \d+ moves \d+ deepest \d+\n"
         self.assertRegex(ran.stdout, rf"\A{wanted}\Z")
 
 

@@ -250,7 +250,7 @@ class Saying(unittest.TestCase):
         self.assertEqual((heard.depth(), heard.states, heard.moves), (12, 3, 4))
 
     def test_full_of_another_room(self) -> None:
-        answer = "full: not within 12 moves\nit was stopped\nstates 3 moves 4 deepest 5"
+        answer = "full: not within 12 moves\nstopped\nstates 3 moves 4 deepest 5"
         with answering(answer, 2) as answers:
             self.assertFalse(said(answers, []).is_full())
 

@@ -249,7 +249,7 @@ class Words(unittest.TestCase):
                 self.assertEqual((2, 1), (status, len(errors)), errors)
                 self.assertTrue(errors[0].startswith(f"rdbg trace: {why}"), errors)
         status, errors = told("trace", str(LOST), "--note", "-", *page)
-        self.assertEqual((2, True), (status, "standard input is COMMANDS already" in errors[0]))
+        self.assertEqual((2, True), (status, "cannot both be standard input" in errors[0]))
 
     def test_reach_without_an_order(self) -> None:
         page = pathlib.Path(os.devnull)

@@ -178,7 +178,7 @@ class Words(unittest.TestCase):
 
     def test_words_that_cant_be(self) -> None:
         page = str(self.folder / "page.html")
-        refused = "rdbg trace: --only is for rows; --page writes all"
+        refused = "rdbg trace: --only cannot be combined with --page"
         self.assertEqual([2, refused], self.status("--page", page, "--only", "jobs"))
         refused = "rdbg trace: --events cannot be combined with --page"
         self.assertEqual([2, refused], self.status("--page", page, "--events", page))
