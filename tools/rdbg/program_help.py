@@ -2,35 +2,27 @@
 from typing import Dict
 
 RUN = """\
-Execute commands from standard input
+Answers commands from standard input
 
 Usage: rdbg run [OPTIONS]
 
 Options:
-      --app <FILE>       Model in JSON [default: a built-in model]
-      --moves <COUNT>    Maximum number of moves, 1 to 1000000 [default: 100000]
-      --history <COUNT>  Maximum number of history entries, 2 to 1000000 [default: 100000]
-  -h, --help             Print help
-
-Each line of standard input is one command, and gets one line as its reply (docs/COMMANDS.md).
-
-Example:
-  printf 'step 0\\nshow cores\\n' | rdbg run --app jobs.json"""
+      --app <FILE>       The application file [default: the built-in application]
+      --moves <COUNT>    How many moves may be done at a time, 1 to 1000000 [default: 100000]
+      --history <COUNT>  How many entries the history may have, 2 to 1000000 [default: 100000]
+  -h, --help             Print help"""
 SERVE = """\
-Execute commands from TCP sessions
+Answers the commands of several sessions on a TCP port
 
 Usage: rdbg serve [OPTIONS] --app <FILE> --port <PORT> --sessions <COUNT>
 
 Options:
-      --app <FILE>        Model in JSON
-      --port <PORT>       TCP port of 127.0.0.1, 1 to 65535
-      --sessions <COUNT>  Number of sessions, 1 to 64
-      --moves <COUNT>     Maximum number of moves, 1 to 1000000 [default: 100000]
-      --history <COUNT>   Maximum number of history entries, 2 to 1000000 [default: 100000]
-  -h, --help              Print help
-
-Example:
-  rdbg serve --app jobs.json --port 7000 --sessions 2"""
+      --app <FILE>        The application file
+      --port <PORT>       The TCP port, 1 to 65535
+      --sessions <COUNT>  How many sessions are served, 1 to 64
+      --moves <COUNT>     How many moves may be done at a time, 1 to 1000000 [default: 100000]
+      --history <COUNT>   How many entries the history may have, 2 to 1000000 [default: 100000]
+  -h, --help              Print help"""
 REACH = """\
 Search all interleavings for a state that satisfies a goal
 

@@ -260,7 +260,7 @@ class Told(unittest.TestCase):
                 right.remark("# moves 3")
                 self.assertEqual(heard[0], "# .. 2 moves before these")
                 self.assertEqual([row[:3] for row in heard[1:4]], ["# 3", "# 4", "# 5"])
-                self.assertEqual(heard[4:], ["# at 5; `redo` can make 2 more"])
+                self.assertEqual(heard[4:], ["# at 5; `redo` can repeat 2 undone moves"])
             self.assertEqual(here._program.left(), before)
             self.assertEqual(left.ask("redo 2"), "ok at 7")
             left.ask("trim 2")

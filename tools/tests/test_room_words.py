@@ -99,7 +99,7 @@ class Words(unittest.TestCase):
             ada.remark("# help")
             *told, lines, place = heard
             self.assertEqual([re.split("  +", it[4:])[0] for it in told], list(remarks.FORMS))
-            self.assertIn("`back 1`", lines)
+            self.assertIn("`wheel take`", lines)
             self.assertEqual("# at 0", place)
             ada.remark("# fly")
             self.assertTrue(heard[-1].endswith("`# wheel`, `# reload` or `# help`"), heard[-1])

@@ -56,7 +56,7 @@ LOOKS = {
     "show cores": b"cores - ready - tick 0 turn 0\n",
 }
 YOU = b"# you are ada, session 1; here: nobody else\n"
-FULL = "the history of the server is full, so that it executes nothing more: no HistoryFull"
+FULL = "the history of the server is full, so it executes no more commands: no HistoryFull"
 OTHER = "not an rdbg server, or another version of rdbg: no Syntax"
 GARBAGE = "not an rdbg server: it answered '\ufffd\\x1b[2J'"
 

@@ -29,7 +29,7 @@ SYNTAX = {
     "forward 1,000": "`forward 1000`",
     "back": "`back 1`",
     "until count jobs>0": "word 2, 'jobs>0': expected the name of a queue (did you mean `count jobs > 0`"
-    "`?)",
+    "?)",
     "until": "or another goal (see `help until`) after `until`",
     "until count jobs > 0 and phase worker": "it ends too early: expected a phase: run",
     "until count jobs > 0 || phase worker wait 9": "`count jobs > 0 or phase worker wait`?",

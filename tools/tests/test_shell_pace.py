@@ -282,7 +282,7 @@ class InAnEditor(unittest.TestCase):
         with editor() as client:
             client.ask("initialize", adapterID="x")
             said = client.refused("launch", program=str(self.file), pace="5")
-            self.assertIn("pace: '5' is none: a pace is M..N", said)
+            self.assertIn("pace: '5' is not a pace: a pace is M..N", said)
             said = client.refused("launch", program=str(self.file), interrupts=["pign"])
             self.assertIn("interrupt 'pign' is not defined (did you mean 'ping'?)", said)
             said = client.refused("launch", program=str(self.file), consts=["X=1"])

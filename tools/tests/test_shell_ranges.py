@@ -27,7 +27,7 @@ class Prompt(unittest.TestCase):
                 "step worker 5000000",
             ):
                 self.assertIn(f"# {RANGE}; ", said(shell, line)[0], line)
-            self.assertIn("a COUNT is 1 to 1000000", said(shell, "until! at worker 0 5000000")[0])
+            self.assertIn("COUNT must be 1 to 1000000", said(shell, "until! at worker 0 5000000")[0])
             # (what is no number has no range)
             self.assertNotIn("1000000", said(shell, "go far")[0])
 
@@ -59,7 +59,7 @@ class Editor(unittest.TestCase):
             client.begin(LOST)
             for number in ("99999999999", "9" * 5_000, "0x123456789"):
                 message = client.refused("setExpression", expression="worker.r0", value=number)
-                self.assertIn("isn't within 0 to 4294967295", message)
+                self.assertIn("is out of range: 0 to 4294967295", message)
 
     def test_questions_send_no_events(self) -> None:
         with editor() as client:

@@ -182,7 +182,7 @@ class Refused(InFolder):
             ({"goal": ""}, "case 1: goal must be a string"),
             ({"goal": 7}, "case 1: goal must be a string"),
             ({"isr": "ring"}, "case 1: isr must be a list of strings"),
-            ({"consts": ["N"]}, "case 1: consts must be a list of consts: NAME=N"),
+            ({"consts": ["N"]}, "case 1: consts must be a list of consts: must be NAME=N"),
             ({"pace": "4"}, "case 1: pace must be a string: a pace is M..N, M.. or ..N"),
             ({"surprises": 256}, "case 1: surprises must be a number from 0 to 255"),
             ({"moves": -1}, "case 1: moves must be a number from 0 to 1,000,000,000"),
@@ -207,14 +207,14 @@ class Refused(InFolder):
             {**NEVER, "isr": ["send q 41"]},
             {**NEVER, "consts": ["N=1"]},
         )
-        for at, wanted in enumerate(("cannot read", "asleep", "of hunt alone", "NoIsr", "-D N")):
+        for at, wanted in enumerate(("cannot read", "asleep", "a goal of hunt only", "NoIsr", "-D N")):
             self.assertIn(wanted, found[at])
         self.assertTrue(all(it.startswith(f"{MENDED}: ") for it in found[1:]), found)
 
     def test_an_application_that_is_refused(self) -> None:
         self.written("wrong.fw", "cores 1\ntask a priority 1\n jmp a\n end\n")
         found = self.faults({**NEVER, "file": "wrong.fw"})
-        self.assertIn("wrong.fw:3:2: jmp a is written jump a", found[0])
+        self.assertIn("wrong.fw:3:2: 'jmp a' is not an instruction (use jump a)", found[0])
 
     def test_no_list(self) -> None:
         for text, wanted in (
@@ -235,7 +235,7 @@ class Refused(InFolder):
     def test_no_file_and_no_words(self) -> None:
         status, _, errors = tested(self.folder)
         self.assertEqual(2, status)
-        lacks = f"{self.folder} has no goals.json, (the file that lists the models and their goals)"
+        lacks = f"{self.folder} has no goals.json (the file that lists the models and their goals)"
         self.assertEqual([f"rdbg test: {lacks}"], errors)
         status, _, errors = tested(os.path.join(self.folder, "none.json"))
         self.assertEqual(2, status)

@@ -102,7 +102,7 @@ class Led(Shown):
         self.assertEqual(["->", "5", "35", "recv line0 max", receive], list(row))
         self.assertIn("(waits with no limit of time: portMAX_DELAY)", self.browser.text("#readout"))
         explained = self.browser.text("#help")
-        for word in ("A move is", "Place 5 is", "The turn is"):
+        for word in ("A move is", "The turn is"):
             self.assertIn(word, explained)
 
 

@@ -125,7 +125,7 @@ class Refused(unittest.TestCase):
             self.check(folder, f"rdbg WORD: cannot read {folder}: it is a folder")
             why = f"rdbg WORD: {lines} is no JSON: './rdbg make {lines}' makes it"
             self.check(lines, why)
-            self.check(texts, f"{texts}:1:1: the application is a list")
+            self.check(texts, f"{texts}:1:1: the application must be an object")
 
     @IS_ROOT
     def test_a_file_of_another_user(self) -> None:
