@@ -137,7 +137,7 @@ class ToldOnce(unittest.TestCase):
         self.assertRegex(told, r"^# ada: rc changes jobs -> ok at \d+ met: changes jobs \(")
         (told,) = self.told("rc failed")
         self.assertRegex(
-            told, r"^# ada: rc failed -> ok at 12 still: 'failed' wasn't met before \("
+            told, r"^# ada: rc failed -> ok still at 12: 'failed' was not met before \("
         )
         first, told = self.told("break count jobs > 0", "rc")
         self.assertEqual(first, "# ada: watch count jobs > 0 -> ok watch 0")

@@ -44,7 +44,8 @@ class Doing:
             return [line for lines in done for line in lines]
         came = came_to.partition(BETWEEN)[0]
         at = f"at {self._place}"
-        return [f"{name}: {self.text} -> ok {came if came.startswith(f'{at} ') else at}"]
+        is_here = came.startswith((f"{at} ", f"still {at}:"))
+        return [f"{name}: {self.text} -> ok {came if is_here else at}"]
 
 
 def effect(command: Command, move: Move) -> str:
