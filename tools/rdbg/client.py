@@ -153,19 +153,21 @@ class PipeLines(Incoming):
 
 
 class PortLines(Incoming):
-    """The lines that arrive by a connection."""
+    """The lines that arrive by a connection, whose timeout holds until `wait_at_most`."""
 
     def __init__(self, connection: socket.socket) -> None:
         super().__init__(connection.fileno(), connection.recv)
         self._connection = connection
+        self._seconds = connection.gettimeout()
 
     def fileno(self) -> int:
         """Returns the descriptor to wait for, or -1 once it is closed."""
         return self._connection.fileno()
 
     def wait_at_most(self, seconds: Optional[float]) -> None:
-        """Sets how long to wait for something to arrive; `None` waits for ever."""
+        """Sets how long to wait for something to arrive, or to be sent; `None` waits for ever."""
         self._seconds = seconds
+        self._connection.settimeout(seconds)
 
     def close(self) -> None:
         """Closes the connection."""
