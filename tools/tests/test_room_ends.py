@@ -124,7 +124,7 @@ class Ends(unittest.TestCase):
             file = ["room", LOST, "--port"]
             refused: Tuple[Tuple[List[str], str], ...] = (
                 ([str(port)], f"cannot listen at port {port}: Address already in use"),
-                (["7", "--history", "200"], "--history is 256 at the least for 64 sessions"),
+                (["7", "--history", "200"], "--history must be at least 256 for 64 sessions"),
                 (
                     [str(free_port()), "--talk", "/nowhere/talk"],
                     "cannot write /nowhere/talk: No su",

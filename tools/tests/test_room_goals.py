@@ -70,7 +70,10 @@ class Goals(unittest.TestCase):
         for line, why in (
             ("reach asleap", "no: word 1, 'asleap': expected an atom, .*did you mean `asleep`"),
             ("reach sleeps worker", "no: the search does not support `sleeps`"),
-            ("until count jobs>0 9", "no Syntax: word 2, .jobs>0.: .*; `count jobs > 0` would be"),
+            (
+                "until count jobs>0 9",
+                "no Syntax: word 2, .jobs>0.: .*did you mean `count jobs > 0`",
+            ),
             (
                 "back until count jobs == 0",
                 "no Syntax: word 3, '==': .*did you mean `count jobs = 0`",

@@ -67,7 +67,7 @@ class Keys(unittest.TestCase):
         key, self.here.key.say = self.here.key.text, full
         answer = traded(self.here, key)
         self.assertEqual(503, status(answer))
-        self.assertIn(b"can't say its next address: No space left on device", answer)
+        self.assertIn(b"cannot print its next address: No space left on device", answer)
         self.assertNotIn(self.here.token.encode(), answer)
         self.here.key.say = lambda: None
         self.assertEqual(self.here.token, self.trade(key))

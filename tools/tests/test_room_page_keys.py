@@ -117,7 +117,7 @@ class Keys(OnPage):
                     "show queue job -> no NoSuch: queue 'job' is not defined (did you mean 'jobs'?)",
                 ),
                 ("stepp 1", "stepp 1 -> no Syntax: "),
-                ("back 7", "back 7 -> no TooFar 1: only 1 moves can be taken back: `goto 0`"),
+                ("back 7", "back 7 -> no TooFar 1: only 1 move can be undone; `goto 0`"),
                 ("# say <b>hello</b>", "web says: <b>hello</b>"),
                 ("# none", "no: unknown request; a line that begins with #"),
             ):

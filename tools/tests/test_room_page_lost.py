@@ -41,7 +41,9 @@ class Lost(OnPage):
             self.said(
                 f"lost at worker 1 -> lost at 8: {MOVE}; `back 2` returns to before this move"
             )
-            self.assertIn("from there it can still come: tick; step 0", self.browser.text("#loss"))
+            self.assertIn(
+                "this run from there reaches the goal: tick; step 0", self.browser.text("#loss")
+            )
             self.browser.settle()
             self.assertIn("; lost at 8", self.value(LABEL))
             self.assertNotEqual(plain, Reader(self.browser).picture())
@@ -116,7 +118,10 @@ class Lost(OnPage):
             for line, said in (
                 (f"until! {goal}", f"until! {goal} -> at 5 met: {goal}"),
                 ("rc! waits worker", "rc! waits worker -> at 1 met: waits worker"),
-                ("rc! wait worker", "rc! wait worker -> no Syntax: word 1, 'wait': a claim"),
+                (
+                    "rc! wait worker",
+                    "rc! wait worker -> no Syntax: word 1, 'wait': expected an atom",
+                ),
             ):
                 self.browser.call("Input.insertText", text=line)
                 self.browser.key("Enter")

@@ -65,7 +65,7 @@ class Said(OnPage):
             self.click("#reload")
             self.browser.until("document.querySelector('#tasks')?.textContent.includes('polls')")
             self.at(1)
-            self.said("web reloaded the file: all 1 moves are the same on")
+            self.said("web reloaded the file: all 1 moves are the same with the new")
             self.wheel("You have")
 
 

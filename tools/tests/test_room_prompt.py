@@ -191,7 +191,7 @@ class Prompts(unittest.TestCase):
                     "# at 2",
                     "# .. 1 move before these",
                     "# 2  tick 1",
-                    "# at 2; `redo` can make 1 more",
+                    "# at 2; `redo` can repeat 1 undone move",
                 ],
             )
 

@@ -39,10 +39,10 @@ class Typed(unittest.TestCase):
                 ("step producer", "ok at 1"),
                 ("tick 2", "ok at 3"),
                 ("goto 1", "ok at 1"),
-                ("break worker 1", "ok watch 0\n`continue` runs to where a watch becomes so"),
+                ("break worker 1", "ok watch 0\n`continue` runs to the next watchpoint hit"),
                 ("break jobs > 0", "no: word 1, 'jobs': "),
                 ("continue", "at 9 met: w0, pc worker = 1 ("),
-                ("delete 0", "ok watch 0\nwatch 0 is dropped: pc worker = 1"),
+                ("delete 0", "ok watch 0\nremoved watch 0: pc worker = 1"),
                 ("where", "core 0  "),
                 ("print r0 worker", "worker: r0 = 1"),
                 ("help break", "break TASK PC: "),
@@ -57,13 +57,13 @@ class Typed(unittest.TestCase):
     def test_what_is_refused_says_what_would_be_right(self) -> None:
         with page_of() as (_, page, other, _):
             for line, why in (
-                ("step 7", "no NoSuch: there are 2 cores, from 0 on"),
+                ("step 7", "no NoSuch: the target has 2 cores, numbered from 0"),
                 ("step workr", "no: there is no task 'workr'"),
                 ("show queue job", "no NoSuch: queue 'job' is not defined (did you mean 'jobs'?)"),
                 ("stepp 1", "no Syntax: "),
-                ("back 7", "no TooFar 0: no move is done: this is boot"),
+                ("back 7", "no TooFar 0: the target is at boot: there is no move to undo"),
                 ("redo 1", "no NothingUndone: "),
-                ("unwatch 4", "no NoWatch: the session has no watch of this number"),
+                ("unwatch 4", "no NoWatch: the session has no watch with this number"),
                 (
                     "save moves.commands",
                     "no: a page writes no files; `save` alone downloads the moves",
@@ -127,7 +127,8 @@ class Reloaded(unittest.TestCase):
             page.ask("reload")
             said = self.told(heard, "reloaded the file")
             self.assertEqual(
-                f"# ada reloaded the file: all 5 moves are the same on {self.path}, at 5", said
+                f"# ada reloaded the file: all 5 moves are the same with the new {self.path}; at 5",
+                said,
             )
             self.assertEqual(
                 "queue jobs 1/1 items 42 recv - send - set -", other.ask("show queue jobs")
@@ -149,7 +150,7 @@ class Reloaded(unittest.TestCase):
             self.path.write_text(json.dumps(text))
             page.ask("reload")
             said = self.told(heard, "reloaded the file")
-            self.assertIn("reloaded the file: 0 of 4 moves are the same on", said)
+            self.assertIn("reloaded the file: 0 of 4 moves are the same with the new", said)
             self.told(heard, "watch w0 of bo (count jobs > 0) was dropped: no NoSuch")
             self.assertEqual("moves 0 undone 0 kept 0", other.ask("show moves"))
             self.assertEqual("watches -", other.ask("show watches"))

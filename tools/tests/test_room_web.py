@@ -327,7 +327,7 @@ class Lines(unittest.TestCase):
                 ("st\u00e4p 0", "no Syntax"),
                 ("step 0\x00", "no Syntax"),
                 ("tick 2\ntick 2", "no Syntax"),
-                ("step 9", "no NoSuch: there are 2 cores, from 0 on"),
+                ("step 9", "no NoSuch: the target has 2 cores, numbered from 0"),
             ):
                 found = said(here, "line", page=key, line=line)["reply"]
                 self.assertTrue(found.startswith(reply), f"{line[:9]}: {found}")

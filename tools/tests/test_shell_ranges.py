@@ -27,7 +27,9 @@ class Prompt(unittest.TestCase):
                 "step worker 5000000",
             ):
                 self.assertIn(f"# {RANGE}; ", said(shell, line)[0], line)
-            self.assertIn("COUNT must be 1 to 1000000", said(shell, "until! at worker 0 5000000")[0])
+            self.assertIn(
+                "COUNT must be 1 to 1000000", said(shell, "until! at worker 0 5000000")[0]
+            )
             # (what is no number has no range)
             self.assertNotIn("1000000", said(shell, "go far")[0])
 

@@ -207,7 +207,9 @@ class Refused(InFolder):
             {**NEVER, "isr": ["send q 41"]},
             {**NEVER, "consts": ["N=1"]},
         )
-        for at, wanted in enumerate(("cannot read", "asleep", "a goal of hunt only", "NoIsr", "-D N")):
+        for at, wanted in enumerate(
+            ("cannot read", "asleep", "a goal of hunt only", "NoIsr", "-D N")
+        ):
             self.assertIn(wanted, found[at])
         self.assertTrue(all(it.startswith(f"{MENDED}: ") for it in found[1:]), found)
 
