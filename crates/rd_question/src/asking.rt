@@ -247,6 +247,30 @@ pub(crate) fn respond<W: Write, E: Write>(
     }
 }
 
+/// Answers as `respond` does. The answer is buffered, and all of it is written before this returns.
+///
+/// Errors: those of `respond`.
+fn respond_buffered<W: Write, E: Write>(
+    alloc: Global,
+    asked: &AskedQuestion<'_>,
+    query: Query,
+    words: &[&[u8]],
+    writer: &mut W,
+    errors: &mut E,
+) -> Result<u8, ReachFault>
+    requires { IsQuestion asked.now.question.now }
+    ensures told { IfOk result (IsTold query asked.now.question.now asked.now.app.now
+        asked.now.lines.now (texts words.now)) }
+    ensures within { IfOk result (λ status. status ≤ 2) }
+{
+    let Ok(mut buffered) = BufWriter::new(alloc, writer) else {
+        return Err(ReachFault::NoMemory);
+    };
+    let status = respond(alloc, asked, query, words, &mut buffered, errors)?;
+    buffered.flush()?;
+    Ok(status)
+}
+
 /// Answers a question about an application file as `respond` does. The answer is buffered, and all
 /// of it is written before this returns.
 ///
@@ -269,17 +293,12 @@ pub(crate) fn ask<H: Files + AllocGlobal, W: Write, E: Write>(
         lines: lines.as_str(),
         question,
     };
-    let Ok(mut writer) = BufWriter::new(handle.alloc(), writer) else {
-        return Err(ReachFault::NoMemory);
-    };
-    let status = respond(
+    respond_buffered(
         handle.alloc(),
         &asked,
         question.query,
         question.goal.as_slice(),
-        &mut writer,
+        writer,
         errors,
-    )?;
-    writer.flush()?;
-    Ok(status)
+    )
 }
